@@ -51,7 +51,7 @@ are_new-same s t (x ∷ xs) h =
     ap (λ b. not b && are_new (s ++ x ∷ []) xs) (h x) ∙ ap (λ b. not (is_among x t) && b) rest
 
 -- a number that stands before makes that not all are new
-repeat_not_new : (seen earlier : List ℕ) (n : ℕ) (later : List ℕ) → is_among n (seen ++ earlier) ≡ true → are_new seen (earlier ++ n ∷ later) ≡ false
+pub repeat_not_new : (seen earlier : List ℕ) (n : ℕ) (later : List ℕ) → is_among n (seen ++ earlier) ≡ true → are_new seen (earlier ++ n ∷ later) ≡ false
 repeat_not_new seen earlier n later e =
     are_new-append seen earlier (n ∷ later)
     ∙ ap (λ b. are_new seen earlier && (not b && are_new ((seen ++ earlier) ++ n ∷ []) later)) e
@@ -110,7 +110,7 @@ pages_listed core (m ∷ ms) =
     ∙ ap (λ l. pages_of core m ++ l) (pages_listed core ms)
 
 -- what is listed again stays so with further files
-repeats_keep : (core : Core) (pick : Pick) (done more : List Met) (ino : ℕ) (place : Location) → RepeatsAt core pick done ino place → RepeatsAt core pick (done ++ more) ino place
+pub repeats_keep : (core : Core) (pick : Pick) (done more : List Met) (ino : ℕ) (place : Location) → RepeatsAt core pick done ino place → RepeatsAt core pick (done ++ more) ino place
 repeats_keep core pick done more ino place (inl r) =
     inl (record {
       earlier = r.earlier;

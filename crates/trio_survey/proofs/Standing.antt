@@ -21,7 +21,7 @@ use Rattle.trio_survey.specs.declared.fault.SurveyFault.{SurveyFault}
 use Rattle.trio_survey.specs.declared.fault.SurveyFault.TheVariants.{Fails, NoMemory}
 use Rattle.trio_survey.specs.Answer.{IsRefused}
 use Rattle.trio_survey.specs.Within.{all_some}
-use Rattle.trio_survey.specs.inner.Walk.{AreMarked, FirstRepeat, FirstEntry, IsFault, Stands, Tabled, file_repeat}
+use Rattle.trio_survey.specs.inner.Walk.{AreMarked, FirstRepeat, FirstEntry, IsFault, IsFirstRepeat, Stands, Tabled, file_repeat}
 use Rattle.trio_survey.proofs.Repeats.{fails_unsound, first_repeat, numbers_of, numbers_met}
 use Rattle.trio_survey.proofs.Tables.{all_first, owners_are, rows_are}
 
@@ -55,18 +55,15 @@ survey_is core pick i files marks used twice s h =
     files_are_levels (children core pick) (root_of core) (suc core.inodes) i files done few
 
 -- what the calls for one file leave
-pub record Visited (core : Core) (pick : Pick) (m : Met) (f : FileRead) (files files' : List Met) (marks' used used' : List Bool) (index block : Option ℕ) (entry : Option FaultPlace) : Type 0 where
+pub record Visited (core : Core) (pick : Pick) (m : Met) (f : FileRead) (files files' : List Met) (marks' used used' : List Bool) : Type 0 where
   pub pages : (before : List ℕ) → MarksJust used before → MarksJust used' (before ++ (f.chain.index ++ f.chain.blocks))
-  pub first_index : (before : List ℕ) → MarksJust used before → FirstRepeat before f.chain.index index
-  pub first_block : (before : List ℕ) → MarksJust used before → FirstRepeat (before ++ f.chain.index) f.chain.blocks block
   pub added : files' ≡ files ++ first_listed (numbers files) (map (met_in pick m.ino) f.entries)
   pub marked : AreMarked files' marks'
   pub fit : all_below (core.inodes + 1) (numbers_of f.entries) ≡ true
   pub some : all_some (numbers_of f.entries) ≡ true
-  pub first_entry : FirstEntry (numbers files) f.entries entry
 
-pub stands_more : (core : Core) (pick : Pick) (i : ℕ) (files files' : List Met) (marks marks' used used' : List Bool) (twice : Option Repeated) (a b : Option ℕ) (c : Option FaultPlace) (m : Met) (f : FileRead) → i < length files → get_or files i m ≡ m → file_of core m ≡ Ok f → length marks' ≡ length marks → length used' ≡ length used → Visited core pick m f files files' marks' used used' a b c → Stands core pick i files marks used twice → Stands core pick (i + 1) files' marks' used' (option_or twice (file_repeat m.ino a b c))
-stands_more core pick i files files' marks marks' used used' twice a b c m f h at read lm lu v s =
+pub stands_more : (core : Core) (pick : Pick) (i : ℕ) (files files' : List Met) (marks marks' used used' : List Bool) (twice twice' : Option Repeated) (m : Met) (f : FileRead) → i < length files → get_or files i m ≡ m → file_of core m ≡ Ok f → length marks' ≡ length marks → length used' ≡ length used → Visited core pick m f files files' marks' used used' → IsFirstRepeat core pick (take i files ++ m ∷ []) twice' → Stands core pick i files marks used twice → Stands core pick (i + 1) files' marks' used' twice'
+stands_more core pick i files files' marks marks' used used' twice twice' m f h at read lm lu v again s =
     let done : List Met = take i files in
     let left : List Met = drop (i + 1) files in
     let kids : List Met = map (met_in pick m.ino) f.entries in
@@ -113,7 +110,7 @@ stands_more core pick i files files' marks marks' used used' twice a b c m f h a
           ∙ ap (λ l. is_among n (1 ∷ l)) (sym L_more)
           ∙ ap (λ t. is_among n (1 ∷ listed_numbers core pick t)) (sym taken);
       pages = rw (taken, P_more) (v.pages P s.pages);
-      once = rw taken (first_repeat core pick done m f (numbers files) twice a b c read s.same (v.first_index P s.pages) (v.first_block P s.pages) v.first_entry s.once);
+      once = rw taken again;
       fit = ap (all_below (core.inodes + 1)) grown
           ∙ list_all-append below (numbers files) (numbers new)
           ∙ and_from (all_below (core.inodes + 1) (numbers files)) (all_below (core.inodes + 1) (numbers new)) s.fit (all_first below (numbers files) kids (ap (all_below (core.inodes + 1)) k_is ∙ v.fit));
@@ -123,6 +120,12 @@ stands_more core pick i files files' marks marks' used used' twice a b c m f h a
       many_marks = lm ∙ s.many_marks;
       many_used = lu ∙ s.many_used;
     }
+
+-- what a file lists again for the first time
+pub repeat_more : (core : Core) (pick : Pick) (i : ℕ) (files : List Met) (marks used : List Bool) (twice : Option Repeated) (m : Met) (f : FileRead) (a b : Option ℕ) (c : Option FaultPlace) → file_of core m ≡ Ok f → ((before : List ℕ) → MarksJust used before → FirstRepeat before f.chain.index a) → ((before : List ℕ) → MarksJust used before → FirstRepeat (before ++ f.chain.index) f.chain.blocks b) → FirstEntry (numbers files) f.entries c → Stands core pick i files marks used twice → IsFirstRepeat core pick (take i files ++ m ∷ []) (option_or twice (file_repeat m.ino a b c))
+repeat_more core pick i files marks used twice m f a b c read index block entry s =
+    let P : List ℕ = listed_pages core (take i files) in
+    first_repeat core pick (take i files) m f (numbers files) twice a b c read s.same (index P s.pages) (block P s.pages) entry s.once
 
 -- when no file is left, the files passed are all files of the survey
 all_passed : (core : Core) (pick : Pick) (i : ℕ) (files : List Met) (marks used : List Bool) (twice : Option Repeated) → Stands core pick i files marks used twice → length files ≤ i → take i files ≡ survey core pick

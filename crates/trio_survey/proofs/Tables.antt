@@ -67,8 +67,9 @@ owned_cond : (b : Bool) (a x y : ℕ) → (b ≡ true → x ≡ a) → (b ≡ fa
 owned_cond true a x y p q = p refl
 owned_cond false a x y p q = q refl
 
-tabled_more : (core : Core) (done : List Met) (m : Met) (f : FileRead) (owners owners' : List ℕ) (rows rows' : List (Option Row)) → file_of core m ≡ Ok f → is_among m.ino (numbers done) ≡ false → Entered m f owners owners' rows rows' → Tabled core done owners rows → Tabled core (done ++ m ∷ []) owners' rows'
-tabled_more core done m f owners owners' rows rows' read first e t =
+-- the tables after one file more, whose pages are new or are not asked
+pub tabled_by : (core : Core) (done : List Met) (m : Met) (f : FileRead) (owners owners' : List ℕ) (rows : List (Option Row)) → file_of core m ≡ Ok f → is_among m.ino (numbers done) ≡ false → (are_new [] (listed_pages core (done ++ m ∷ [])) ≡ true → (p : ℕ) → p < length owners' → get_or owners' p 0 ≡ cond (is_among p (f.chain.index ++ f.chain.blocks)) m.ino (get_or owners p 0)) → length owners' ≡ length owners → Tabled core done owners rows → Tabled core (done ++ m ∷ []) owners' (set rows m.ino (Some (row_by m f.body)))
+tabled_by core done m f owners owners' rows read first owned len t =
     let P : List ℕ = listed_pages core done in
     let X : List ℕ = f.chain.index ++ f.chain.blocks in
     let row : Option Row = Some (row_by m f.body) in
@@ -78,17 +79,16 @@ tabled_more core done m f owners owners' rows rows' read first e t =
     record {
       each_page = λ new p l.
           let parts = and_parts (are_new [] P) (are_new P X) (sym (are_new-append [] P X) ∙ ap (are_new []) (sym P_more) ∙ new) in
-          let l' : p < length owners = omega (arith, e.many_owners) in
+          let l' : p < length owners = omega (arith, len) in
           let was = t.each_page parts.0 p l' in
-          e.owned p l
+          owned new p l
           ∙ sym (owned_cond (is_among p X) m.ino (owner_in core (done ++ m ∷ []) p) (get_or owners p 0)
           (λ among. ap (λ b. cond b 0xFFFFFFFF (owner_of core (done ++ m ∷ []) p)) (listed_not_below core.range p X (file_in_core core m f read) among)
           ∙ owner_here core done m p (new_not_before p P X parts.1 among) (ap (is_among p) pages_are ∙ among))
           (λ apart. ap (λ o. cond (ltb p core.range.first) 0xFFFFFFFF o) (owner_other core done m p (ap (is_among p) pages_are ∙ apart)) ∙ sym was));
       each_file = λ n l.
-          let l' : n < length rows = omega (arith, ap length e.rowed, length-set rows m.ino row) in
-          ap (λ rs. get_or rs n None) e.rowed
-          ∙ elim (cases_eq n m.ino) [
+          let l' : n < length rows = omega (arith, length-set rows m.ino row) in
+          elim (cases_eq n m.ino) [
             | inl same ↦
                 let eq : eqb m.ino n ≡ true = grind (arith, nat_tests) in
                 let inside : m.ino < length rows = omega arith in
@@ -99,12 +99,16 @@ tabled_more core done m f owners owners' rows rows' read first e t =
                 let neq : eqb m.ino n ≡ false = grind (arith, nat_tests) in
                 get_or-set_other rows m.ino n row None differ ∙ t.each_file n l' ∙ sym (row_other core done m n neq)
           ];
-      many_owners = e.many_owners ∙ t.many_owners;
-      many_rows = ap length e.rowed ∙ length-set rows m.ino row ∙ t.many_rows;
+      many_owners = len ∙ t.many_owners;
+      many_rows = length-set rows m.ino row ∙ t.many_rows;
     }
 
+tabled_more : (core : Core) (done : List Met) (m : Met) (f : FileRead) (owners owners' : List ℕ) (rows rows' : List (Option Row)) → file_of core m ≡ Ok f → is_among m.ino (numbers done) ≡ false → Entered m f.body f.chain owners owners' rows rows' → Tabled core done owners rows → Tabled core (done ++ m ∷ []) owners' rows'
+tabled_more core done m f owners owners' rows rows' read first e t =
+    rw e.rowed (tabled_by core done m f owners owners' rows read first (λ new. e.owned) e.many_owners t)
+
 -- the next file's number is not among those passed
-next_is_new : (kids : Met → List Met) (root : Met) (i : ℕ) (files : List Met) (m : Met) → queue kids root i ≡ record { passed = take i files; level = drop i files } → i < length files → get_or files i m ≡ m → is_among m.ino (numbers (take i files)) ≡ false
+pub next_is_new : (kids : Met → List Met) (root : Met) (i : ℕ) (files : List Met) (m : Met) → queue kids root i ≡ record { passed = take i files; level = drop i files } → i < length files → get_or files i m ≡ m → is_among m.ino (numbers (take i files)) ≡ false
 next_is_new kids root i files m q h at =
     let rest : drop i files ≡ m ∷ drop (i + 1) files = drop_more files i m h ∙ ap (λ x. x ∷ drop (i + 1) files) at in
     let all = sym (ap (λ f. are_new [] (numbers (met_by f))) q) ∙ queue_distinct kids root i in
@@ -143,12 +147,15 @@ met_some files i m h at a =
     let e = get_or-map (λ (x : Met). x.ino) files i m 0 h ∙ ap (λ (x : Met). x.ino) at in
     omega (arith, l, e)
 
-pub tabled_after : (core : Core) (pick : Pick) (i : ℕ) (files files' new : List Met) (m : Met) (f : FileRead) (owners owners' : List ℕ) (rows rows' : List (Option Row)) → i < length files → get_or files i m ≡ m → file_of core m ≡ Ok f → queue (children core pick) (root_of core) i ≡ record { passed = take i files; level = drop i files } → files' ≡ files ++ new → Entered m f owners owners' rows rows' → Tabled core (take i files) owners rows → Tabled core (take (i + 1) files') owners' rows'
-tabled_after core pick i files files' new m f owners owners' rows rows' h at read q added e t =
+-- the files passed, with one more
+pub taken_after : (i : ℕ) (files files' new : List Met) (m : Met) → i < length files → get_or files i m ≡ m → files' ≡ files ++ new → take (i + 1) files' ≡ take i files ++ m ∷ []
+taken_after i files files' new m h at added =
     let room : i + 1 ≤ length files = omega arith in
-    let taken : take (i + 1) files' ≡ take i files ++ m ∷ [] =
-    ap (take (i + 1)) added ∙ take-append-le (i + 1) files new room ∙ take_more files i m h ∙ ap (λ x. take i files ++ x ∷ []) at in
-    rw taken (tabled_more core (take i files) m f owners owners' rows rows' read (next_is_new (children core pick) (root_of core) i files m q h at) e t)
+    ap (take (i + 1)) added ∙ take-append-le (i + 1) files new room ∙ take_more files i m h ∙ ap (λ x. take i files ++ x ∷ []) at
+
+pub tabled_after : (core : Core) (pick : Pick) (i : ℕ) (files files' new : List Met) (m : Met) (f : FileRead) (owners owners' : List ℕ) (rows rows' : List (Option Row)) → i < length files → get_or files i m ≡ m → file_of core m ≡ Ok f → queue (children core pick) (root_of core) i ≡ record { passed = take i files; level = drop i files } → files' ≡ files ++ new → Entered m f.body f.chain owners owners' rows rows' → Tabled core (take i files) owners rows → Tabled core (take (i + 1) files') owners' rows'
+tabled_after core pick i files files' new m f owners owners' rows rows' h at read q added e t =
+    rw (taken_after i files files' new m h at added) (tabled_more core (take i files) m f owners owners' rows rows' read (next_is_new (children core pick) (root_of core) i files m q h at) e t)
 
 -- ---- whole tables
 

@@ -1,4 +1,7 @@
+pub mod Again
 pub mod Compared
+pub mod Blocks
+pub mod Files
 pub mod Kept
 pub mod Steps
 pub mod Walk

@@ -4,25 +4,25 @@ ghost use Rattle.std.specs.Prelude.{◌≡◌, ◌<◌, ℕ, length, true, slice
 ghost use Rattle.trio_lists.specs.Lists.{is_among};
 ghost use Rattle.trio_lists.specs.Marked.{all_below};
 ghost use Rattle.trio_layout.specs.Survey.{row_by};
-ghost use Rattle.trio_survey.specs.Seen.{file_seen, met_seen};
+ghost use Rattle.trio_survey.specs.Seen.{chain_seen, met_seen};
 ghost use Rattle.trio_survey.specs.inner.Walk.{Entered};
 ghost use Rattle.trio_tables.specs.Row.{as_row};
 
-use crate::file::{FileParts, MetFile};
+use crate::file::{FilePages, MetFile};
 use trio_layout::Body;
 use trio_page::PageNo;
 use trio_tables::{Owners, Row, Shadow};
 
 /// Writes the row of a file and the owner of its pages.
-pub fn enter(rows: &mut Shadow, owners: &mut Owners, met: &MetFile, file: &FileParts)
-    requires index { all_below (length owners.old) file.now.index.items ≡ true }
-    requires blocks { all_below (length owners.old) file.now.blocks.items ≡ true }
+pub(crate) fn enter(rows: &mut Shadow, owners: &mut Owners, met: &MetFile, file: &FilePages)
+    requires index { all_below (length owners.old) file.now.chain.index.items ≡ true }
+    requires blocks { all_below (length owners.old) file.now.chain.blocks.items ≡ true }
     requires some { 0 < met.now.ino }
     requires ino { met.now.ino < length rows.old }
-    ensures { Entered (met_seen met.now) (file_seen file.now) owners.old owners.new rows.old rows.new }
+    ensures { Entered (met_seen met.now) file.now.body (chain_seen file.now.chain) owners.old owners.new rows.old rows.new }
 {
-    set_owner(owners, met.ino, &file.index);
-    set_owner(owners, met.ino, &file.blocks);
+    set_owner(owners, met.ino, &file.chain.index);
+    set_owner(owners, met.ino, &file.chain.blocks);
     rows.set(met.ino, Some(row_of(met, &file.body)));
 }
 
@@ -38,7 +38,8 @@ fn set_owner(owners: &mut Owners, owner: u32, pages: &[u32])
     }
 }
 
-fn row_of(met: &MetFile, body: &Body) -> Row
+/// The row of a file that is met.
+pub(crate) fn row_of(met: &MetFile, body: &Body) -> Row
     ensures { as_row result ≡ row_by (met_seen met.now) body.now }
 {
     Row {

@@ -1,14 +1,16 @@
 //! The entries of a directory.
 
-ghost use Rattle.std.specs.Prelude.{◌≡◌, ◌+◌, ◌<◌, ◌≤◌, IfOk, map, drop, if◌then◌else◌};
-ghost use Rattle.trio_layout.specs.Entries.{listed_at, slot_bytes, entries_on, entries_of};
-ghost use Rattle.trio_lists.specs.Lists.{both};
+ghost use Rattle.std.specs.Prelude.{◌≡◌, ◌+◌, ◌<◌, ◌≤◌, IfOk, OnOk, map, drop, if◌then◌else◌};
+ghost use Rattle.std.specs.List.{flat_map};
+ghost use Rattle.trio_layout.specs.Entries.{listed_at, slot_bytes, entries_on, entries_of, page_entries};
+ghost use Rattle.trio_lists.specs.Lists.{both, gathered};
 ghost use Rattle.trio_layout.specs.Slot.{slot_of};
 ghost use Rattle.trio_survey.specs.Seen.{core_with, listed_seen, result_seen};
+ghost use Rattle.trio_survey.specs.inner.Blocks.{entries_kept, BlockAnswer, HasParts, SaysBlocks, StaysRead};
 ghost use Rattle.trio_survey.specs.inner.Kept.{kept_count, Keeps};
 
 use crate::file::{EntryRead, FaultPlace};
-use crate::kept::KeptPages;
+use crate::kept::Kept;
 use crate::names::repeated_name;
 use std::alloc::Global;
 use trio_layout::{CoreRange, Slot, SlotRead};
@@ -16,40 +18,101 @@ use trio_page::{Home, NoMemory, Page, Reads};
 
 /// Reads the entries of a directory of these blocks, or finds the first place that keeps them from
 /// being read. No page that is kept is looked at.
-pub(crate) fn read_entries(
+pub(crate) fn read_directory(
     alloc: Global,
     home: &mut Home,
     range: CoreRange,
     inodes: u32,
     blocks: &[u32],
-    kept: &mut KeptPages,
+    kept: &mut Kept,
     reads: &mut Reads,
-) -> Result<Result<Vec<EntryRead>, FaultPlace>, NoMemory>
-    requires keeps { Keeps range home.old.pages kept.old.pages.items }
+) -> Result<Result<(), FaultPlace>, NoMemory>
+    requires keeps { Keeps range home.old.pages kept.old.pages.pages.items }
+    requires parts { HasParts range kept.old.blocks }
+    requires says { SaysBlocks home.old.pages range inodes kept.old.blocks }
     ensures pages { home.new.pages ≡ home.old.pages }
-    ensures keeps { Keeps range home.old.pages kept.new.pages.items }
-    ensures looks { reads.new + kept_count kept.old.pages.items ≤ reads.old + kept_count kept.new.pages.items }
-    ensures looked { home.new.looked + kept_count kept.old.pages.items ≤ home.old.looked + kept_count kept.new.pages.items }
-    ensures entries { IfOk result (λ r. result_seen (λ es. map listed_seen es.items) r ≡ entries_of (core_with home.old.pages range inodes) blocks.now) }
+    ensures keeps { Keeps range home.old.pages kept.new.pages.pages.items }
+    ensures parts { OnOk result (HasParts range kept.new.blocks) }
+    ensures says { OnOk result (SaysBlocks home.old.pages range inodes kept.new.blocks) }
+    ensures looks { reads.new + kept_count kept.old.pages.pages.items ≤ reads.old + kept_count kept.new.pages.pages.items }
+    ensures looked { home.new.looked + kept_count kept.old.pages.pages.items ≤ home.old.looked + kept_count kept.new.pages.pages.items }
+    ensures entries { IfOk result (λ r. result_seen (λ _. flat_map (entries_kept range kept.new.blocks) blocks.now) r ≡ entries_of (core_with home.old.pages range inodes) blocks.now) }
 {
-    let mut entries = Vec::new(alloc);
+    if let Err(place) = read_entries(alloc, home, range, inodes, blocks, kept, reads)? {
+        return Ok(Err(place));
+    }
+    match repeated_name(alloc, range, &kept.blocks, &mut kept.named, blocks)? {
+        Some(place) => Ok(Err(place)),
+        None => Ok(Ok(())),
+    }
+}
+
+/// Reads the entries of these blocks where they aren't kept, or finds the first place that keeps them
+/// from being read.
+fn read_entries(
+    alloc: Global,
+    home: &mut Home,
+    range: CoreRange,
+    inodes: u32,
+    blocks: &[u32],
+    kept: &mut Kept,
+    reads: &mut Reads,
+) -> Result<Result<(), FaultPlace>, NoMemory>
+    requires keeps { Keeps range home.old.pages kept.old.pages.pages.items }
+    requires parts { HasParts range kept.old.blocks }
+    requires says { SaysBlocks home.old.pages range inodes kept.old.blocks }
+    ensures pages { home.new.pages ≡ home.old.pages }
+    ensures keeps { Keeps range home.old.pages kept.new.pages.pages.items }
+    ensures parts { OnOk result (HasParts range kept.new.blocks) }
+    ensures says { OnOk result (SaysBlocks home.old.pages range inodes kept.new.blocks) }
+    ensures looks { reads.new + kept_count kept.old.pages.pages.items ≤ reads.old + kept_count kept.new.pages.pages.items }
+    ensures looked { home.new.looked + kept_count kept.old.pages.pages.items ≤ home.old.looked + kept_count kept.new.pages.pages.items }
+    ensures entries { IfOk result (λ r. result_seen (λ _. flat_map (entries_kept range kept.new.blocks) blocks.now) r ≡ gathered (page_entries (core_with home.old.pages range inodes)) blocks.now) }
+{
     for no in blocks {
-        kept.look(alloc, home, range, *no, reads)?;
-        let Some(page) = kept.page(range, *no) else {
-            return Ok(Err(FaultPlace { page: *no, slot: 0 }));
-        };
-        if let Err(place) = add_page_entries(page, *no, inodes, &mut entries)? {
+        if let Err(place) = read_block(alloc, home, range, inodes, *no, kept, reads)? {
             return Ok(Err(place));
         }
     }
-    Ok(match repeated_name(alloc, &entries)? {
-        Some(place) => Err(place),
-        None => Ok(entries),
-    })
+    Ok(Ok(()))
+}
+
+/// Reads a directory block where what it says isn't kept. What was read stays so.
+fn read_block(
+    alloc: Global,
+    home: &mut Home,
+    range: CoreRange,
+    inodes: u32,
+    no: u32,
+    kept: &mut Kept,
+    reads: &mut Reads,
+) -> Result<Result<(), FaultPlace>, NoMemory>
+    requires keeps { Keeps range home.old.pages kept.old.pages.pages.items }
+    requires parts { HasParts range kept.old.blocks }
+    requires says { SaysBlocks home.old.pages range inodes kept.old.blocks }
+    ensures pages { home.new.pages ≡ home.old.pages }
+    ensures keeps { Keeps range home.old.pages kept.new.pages.pages.items }
+    ensures parts { OnOk result (HasParts range kept.new.blocks) }
+    ensures says { OnOk result (SaysBlocks home.old.pages range inodes kept.new.blocks) }
+    ensures looks { reads.new + kept_count kept.old.pages.pages.items ≤ reads.old + kept_count kept.new.pages.pages.items }
+    ensures looked { home.new.looked + kept_count kept.old.pages.pages.items ≤ home.old.looked + kept_count kept.new.pages.pages.items }
+    ensures here { IfOk result (BlockAnswer home.old.pages range inodes kept.new.blocks no) }
+    ensures others { OnOk result (StaysRead range kept.old.blocks kept.new.blocks) }
+{
+    match kept.blocks.find(range, no) {
+        Some(Ok(_)) => return Ok(Ok(())),
+        Some(Err(place)) => return Ok(Err(place)),
+        None => {}
+    }
+    kept.pages.look(alloc, home, range, no, reads)?;
+    match kept.pages.page(range, no) {
+        Some(page) => kept.blocks.keep(alloc, range, inodes, no, page),
+        None => Ok(Err(FaultPlace { page: no, slot: 0 })),
+    }
 }
 
 /// Appends the entries of a directory page, or finds the first bad slot.
-fn add_page_entries(
+pub(crate) fn add_page_entries(
     page: &Page,
     no: u32,
     inodes: u32,

@@ -1,15 +1,17 @@
 //! One file read whole.
 
-ghost use Rattle.std.specs.Prelude.{◌≡◌, ◌+◌, ◌≤◌, IfOk};
+ghost use Rattle.std.specs.Prelude.{◌≡◌, ◌+◌, ◌≤◌, IfOk, OnOk, map};
 ghost use Rattle.trio_layout.specs.Range.{core_count};
 ghost use Rattle.trio_layout.specs.Survey.{file_of};
-ghost use Rattle.trio_survey.specs.Seen.{core_with, met_seen, read_seen};
+ghost use Rattle.trio_survey.specs.Seen.{core_with, met_seen, read_seen, result_seen};
 ghost use Rattle.trio_survey.specs.Within.{inos, IsWithin};
+ghost use Rattle.trio_survey.specs.inner.Blocks.{HasParts, SaysBlocks};
+ghost use Rattle.trio_survey.specs.inner.Files.{file_kept, listing_blocks};
 ghost use Rattle.trio_survey.specs.inner.Kept.{kept_count, Keeps};
 
 use crate::chain::{ChainParts, read_chain_kept};
-use crate::entries::read_entries;
-use crate::kept::KeptPages;
+use crate::entries::read_directory;
+use crate::kept::Kept;
 use std::alloc::Global;
 use trio_layout::{Body, CoreRange, EntryPart};
 use trio_page::{Home, NoMemory, Reads};
@@ -60,6 +62,13 @@ pub struct FileParts {
     pub entries: Vec<EntryRead>,
 }
 
+/// What a file says but for its entries.
+#[derive(Drop)]
+pub(crate) struct FilePages {
+    pub body: Body,
+    pub chain: ChainParts,
+}
+
 /// Reads a file that is met, in an image with these core pages and so many inode numbers.
 /// Blocks of a regular file aren't looked at, and each core page is looked at once at most.
 ///
@@ -84,49 +93,69 @@ pub fn read_file(
     ensures reads { reads.new ≤ reads.old + core_count range }
     ensures looked { home.new.looked ≤ home.old.looked + core_count range }
 {
-    let mut kept = KeptPages::none(alloc);
-    read_file_kept(alloc, home, range, inodes, met, &mut kept, reads)
-}
-
-/// As [`read_file`], where no page that is kept is looked at.
-#[tactic(auto, unfolding(trio_layout::specs::Survey::file_of))]
-pub(crate) fn read_file_kept(
-    alloc: Global,
-    home: &mut Home,
-    range: CoreRange,
-    inodes: u32,
-    met: &MetFile,
-    kept: &mut KeptPages,
-    reads: &mut Reads,
-) -> Result<Result<FileParts, FaultPlace>, NoMemory>
-    requires keeps { Keeps range home.old.pages kept.old.pages.items }
-    ensures pages { home.new.pages ≡ home.old.pages }
-    ensures keeps { Keeps range home.old.pages kept.new.pages.items }
-    ensures looks { reads.new + kept_count kept.old.pages.items ≤ reads.old + kept_count kept.new.pages.items }
-    ensures looked { home.new.looked + kept_count kept.old.pages.items ≤ home.old.looked + kept_count kept.new.pages.items }
-    ensures file { IfOk result (λ r. read_seen r ≡ file_of (core_with home.old.pages range inodes) (met_seen met.now)) }
-    ensures within { IfOk result (λ r. IfOk r (λ f. IsWithin range inodes f.index.items f.blocks.items (inos f.entries.items))) }
-{
-    let Some(body) = Body::read(&met.body, met.kind, range) else {
-        return Ok(Err(FaultPlace { page: 0, slot: 0 }));
-    };
-    let ChainParts { index, blocks } = match read_chain_kept(
-        alloc, home, range, &body, kept, reads,
+    let mut kept = Kept::none(alloc, range)?;
+    let FilePages { body, chain } = match read_pages(
+        alloc, home, range, inodes, met, &mut kept, reads,
     )? {
-        Ok(chain) => chain,
+        Ok(file) => file,
         Err(place) => return Ok(Err(place)),
     };
-    let entries = match met.kind {
-        Kind::Regular => Vec::new(alloc),
-        Kind::Directory => match read_entries(alloc, home, range, inodes, &blocks, kept, reads)? {
-            Ok(entries) => entries,
-            Err(place) => return Ok(Err(place)),
-        },
-    };
+    let ChainParts { index, blocks } = chain;
+    let entries = kept
+        .blocks
+        .listed(alloc, range, listing_blocks(met.kind, &blocks))?;
     Ok(Ok(FileParts {
         body,
         index,
         blocks,
         entries,
     }))
+}
+
+/// As [`read_file`], where the entries are kept, and no page that is kept is looked at.
+#[tactic(auto, unfolding(trio_layout::specs::Survey::file_of))]
+pub(crate) fn read_pages(
+    alloc: Global,
+    home: &mut Home,
+    range: CoreRange,
+    inodes: u32,
+    met: &MetFile,
+    kept: &mut Kept,
+    reads: &mut Reads,
+) -> Result<Result<FilePages, FaultPlace>, NoMemory>
+    requires keeps { Keeps range home.old.pages kept.old.pages.pages.items }
+    requires parts { HasParts range kept.old.blocks }
+    requires says { SaysBlocks home.old.pages range inodes kept.old.blocks }
+    ensures pages { home.new.pages ≡ home.old.pages }
+    ensures keeps { Keeps range home.old.pages kept.new.pages.pages.items }
+    ensures parts { OnOk result (HasParts range kept.new.blocks) }
+    ensures says { OnOk result (SaysBlocks home.old.pages range inodes kept.new.blocks) }
+    ensures looks { reads.new + kept_count kept.old.pages.pages.items ≤ reads.old + kept_count kept.new.pages.pages.items }
+    ensures looked { home.new.looked + kept_count kept.old.pages.pages.items ≤ home.old.looked + kept_count kept.new.pages.pages.items }
+    ensures file { IfOk result (λ r. result_seen (file_kept range kept.new.blocks met.now.kind) r ≡ file_of (core_with home.old.pages range inodes) (met_seen met.now)) }
+    ensures within { IfOk result (λ r. IfOk r (λ f. IsWithin range inodes f.chain.index.items f.chain.blocks.items
+        (map (λ l. l.entry.ino) (file_kept range kept.new.blocks met.now.kind f).entries))) }
+{
+    let Some(body) = Body::read(&met.body, met.kind, range) else {
+        return Ok(Err(FaultPlace { page: 0, slot: 0 }));
+    };
+    let chain = match read_chain_kept(alloc, home, range, &body, &mut kept.pages, reads)? {
+        Ok(chain) => chain,
+        Err(place) => return Ok(Err(place)),
+    };
+    let blocks = listing_blocks(met.kind, &chain.blocks);
+    match read_directory(alloc, home, range, inodes, blocks, kept, reads)? {
+        Ok(()) => Ok(Ok(FilePages { body, chain })),
+        Err(place) => Ok(Err(place)),
+    }
+}
+
+/// The blocks of a file in which entries stand: none of a regular file.
+pub(crate) fn listing_blocks(kind: Kind, blocks: &[u32]) -> &[u32]
+    ensures { result.now ≡ listing_blocks kind blocks.now }
+{
+    match kind {
+        Kind::Regular => &[],
+        Kind::Directory => blocks,
+    }
 }

@@ -1,16 +1,28 @@
-//! The core pages that were looked at.
+//! The core pages that were looked at, and what was read of them.
 
-ghost use Rattle.std.specs.Prelude.{◌≡◌, ◌+◌, ◌<◌, ◌≤◌, ℕ, List, Option, None, OnOk, max, slice_index_or, vec_len};
+ghost use Rattle.std.specs.Prelude.{◌≡◌, ◌+◌, ◌<◌, ◌≤◌, ℕ, List, Option, None, IfOk, OnOk, max, slice_index_or, vec_len};
 ghost use Rattle.std.specs.Option.{option_copied};
 ghost use Rattle.trio_layout.specs.Core.{page_of};
 ghost use Rattle.trio_layout.specs.declared.range.CoreRange.{CoreRange};
 ghost use Rattle.trio_page.specs.Home.{raised};
 ghost use Rattle.trio_survey.specs.Seen.{core_with};
+ghost use Rattle.trio_survey.specs.inner.Blocks.{HasParts, SaysBlocks};
 ghost use Rattle.trio_survey.specs.inner.Kept.{kept_count, kept_page, Keeps};
 
+use crate::blocks::KeptBlocks;
 use std::alloc::Global;
 use trio_layout::CoreRange;
+use trio_marks::Marks;
 use trio_page::{Home, NoMemory, Page, PageNo, Reads};
+
+/// What was read of a core.
+#[derive(Drop)]
+pub(crate) struct Kept {
+    pub pages: KeptPages,
+    pub blocks: KeptBlocks,
+    /// Marks of the names of one directory, over the numbers of all that are kept.
+    pub named: Marks,
+}
 
 /// Copies of the core pages that were looked at, by which no page is looked at again, however often
 /// it is listed.
@@ -19,6 +31,22 @@ pub(crate) struct KeptPages {
     /// By the place of a page among the core pages. `None`: it wasn't looked at, nor was any past the
     /// end. `Some(None)`: it is absent.
     pub pages: Vec<Option<Option<Page>>>,
+}
+
+impl Kept {
+    /// Nothing was read.
+    pub fn none(alloc: Global, range: CoreRange) -> Result<Kept, NoMemory>
+        ensures keeps { IfOk result (λ k. (pages : List (Option (List ℕ))) → Keeps range pages k.pages.pages.items) }
+        ensures count { IfOk result (λ k. kept_count k.pages.pages.items ≡ 0) }
+        ensures parts { IfOk result (λ k. HasParts range k.blocks) }
+        ensures says { IfOk result (λ k. (pages : List (Option (List ℕ))) (inodes : ℕ) → SaysBlocks pages range inodes k.blocks) }
+    {
+        Ok(Kept {
+            pages: KeptPages::none(alloc),
+            blocks: KeptBlocks::none(alloc, range)?,
+            named: Marks::with(alloc, 0)?,
+        })
+    }
 }
 
 impl KeptPages {

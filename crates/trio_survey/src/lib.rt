@@ -12,9 +12,12 @@
 //! - [`verify`] says whether an image verifies (`PagesVerify` of `specs/Stored.antt`).
 //!
 //! None of these calls looks at a page of the image twice, whatever the pages say: a core page that
-//! was looked at is kept as a copy until the call ends, for wherever it is listed again.
+//! was looked at is kept as a copy until the call ends, for wherever it is listed again. What it says
+//! as a directory block is read once, and kept too.
 #![tactic(auto)]
 
+mod again;
+mod blocks;
 pub mod chain;
 mod enter;
 mod entries;

@@ -1,15 +1,19 @@
 //! Marks over numbers, by which the walk knows what was listed before.
 
-ghost use Rattle.std.specs.Prelude.{◌≡◌, ◌++◌, ℕ, List, IfOk, OnOk, map, true, vec_len};
+ghost use Rattle.std.specs.Prelude.{◌≡◌, ◌++◌, ℕ, List, IfOk, map, true, vec_len};
+ghost use Rattle.std.specs.List.{flat_map};
 ghost use Rattle.trio_lists.specs.Marked.{MarksJust, all_below};
-ghost use Rattle.trio_layout.specs.Survey.{first_listed, met_in, numbers};
+ghost use Rattle.trio_layout.specs.Entries.{Listed};
+ghost use Rattle.trio_layout.specs.Survey.{Met};
 ghost use Rattle.trio_survey.specs.Picks.{pick_of};
-ghost use Rattle.trio_survey.specs.Seen.{listed_seen, met_seen};
-ghost use Rattle.trio_survey.specs.inner.Walk.{AreMarked, FirstEntry, FirstRepeat};
-ghost use Rattle.trio_survey.specs.Within.{inos};
+ghost use Rattle.trio_survey.specs.Seen.{met_seen};
+ghost use Rattle.trio_survey.specs.inner.Blocks.{entries_kept, entry_seen, HasParts};
+ghost use Rattle.trio_survey.specs.inner.Walk.{are_marked, AreMarked, FirstRepeat, Grows};
 
-use crate::file::{EntryRead, FaultPlace, MetFile};
+use crate::blocks::{DirEntry, KeptBlocks};
+use crate::file::{FaultPlace, MetFile};
 use crate::picks::Picks;
+use trio_layout::CoreRange;
 use trio_page::NoMemory;
 
 /// Marks the numbers, and answers the first that had its mark.
@@ -30,36 +34,60 @@ pub fn mark_new(marks: &mut Vec<bool>, these: &[u32]) -> Option<u32>
     repeated
 }
 
-/// Adds the files whose number has no mark yet, marks them, and answers the place of the first entry
-/// whose number had its mark.
+/// Adds the files that the entries of these blocks list and whose number has no mark yet, marks them,
+/// and answers the place of the first entry whose number had its mark.
 pub fn add_children(
     files: &mut Vec<MetFile>,
     marks: &mut Vec<bool>,
     picks: &Picks,
     directory: u32,
-    entries: &[EntryRead],
+    range: CoreRange,
+    kept: &KeptBlocks,
+    blocks: &[u32],
 ) -> Result<Option<FaultPlace>, NoMemory>
-    requires fit { all_below (vec_len marks.old) (inos entries.now) ≡ true }
+    requires parts { HasParts range kept.now }
+    requires fit { all_below (vec_len marks.old) (map (λ l. l.entry.ino) (flat_map (entries_kept range kept.now) blocks.now)) ≡ true }
     requires marked { AreMarked (map met_seen files.old.items) marks.old.items }
-    ensures added { OnOk result (map met_seen files.new.items
-        ≡ map met_seen files.old.items ++ first_listed (numbers (map met_seen files.old.items)) (map (met_in (pick_of picks.now) directory) (map listed_seen entries.now))) }
-    ensures marked { OnOk result (AreMarked (map met_seen files.new.items) marks.new.items) }
+    ensures grows { IfOk result (λ again. Grows (pick_of picks.now) directory (map met_seen files.old.items) (map met_seen files.new.items) marks.new.items again
+        (flat_map (entries_kept range kept.now) blocks.now)) }
     ensures len { vec_len marks.new ≡ vec_len marks.old }
-    ensures first { IfOk result (FirstEntry (numbers (map met_seen files.old.items)) (map listed_seen entries.now)) }
 {
     let mut repeated = None;
+    for block in blocks {
+        let entries = kept.entries_of(range, *block);
+        repeated = add_listed(files, marks, picks, directory, entries, repeated)?;
+    }
+    Ok(repeated)
+}
+
+/// Adds the files that these entries list and whose number has no mark yet, and marks them. `repeated`
+/// is the first place of an entry before them whose number had its mark.
+fn add_listed(
+    files: &mut Vec<MetFile>,
+    marks: &mut Vec<bool>,
+    picks: &Picks,
+    directory: u32,
+    entries: &[DirEntry],
+    repeated: Option<FaultPlace>,
+) -> Result<Option<FaultPlace>, NoMemory>
+    requires { all_below (vec_len marks.old) (map (λ l. l.ino) entries.now) ≡ true }
+    ensures grows { IfOk result (λ again. (names : List (List ℕ)) (old : List Met) (before : List Listed)
+        → Grows (pick_of picks.now) directory old (map met_seen files.old.items) marks.old.items repeated before
+        → Grows (pick_of picks.now) directory old (map met_seen files.new.items) marks.new.items again (before ++ map (entry_seen names) entries.now)) }
+    ensures len { vec_len marks.new ≡ vec_len marks.old }
+{
+    if !entries.is_empty() && are_marked(marks, entries) {
+        return Ok(repeated.or(Some(place_of(&entries[0]))));
+    }
+    let mut repeated = repeated;
     for listed in entries {
-        let at = listed.entry.ino as usize;
+        let at = listed.ino as usize;
         if marks[at] {
-            let place = FaultPlace {
-                page: listed.page,
-                slot: listed.slot,
-            };
-            repeated = repeated.or(Some(place));
+            repeated = repeated.or(Some(place_of(listed)));
         } else {
             files.push(MetFile {
-                ino: listed.entry.ino,
-                kind: listed.entry.kind,
+                ino: listed.ino,
+                kind: listed.kind,
                 parent: directory,
                 page: listed.page,
                 slot: listed.slot,
@@ -69,4 +97,27 @@ pub fn add_children(
         }
     }
     Ok(repeated)
+}
+
+/// Whether each of these entries has a mark at its number. A block that many directories list is gone
+/// over by this short loop alone, from the second of them on.
+fn are_marked(marks: &Vec<bool>, entries: &[DirEntry]) -> bool
+    requires { all_below (vec_len marks.now) (map (λ l. l.ino) entries.now) ≡ true }
+    ensures { result ≡ are_marked marks.now.items entries.now }
+{
+    for listed in entries {
+        if !marks[listed.ino as usize] {
+            return false;
+        }
+    }
+    true
+}
+
+fn place_of(listed: &DirEntry) -> FaultPlace
+    ensures { result ≡ record { page = listed.now.page; slot = listed.now.slot } }
+{
+    FaultPlace {
+        page: listed.page,
+        slot: listed.slot,
+    }
 }

@@ -3,7 +3,7 @@
 ghost use Rattle.std.specs.Prelude.{◌≡◌, ◌+◌, ◌<◌, ◌==◌, ◌&&◌, [], IfOk, length, replicate, slice_set};
 ghost use Rattle.trio_survey.specs.Picks.{pick_of};
 
-use crate::file::EntryRead;
+use crate::blocks::DirEntry;
 use std::alloc::Global;
 use std::marker::Model;
 use trio_page::NoMemory;
@@ -71,18 +71,18 @@ impl Picks {
     }
 
     /// The body of an entry of this directory.
-    pub fn body(&self, directory: u32, listed: &EntryRead) -> [u8; 64]
-        ensures { result ≡ pick_of self.now directory listed.now.page listed.now.slot listed.now.entry.ino listed.now.body }
+    pub(crate) fn body(&self, directory: u32, listed: &DirEntry) -> [u8; 64]
+        ensures { result ≡ pick_of self.now directory listed.now.page listed.now.slot listed.now.ino listed.now.body }
     {
-        match self.by_number.get(listed.entry.ino as usize) {
+        match self.by_number.get(listed.ino as usize) {
             Some(Some(picked)) if picked.is_at(directory, listed) => picked.body,
-            _ => listed.body,
+            _ => listed.body.bytes(),
         }
     }
 }
 
 impl Picked {
-    fn is_at(&self, directory: u32, listed: &EntryRead) -> bool
+    fn is_at(&self, directory: u32, listed: &DirEntry) -> bool
         ensures { result ≡ (self.now.parent == directory && self.now.page == listed.now.page && self.now.slot == listed.now.slot) }
     {
         self.parent == directory && self.page == listed.page && self.slot == listed.slot

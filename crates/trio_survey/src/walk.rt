@@ -3,13 +3,15 @@
 ghost use Rattle.std.specs.Prelude.{◌≡◌, ◌+◌, ◌<◌, ◌≤◌, ℕ, List, Option, IfErr, IfOk, OnOk, vec_len};
 ghost use Rattle.trio_layout.specs.Survey.{Pick};
 ghost use Rattle.trio_survey.specs.Picks.{pick_of};
+ghost use Rattle.trio_survey.specs.inner.Blocks.{HasParts, SaysBlocks};
 ghost use Rattle.trio_survey.specs.inner.Kept.{kept_count, Keeps};
-ghost use Rattle.trio_survey.specs.inner.Walk.{file_repeat, framed, IsFault, WalkStands, WalkTables};
+ghost use Rattle.trio_survey.specs.inner.Walk.{file_repeat, framed, IsFault, WalkHeads, WalkStands, WalkTables};
 
-use crate::enter::enter;
+use crate::again::{Heads, listed_before};
+use crate::enter::{enter, row_of};
 use crate::fault::SurveyFault;
-use crate::file::{FaultPlace, MetFile, read_file_kept};
-use crate::kept::KeptPages;
+use crate::file::{FaultPlace, MetFile, listing_blocks, read_pages};
+use crate::kept::Kept;
 use crate::marks::{add_children, mark_new};
 use crate::picks::Picks;
 use std::alloc::Global;
@@ -62,10 +64,12 @@ pub struct Walk {
     pub used: Vec<bool>,
     /// The first place at which something was listed again.
     pub repeated: Option<Repeated>,
+    /// Where the chains of the files that were passed begin.
+    pub heads: Heads,
     pub rows: Shadow,
     pub owners: Owners,
-    /// The core pages that were looked at.
-    pub kept: KeptPages,
+    /// What was read of the core.
+    pub kept: Kept,
 }
 
 impl Walk {
@@ -79,8 +83,11 @@ impl Walk {
             → WalkStands (framed pages frame.now) pick 0 w) }
         ensures tables { IfOk result (λ w. (pages : List (Option (List ℕ)))
             → WalkTables (framed pages frame.now) 0 w) }
-        ensures keeps { IfOk result (λ w. (pages : List (Option (List ℕ))) → Keeps frame.now.range pages w.kept.pages.items) }
-        ensures count { IfOk result (λ w. kept_count w.kept.pages.items ≡ 0) }
+        ensures heads { IfOk result (λ w. (pages : List (Option (List ℕ))) → WalkHeads (framed pages frame.now) 0 w) }
+        ensures keeps { IfOk result (λ w. (pages : List (Option (List ℕ))) → Keeps frame.now.range pages w.kept.pages.pages.items) }
+        ensures parts { IfOk result (λ w. HasParts frame.now.range w.kept.blocks) }
+        ensures says { IfOk result (λ w. (pages : List (Option (List ℕ))) → SaysBlocks pages frame.now.range frame.now.inodes w.kept.blocks) }
+        ensures count { IfOk result (λ w. kept_count w.kept.pages.pages.items ≡ 0) }
     {
         let root = MetFile {
             ino: 1,
@@ -97,13 +104,15 @@ impl Walk {
             met,
             used: vec![in alloc; false; frame.range.end as usize]?,
             repeated: None,
+            heads: Heads::none(alloc, frame.range.end)?,
             rows: Shadow::new(alloc, frame.inodes)?,
             owners: Owners::new(alloc, frame.range.end, frame.range.first)?,
-            kept: KeptPages::none(alloc),
+            kept: Kept::none(alloc, frame.range)?,
         })
     }
 
-    /// Passes the file at this place of the queue.
+    /// Passes the file at this place of the queue. Once something was listed again, a file whose chain
+    /// is that of one of its kind that was passed isn't gone over: all that it lists was met.
     pub fn visit(
         &mut self,
         alloc: Global,
@@ -116,17 +125,61 @@ impl Walk {
         requires inside { at < vec_len self.old.files }
         requires stands { WalkStands (framed home.old.pages frame.now) (pick_of picks.now) at self.old }
         requires tables { WalkTables (framed home.old.pages frame.now) at self.old }
-        requires keeps { Keeps frame.now.range home.old.pages self.old.kept.pages.items }
+        requires heads { WalkHeads (framed home.old.pages frame.now) at self.old }
+        requires keeps { Keeps frame.now.range home.old.pages self.old.kept.pages.pages.items }
+        requires parts { HasParts frame.now.range self.old.kept.blocks }
+        requires says { SaysBlocks home.old.pages frame.now.range frame.now.inodes self.old.kept.blocks }
         ensures pages { home.new.pages ≡ home.old.pages }
         ensures stands { OnOk result (WalkStands (framed home.old.pages frame.now) (pick_of picks.now) (at + 1) self.new) }
         ensures tables { OnOk result (WalkTables (framed home.old.pages frame.now) (at + 1) self.new) }
+        ensures heads { OnOk result (WalkHeads (framed home.old.pages frame.now) (at + 1) self.new) }
         ensures fault { IfErr result (IsFault (framed home.old.pages frame.now) (pick_of picks.now)) }
-        ensures keeps { Keeps frame.now.range home.old.pages self.new.kept.pages.items }
-        ensures looks { reads.new + kept_count self.old.kept.pages.items ≤ reads.old + kept_count self.new.kept.pages.items }
-        ensures looked { home.new.looked + kept_count self.old.kept.pages.items ≤ home.old.looked + kept_count self.new.kept.pages.items }
+        ensures keeps { Keeps frame.now.range home.old.pages self.new.kept.pages.pages.items }
+        ensures parts { OnOk result (HasParts frame.now.range self.new.kept.blocks) }
+        ensures says { OnOk result (SaysBlocks home.old.pages frame.now.range frame.now.inodes self.new.kept.blocks) }
+        ensures looks { reads.new + kept_count self.old.kept.pages.pages.items ≤ reads.old + kept_count self.new.kept.pages.pages.items }
+        ensures looked { home.new.looked + kept_count self.old.kept.pages.pages.items ≤ home.old.looked + kept_count self.new.kept.pages.pages.items }
     {
         let met = self.files[at];
-        let file = match read_file_kept(
+        if self.repeated.is_some() {
+            if let Some(body) = listed_before(self.heads.of(met.kind), frame.range, &met) {
+                self.rows.set(met.ino, Some(row_of(&met, &body)));
+                return Ok(());
+            }
+        }
+        self.pass(alloc, home, frame, picks, at, reads)
+    }
+
+    /// Goes over the file at this place of the queue.
+    fn pass(
+        &mut self,
+        alloc: Global,
+        home: &mut Home,
+        frame: &CoreFrame,
+        picks: &Picks,
+        at: usize,
+        reads: &mut Reads,
+    ) -> Result<(), SurveyFault>
+        requires inside { at < vec_len self.old.files }
+        requires stands { WalkStands (framed home.old.pages frame.now) (pick_of picks.now) at self.old }
+        requires tables { WalkTables (framed home.old.pages frame.now) at self.old }
+        requires heads { WalkHeads (framed home.old.pages frame.now) at self.old }
+        requires keeps { Keeps frame.now.range home.old.pages self.old.kept.pages.pages.items }
+        requires parts { HasParts frame.now.range self.old.kept.blocks }
+        requires says { SaysBlocks home.old.pages frame.now.range frame.now.inodes self.old.kept.blocks }
+        ensures pages { home.new.pages ≡ home.old.pages }
+        ensures stands { OnOk result (WalkStands (framed home.old.pages frame.now) (pick_of picks.now) (at + 1) self.new) }
+        ensures tables { OnOk result (WalkTables (framed home.old.pages frame.now) (at + 1) self.new) }
+        ensures heads { OnOk result (WalkHeads (framed home.old.pages frame.now) (at + 1) self.new) }
+        ensures fault { IfErr result (IsFault (framed home.old.pages frame.now) (pick_of picks.now)) }
+        ensures keeps { Keeps frame.now.range home.old.pages self.new.kept.pages.pages.items }
+        ensures parts { OnOk result (HasParts frame.now.range self.new.kept.blocks) }
+        ensures says { OnOk result (SaysBlocks home.old.pages frame.now.range frame.now.inodes self.new.kept.blocks) }
+        ensures looks { reads.new + kept_count self.old.kept.pages.pages.items ≤ reads.old + kept_count self.new.kept.pages.pages.items }
+        ensures looked { home.new.looked + kept_count self.old.kept.pages.pages.items ≤ home.old.looked + kept_count self.new.kept.pages.pages.items }
+    {
+        let met = self.files[at];
+        let file = match read_pages(
             alloc,
             home,
             frame.range,
@@ -145,16 +198,19 @@ impl Walk {
                 });
             }
         };
-        let index = mark_new(&mut self.used, &file.index);
-        let block = mark_new(&mut self.used, &file.blocks);
+        let index = mark_new(&mut self.used, &file.chain.index);
+        let block = mark_new(&mut self.used, &file.chain.blocks);
         let entry = add_children(
             &mut self.files,
             &mut self.met,
             picks,
             met.ino,
-            &file.entries,
+            frame.range,
+            &self.kept.blocks,
+            listing_blocks(met.kind, &file.chain.blocks),
         )?;
         enter(&mut self.rows, &mut self.owners, &met, &file);
+        self.heads.note(met.kind, &file.body);
         self.repeated = self.repeated.or(repeated_in(met.ino, index, block, entry));
         Ok(())
     }

@@ -1,16 +1,20 @@
 -- How far a walk over the files with a queue has come. Cited by private functions alone.
-use Rattle.std.specs.Prelude.{◌≡◌, ℕ, ◌+◌, ◌<◌, ◌≤◌, ◌⊎◌, nat_lt, Bool, true, List, [], ◌∷◌, ◌++◌, length, map, take, drop, Option, Some, None, MatchOption, if◌then◌else◌, slice_set, slice_index, slice_index_or, ⊤}
-use Rattle.std.specs.List.{count_by}
+use Rattle.std.specs.Prelude.{◌≡◌, ℕ, ◌+◌, ◌<◌, ◌≤◌, ◌⊎◌, nat_lt, Bool, false, true, List, [], ◌∷◌, ◌++◌, length, map, take, drop, Option, Some, None, MatchOption, if◌then◌else◌, slice_set, slice_index, slice_index_or, ⊤}
+use Rattle.std.specs.List.{count_by, list_all}
 use Rattle.trio_rights.specs.Row.{Row}
 use Rattle.trio_lists.specs.Lists.{is_among, are_new}
+use Rattle.trio_layout.specs.declared.body.Body.{Body}
 use Rattle.trio_layout.specs.Core.{Core, Location}
+use Rattle.trio_layout.specs.Chain.{Chain}
 use Rattle.trio_layout.specs.Entries.{Listed, place_of}
 use Rattle.trio_lists.specs.Marked.{MarksJust, all_below}
 use Rattle.trio_layout.specs.Queue.{queue}
-use Rattle.trio_layout.specs.Survey.{Met, FileRead, Pick, children, numbers, owner_of, root_of, row_by, row_of}
+use Rattle.trio_layout.specs.Survey.{Met, Pick, children, first_listed, met_in, numbers, owner_of, root_of, row_by, row_of}
 use Rattle.trio_layout.specs.Sound.{are_in_grammar, are_listed_once, listed_numbers, listed_pages, FailsAt, ListsNumberAgain, ListsPageAgain}
 use Rattle.trio_survey.specs.Seen.{met_seen, place_seen}
 use Rattle.trio_survey.specs.Within.{all_some}
+use Rattle.trio_survey.specs.inner.Again.{KnowsAllHeads}
+use Rattle.trio_survey.specs.declared.blocks.DirEntry.{DirEntry}
 use Rattle.trio_survey.specs.declared.file.FaultPlace.{FaultPlace}
 use Rattle.trio_survey.specs.declared.walk.CoreFrame.{CoreFrame}
 use Rattle.trio_survey.specs.declared.walk.Repeated.{Repeated}
@@ -51,6 +55,16 @@ FirstEntry before these first =
 pub record AreMarked (files : List Met) (marks : List Bool) : Type 0 where
   pub marked : MarksJust marks (numbers files)
   pub counted : count_by (λ b. b) marks ≡ length files
+
+-- whether each of these entries has a mark at its number
+abbrev pub are_marked : List Bool → List DirEntry → Bool
+are_marked marks entries = list_all (λ l. slice_index_or marks l.ino false) entries
+
+-- the files that are met after these entries of a directory, and the first entry that lists a number again
+pub record Grows (pick : Pick) (directory : ℕ) (old now : List Met) (marks : List Bool) (first : Option FaultPlace) (entries : List Listed) : Type 0 where
+  pub added : now ≡ old ++ first_listed (numbers old) (map (met_in pick directory) entries)
+  pub marked : AreMarked now marks
+  pub repeat : FirstEntry (numbers old) entries first
 
 -- at this file and place a number or a page is listed again
 abbrev pub RepeatsAt : Core → Pick → List Met → ℕ → Location → Type 0
@@ -101,9 +115,9 @@ pub record Tabled (core : Core) (done : List Met) (owners : List ℕ) (rows : Li
   pub many_rows : length rows ≡ core.inodes + 1
 
 -- the tables have the file's row and pages now
-pub record Entered (m : Met) (f : FileRead) (owners owners' : List ℕ) (rows rows' : List (Option Row)) : Type 0 where
-  pub owned : (p : ℕ) → p < length owners' → slice_index owners' p ≡ (if is_among p (f.chain.index ++ f.chain.blocks) then m.ino else slice_index owners p)
-  pub rowed : rows' ≡ slice_set rows m.ino (Some (row_by m f.body))
+pub record Entered (m : Met) (b : Body) (c : Chain) (owners owners' : List ℕ) (rows rows' : List (Option Row)) : Type 0 where
+  pub owned : (p : ℕ) → p < length owners' → slice_index owners' p ≡ (if is_among p (c.index ++ c.blocks) then m.ino else slice_index owners p)
+  pub rowed : rows' ≡ slice_set rows m.ino (Some (row_by m b))
   pub many_owners : length owners' ≡ length owners
 
 -- the same of a walk as the code has it
@@ -112,6 +126,9 @@ WalkStands core pick i w = Stands core pick i (map met_seen w.files.items) w.met
 
 abbrev pub WalkTables : Core → ℕ → Walk → Type 0
 WalkTables core i w = Tabled core (take i (map met_seen w.files.items)) w.owners w.rows
+
+abbrev pub WalkHeads : Core → ℕ → Walk → Type 0
+WalkHeads core i w = KnowsAllHeads core (take i (map met_seen w.files.items)) w.heads
 
 -- a file and place at which the survey fails; want of memory says nothing
 abbrev pub IsFault : Core → Pick → SurveyFault → Type 0

@@ -1,42 +1,59 @@
-use Rattle.std.proofs.Common.{◌≡◌, ◌∙◌, Some, None, refl, get_or, arith}
-use Rattle.trio_layout.specs.Core.{page_of}
-use Rattle.trio_layout.specs.Entries.{page_entries}
-use Rattle.trio_survey.specs.Seen.{core_with}
-use Rattle.trio_survey.proofs.Gathers.{page_entries_absent, page_entries_is, gathered_fault_at, gathered_more, entries_fault}
+use Rattle.std.proofs.Common.{◌≡◌, ◌∙◌, ◌+◌, ◌++◌, ◌∷◌, [], ℕ, List, Result, Ok, Err, get_or, take, sym, inl, inr, arith, refl}
+use Rattle.std.specs.List.{flat_map}
+use Rattle.std.proofs.lemmas.List.{take_more, take_all}
+use Rattle.trio_lists.specs.Lists.{gathered}
+use Rattle.trio_lists.proofs.Members.{In-cases}
+use Rattle.trio_layout.specs.Core.{Location}
+use Rattle.trio_layout.specs.Entries.{Listed, page_entries}
+use Rattle.trio_survey.specs.Seen.{core_with, place_seen}
+use Rattle.trio_survey.specs.inner.Blocks.{entries_kept}
+use Rattle.trio_survey.proofs.Gathers.{gathered_all, gathered_fault_at}
+use Rattle.trio_survey.proofs.KeptBlocks.{good_lists}
 use Rattle.trio_survey.proofs.entries.read_entries.Goals as goal
-
-pub returns-in_default-clause-entries : goal.returns-in_default-clause-entries
-returns-in_default-clause-entries c =
-    let core = core_with c.args.home.now.pages c.args.range c.args.inodes in
-    let blocks = c.args.blocks.now in
-    let i = c.loop-no.no-index in
-    let turn = c.loop-no.invariant in
-    let gone : None ≡ page_of core (get_or blocks i 0) = c.in_default.ensures ∙ rw turn.same at c.in_ok-look.ensures.kept in
-    entries_fault core blocks _ (gathered_fault_at (page_entries core) blocks i 0 _ (omega arith) (rw (turn.entries, page_entries_absent core (get_or blocks i 0) gone) refl))
 
 pub returns-in-Err-clause-entries : goal.returns-in-Err-clause-entries
 returns-in-Err-clause-entries c =
-    let core = core_with c.args.home.now.pages c.args.range c.args.inodes in
+    let pages = c.args.home.now.pages in
+    let f : ℕ → Result (List Listed) Location = page_entries (core_with pages c.args.range c.args.inodes) in
     let blocks = c.args.blocks.now in
     let i = c.loop-no.no-index in
     let turn = c.loop-no.invariant in
-    let there : Some c.in-Some.page.now ≡ page_of core (get_or blocks i 0) = c.in-Some.ensures ∙ rw turn.same at c.in_ok-look.ensures.kept in
-    let added = rw c.in-Err.is at c.in_ok-place.ensures in
-    entries_fault core blocks _ (gathered_fault_at (page_entries core) blocks i 0 _ (omega arith) (rw (turn.entries, page_entries_is core (get_or blocks i 0) c.in-Some.page.now there) added))
+    let kept = c.loop-no.kept.blocks in
+    let before : gathered f (take i blocks) ≡ Ok (flat_map (entries_kept c.args.range kept) (take i blocks)) =
+    gathered_all f (entries_kept c.args.range kept) (take i blocks) (λ page h. good_lists pages c.args.range c.args.inodes kept page turn.says (turn.good page h)) in
+    let bad : f (get_or blocks i 0) ≡ Err (place_seen c.in-Err.place) = rw (turn.same, c.in-Err.is) at c.in_ok-place.ensures.here in
+    sym (gathered_fault_at f blocks i 0 (place_seen c.in-Err.place) (omega arith) (rw (before, bad) refl))
 
 pub loop-no-preserved : goal.loop-no-preserved
 loop-no-preserved c =
-    let core = core_with c.args.home.now.pages c.args.range c.args.inodes in
     let blocks = c.args.blocks.now in
     let i = c.loop-no.no-index in
     let turn = c.loop-no.invariant in
-    let there : Some c.in-Some.page.now ≡ page_of core (get_or blocks i 0) = c.in-Some.ensures ∙ rw turn.same at c.in_ok-look.ensures.kept in
-    let added = rw c.in_default-2.is at c.in_ok-place.ensures in
-    let more = gathered_more (page_entries core) blocks i 0 (omega arith) in
+    let read = c.in_ok-place.ensures in
+    let front : take (i + 1) blocks ≡ take i blocks ++ get_or blocks i 0 ∷ [] = take_more blocks i 0 (omega arith) in
     record {
-      same = c.in_ok-look.ensures.pages ∙ turn.same;
-      keeps = rw turn.same at c.in_ok-look.ensures.keeps;
-      looks = omega (arith, c.in_ok-look.ensures.looks, turn.looks);
-      looked = omega (arith, c.in_ok-look.ensures.looked, turn.looked);
-      entries = rw (more, turn.entries, page_entries_is core (get_or blocks i 0) c.in-Some.page.now there) added;
+      same = read.pages ∙ turn.same;
+      keeps = rw turn.same at read.keeps;
+      parts = read.parts;
+      says = rw turn.same at read.says;
+      good = λ page h. elim (In-cases page (take i blocks) (get_or blocks i 0 ∷ []) (rw front at h)) [
+        | inl before ↦ read.others page (turn.good page before)
+        | inr last ↦ elim last [
+          | inl same ↦ rw same (rw c.in_default.is at read.here)
+          | inr none ↦ absurd none
+        ]
+      ];
+      looks = omega (arith, turn.looks, read.looks);
+      looked = omega (arith, turn.looked, read.looked);
     }
+
+pub returns-clause-entries : goal.returns-clause-entries
+returns-clause-entries c =
+    let pages = c.args.home.now.pages in
+    let f : ℕ → Result (List Listed) Location = page_entries (core_with pages c.args.range c.args.inodes) in
+    let blocks = c.args.blocks.now in
+    let i = c.loop-no.no-index in
+    let turn = c.loop-no.invariant in
+    let kept = c.loop-no.kept.blocks in
+    let all : take i blocks ≡ blocks = take_all i blocks (omega arith) in
+    sym (rw all at (gathered_all f (entries_kept c.args.range kept) (take i blocks) (λ page h. good_lists pages c.args.range c.args.inodes kept page turn.says (turn.good page h))))

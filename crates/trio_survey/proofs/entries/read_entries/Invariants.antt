@@ -1,15 +1,16 @@
-use Rattle.std.proofs.Common.{◌≡◌, ◌≤◌, ◌+◌, map, take, Ok}
-use Rattle.trio_layout.specs.Entries.{page_entries}
-use Rattle.trio_lists.specs.Lists.{gathered}
-use Rattle.trio_survey.specs.Seen.{core_with, listed_seen}
+use Rattle.std.proofs.Common.{◌≡◌, ◌≤◌, ◌+◌, ℕ, take}
+use Rattle.trio_lists.specs.Lists.{In}
+use Rattle.trio_survey.specs.inner.Blocks.{HasParts, IsGood, SaysBlocks}
 use Rattle.trio_survey.specs.inner.Kept.{kept_count, Keeps}
 use Rattle.trio_survey.proofs.entries.read_entries.Given as goal
 
 abbrev pub invariant-loop-no : goal.invariant-loop-no
 invariant-loop-no l = record {
   same : l.home.pages ≡ l.initial.home.pages;
-  keeps : Keeps l.range l.initial.home.pages l.kept.pages.items;
-  entries : gathered (page_entries (core_with l.initial.home.pages l.range l.inodes)) (take l.no-index l.blocks) ≡ Ok (map listed_seen l.entries.items);
-  looks : l.reads + kept_count l.fn.kept.pages.items ≤ l.fn.reads + kept_count l.kept.pages.items;
-  looked : l.home.looked + kept_count l.fn.kept.pages.items ≤ l.fn.home.looked + kept_count l.kept.pages.items;
+  keeps : Keeps l.range l.initial.home.pages l.kept.pages.pages.items;
+  parts : HasParts l.range l.kept.blocks;
+  says : SaysBlocks l.initial.home.pages l.range l.inodes l.kept.blocks;
+  good : (page : ℕ) → In page (take l.no-index l.blocks) → IsGood l.range l.kept.blocks page;
+  looks : l.reads + kept_count l.fn.kept.pages.pages.items ≤ l.fn.reads + kept_count l.kept.pages.pages.items;
+  looked : l.home.looked + kept_count l.fn.kept.pages.pages.items ≤ l.fn.home.looked + kept_count l.kept.pages.pages.items;
 }

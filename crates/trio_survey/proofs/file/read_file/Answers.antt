@@ -1,4 +1,22 @@
+use Rattle.std.proofs.Common.{◌≡◌, ◌∙◌, map, ap, sym, subst}
+use Rattle.std.specs.List.{flat_map}
+use Rattle.std.proofs.lemmas.Simd.{map-map}
+use Rattle.trio_survey.specs.Seen.{listed_seen}
+use Rattle.trio_survey.specs.Within.{IsWithin}
+use Rattle.trio_survey.specs.inner.Blocks.{entries_kept}
+use Rattle.trio_survey.specs.inner.Files.{file_kept, listing_blocks}
 use Rattle.trio_survey.proofs.file.read_file.Goals as goal
 
-pub read_file_kept-requires : goal.read_file_kept-requires
-read_file_kept-requires c = record { keeps = c.none-kept.ensures.keeps c.args.range c.args.home.now.pages }
+pub read_pages-requires-clause-keeps : goal.read_pages-requires-clause-keeps
+read_pages-requires-clause-keeps c = c.in_ok-kept.ensures.keeps c.args.home.now.pages
+
+pub returns-clause-within : goal.returns-clause-within
+returns-clause-within c =
+    let range = c.args.range in
+    let kind = c.args.met.now.kind in
+    let file = c.in-Ok.file in
+    let kept = c.read_pages.new.kept.blocks in
+    let listed : map listed_seen c.in_ok-entries.entries.items ≡ (file_kept range kept kind file).entries =
+    c.in_ok-entries.ensures ∙ ap (flat_map (entries_kept range kept)) (c.listing_blocks.ensures ∙ ap (listing_blocks kind) c.deref.ensures.value) in
+    let within = rw c.in-Ok.is at c.in_ok-file.ensures.within in
+    rw map-map at (subst (λ ls. IsWithin range c.args.inodes file.chain.index.items file.chain.blocks.items (map (λ l. l.entry.ino) ls)) (sym listed) within)

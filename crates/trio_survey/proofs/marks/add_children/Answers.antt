@@ -1,39 +1,43 @@
-use Rattle.std.proofs.Common.{false, ◌≡◌, ◌<◌, length, map, vec_len, get_or, sym, refl, ap, ◌∙◌, arith}
-use Rattle.std.proofs.lemmas.List.{get_or_read, get_or-map, length-map, map_push}
-use Rattle.trio_layout.specs.Entries.{Listed}
-use Rattle.trio_survey.specs.declared.file.EntryRead.{EntryRead}
+use Rattle.std.proofs.Common.{◌≡◌, ◌∙◌, ◌+◌, ◌++◌, map, take, vec_len, ap, sym, refl, arith}
+use Rattle.std.specs.List.{flat_map}
+use Rattle.std.proofs.lemmas.List.{take_all}
+use Rattle.std.proofs.lemmas.Simd.{map-map}
 use Rattle.trio_survey.specs.Picks.{pick_of}
-use Rattle.trio_survey.specs.Seen.{listed_seen, met_seen}
-use Rattle.trio_survey.proofs.Adding.{grows_again, grows_first, entry_below}
+use Rattle.trio_survey.specs.Seen.{met_seen}
+use Rattle.trio_survey.specs.inner.Blocks.{entries_kept}
+use Rattle.trio_survey.proofs.Adding.{grows_none, part_below}
+use Rattle.trio_survey.proofs.Naming.{blocks_taken}
 use Rattle.trio_survey.proofs.marks.add_children.Goals as goal
-use Rattle.trio_survey.proofs.marks.add_children.Goals.{then-index, else-index+in_ok-push}
 
-pub index-requires : goal.index-requires
-index-requires c =
-    omega (arith, entry_below (vec_len c.args.marks.now) c.args.entries.now c.loop-listed.listed-index c.listed-item.result (omega arith) (sym c.listed-item.is) c.requires.fit)
+pub loop-block-init : goal.loop-block-init
+loop-block-init c = record {
+  grows = grows_none (pick_of c.args.picks.now) c.args.directory (map met_seen c.args.files.now.items) c.args.marks.now.items c.requires.marked;
+  len = refl;
+}
 
-pub index_mut-requires : goal.index_mut-requires
-index_mut-requires c =
-    omega (arith, entry_below (vec_len c.args.marks.now) c.args.entries.now c.loop-listed.listed-index c.listed-item.result (omega arith) (sym c.listed-item.is) c.requires.fit)
+pub add_listed-requires : goal.add_listed-requires
+add_listed-requires c =
+    let g = entries_kept c.args.range c.args.kept.now in
+    let here = part_below (vec_len c.args.marks.now) g c.args.blocks.now c.loop-block.block-index (omega arith) c.requires.fit in
+    rw c.loop-block.invariant.len (rw (← c.entries_of-entries.ensures.entries, map-map) at here)
 
-pub loop-listed-preserved : goal.loop-listed-preserved
-loop-listed-preserved c =
-    let entries = c.args.entries.now in
-    let turn = c.loop-listed in
-    let i = turn.listed-index in
-    let x : EntryRead = c.listed-item.result in
-    let at : get_or entries i x ≡ x = sym c.listed-item.is in
-    let e : Listed = listed_seen x in
-    let inside : i < length (map listed_seen entries) = omega (arith, length-map entries listed_seen) in
-    let same : get_or (map listed_seen entries) i e ≡ e = get_or-map listed_seen entries i x e (omega arith) ∙ ap listed_seen at in
-    let below : x.entry.ino < length turn.marks.items =
-    omega (arith, entry_below (vec_len c.args.marks.now) entries i x (omega arith) at c.requires.fit) in
-    let was = sym (get_or_read turn.marks.items x.entry.ino c.index.result.now below c.index.ensures false) in
-    let files = map met_seen turn.files.items in
-    let old = map met_seen c.args.files.now.items in
-    elim c.if-index.branch [
-      | then-index w ↦
-          rw (w.files-is, w.marks-is, w.repeated-is, w.or-repeated.ensures) (record { len = turn.invariant.len; grows = grows_again (pick_of c.args.picks.now) c.args.directory old files turn.marks.items turn.repeated (map listed_seen entries) i e (record { page = x.page; slot = x.slot }) inside same refl below (was ∙ w.if-index.true) turn.invariant.grows })
-      | else-index+in_ok-push w ↦
-          rw (w.files-is, w.marks-is, w.repeated-is, w.in_ok-push.ensures.items, map_push met_seen, w.body.ensures) (record { len = turn.invariant.len; grows = grows_first (pick_of c.args.picks.now) c.args.directory old files turn.marks.items turn.repeated (map listed_seen entries) i e inside same below (was ∙ w.if-index.false) turn.invariant.grows })
-    ]
+pub loop-block-preserved : goal.loop-block-preserved
+loop-block-preserved c =
+    let kept = c.args.kept.now in
+    let g = entries_kept c.args.range kept in
+    let blocks = c.args.blocks.now in
+    let i = c.loop-block.block-index in
+    let turn = c.loop-block.invariant in
+    let added = c.in_ok-repeated.ensures in
+    let before = flat_map g (take i blocks) in
+    let more : before ++ map _ c.entries_of-entries.result.now ≡ flat_map g (take (i + 1) blocks) = ap (λ l. before ++ l) c.entries_of-entries.ensures.entries ∙ sym (blocks_taken g blocks i (omega arith)) in
+    record {
+      grows = rw more at (added.grows kept.names.names.items (map met_seen c.args.files.now.items) before turn.grows);
+      len = added.len ∙ turn.len;
+    }
+
+pub returns-clause-grows : goal.returns-clause-grows
+returns-clause-grows c =
+    let blocks = c.args.blocks.now in
+    let all : take c.loop-block.block-index blocks ≡ blocks = take_all c.loop-block.block-index blocks (omega arith) in
+    rw all at c.loop-block.invariant.grows

@@ -1,11 +1,11 @@
-use Rattle.std.proofs.Common.{◌≡◌, map, [], take, drop}
+use Rattle.std.proofs.Common.{◌≡◌, [], take, drop}
+use Rattle.std.specs.List.{flat_map}
 use Rattle.trio_layout.specs.Entries.{repeated_name}
-use Rattle.trio_survey.specs.Seen.{listed_seen}
-use Rattle.trio_survey.proofs.NamesSeen.{HasNames}
+use Rattle.trio_survey.specs.inner.Blocks.{entries_kept, MarksNames}
 use Rattle.trio_survey.proofs.names.repeated_name.Given as goal
 
-abbrev pub invariant-loop-listed : goal.invariant-loop-listed
-invariant-loop-listed l = record {
-  names : HasNames l.names (map listed_seen (take l.listed-index l.entries));
-  rest : repeated_name (map listed_seen (take l.listed-index l.entries)) (map listed_seen (drop l.listed-index l.entries)) ≡ repeated_name [] (map listed_seen l.entries);
+abbrev pub invariant-loop-block : goal.invariant-loop-block
+invariant-loop-block l = record {
+  marks : MarksNames l.kept.names.names.items l.named (flat_map (entries_kept l.range l.kept) (take l.block-index l.blocks));
+  rest : repeated_name (flat_map (entries_kept l.range l.kept) (take l.block-index l.blocks)) (flat_map (entries_kept l.range l.kept) (drop l.block-index l.blocks)) ≡ repeated_name [] (flat_map (entries_kept l.range l.kept) l.blocks);
 }

@@ -13,7 +13,10 @@ loop-at-init c =
       same = refl;
       stands = c.in_ok-walk.ensures.stands c.args.home.now.pages (pick_of c.args.picks.now);
       tables = c.in_ok-walk.ensures.tables c.args.home.now.pages;
+      heads = c.in_ok-walk.ensures.heads c.args.home.now.pages;
       keeps = c.in_ok-walk.ensures.keeps c.args.home.now.pages;
+      parts = c.in_ok-walk.ensures.parts;
+      says = c.in_ok-walk.ensures.says c.args.home.now.pages;
       looks = omega (arith, c.in_ok-walk.ensures.count);
       looked = omega (arith, c.in_ok-walk.ensures.count);
     }

@@ -1,7 +1,8 @@
 use Rattle.std.proofs.Common.{◌≡◌, ◌≤◌, ◌+◌, ◌-◌}
 use Rattle.trio_survey.specs.Picks.{pick_of}
+use Rattle.trio_survey.specs.inner.Blocks.{HasParts, SaysBlocks}
 use Rattle.trio_survey.specs.inner.Kept.{kept_count, Keeps}
-use Rattle.trio_survey.specs.inner.Walk.{framed, WalkStands, WalkTables}
+use Rattle.trio_survey.specs.inner.Walk.{framed, WalkHeads, WalkStands, WalkTables}
 use Rattle.trio_survey.proofs.whole.survey_picked.Given as goal
 
 abbrev pub invariant-loop-at : goal.invariant-loop-at
@@ -9,9 +10,12 @@ invariant-loop-at l = record {
   same : l.home.pages ≡ l.initial.home.pages;
   stands : WalkStands (framed l.initial.home.pages l.frame) (pick_of l.picks) l.at l.walk;
   tables : WalkTables (framed l.initial.home.pages l.frame) l.at l.walk;
-  keeps : Keeps l.frame.range l.initial.home.pages l.walk.kept.pages.items;
-  looks : l.reads ≤ l.fn.reads + kept_count l.walk.kept.pages.items;
-  looked : l.home.looked ≤ l.fn.home.looked + kept_count l.walk.kept.pages.items;
+  heads : WalkHeads (framed l.initial.home.pages l.frame) l.at l.walk;
+  keeps : Keeps l.frame.range l.initial.home.pages l.walk.kept.pages.pages.items;
+  parts : HasParts l.frame.range l.walk.kept.blocks;
+  says : SaysBlocks l.initial.home.pages l.frame.range l.frame.inodes l.walk.kept.blocks;
+  looks : l.reads ≤ l.fn.reads + kept_count l.walk.kept.pages.pages.items;
+  looked : l.home.looked ≤ l.fn.home.looked + kept_count l.walk.kept.pages.pages.items;
 }
 
 abbrev pub decreases-loop-at : goal.decreases-loop-at

@@ -1,30 +1,15 @@
-use Rattle.std.proofs.Common.{◌≡◌, ◌+◌, ◌<◌, ◌++◌, Err, Ok, map, get_or, length, sym, ap, ◌∙◌, arith, append_assoc}
+use Rattle.std.proofs.Common.{◌≡◌, ◌∙◌, ◌+◌, ◌<◌, map, get_or, length, sym, ap, subst, arith}
 use Rattle.std.proofs.lemmas.List.{get_or-map, length-map}
-use Rattle.trio_layout.specs.Core.{Location}
-use Rattle.trio_layout.specs.Survey.{file_of}
 use Rattle.trio_survey.specs.Picks.{pick_of}
-use Rattle.trio_survey.specs.Seen.{file_seen, met_seen}
-use Rattle.trio_survey.specs.inner.Walk.{framed}
-use Rattle.trio_survey.proofs.Fits.{file_within}
-use Rattle.trio_survey.proofs.Roots.{file_rootless}
-use Rattle.trio_survey.proofs.Standing.{file_fails, stands_more}
-use Rattle.trio_survey.proofs.Tables.{met_below, met_some, tabled_after}
+use Rattle.trio_survey.specs.Seen.{met_seen}
+use Rattle.trio_survey.specs.inner.Again.{heads_of, IsListedBefore}
+use Rattle.trio_survey.specs.inner.Walk.{framed, Stands}
+use Rattle.trio_survey.proofs.ListedAgain.{knows_again, some_there, stands_again, tabled_again}
+use Rattle.trio_survey.proofs.Tables.{met_below, met_some}
 use Rattle.trio_survey.proofs.walk.Walk.visit.Goals as goal
 
-pub returns-in-Err-clause-fault : goal.returns-in-Err-clause-fault
-returns-in-Err-clause-fault c =
-    let core = framed c.args.home.now.pages c.args.frame.now in
-    let walk = c.args.self.now in
-    let files = map met_seen walk.files.items in
-    let m = met_seen c.index.result.now in
-    let inside : c.args.at < length files = omega (arith, length-map walk.files.items met_seen) in
-    let at : get_or files c.args.at m ≡ m = get_or-map met_seen walk.files.items c.args.at c.index.result.now m (omega arith) ∙ ap met_seen (sym c.index.ensures) in
-    let place : Location = record { page = c.in-Err.place.page; slot = c.in-Err.place.slot } in
-    let bad : file_of core m ≡ Err place = file_rootless core m ∙ sym (rw c.in-Err.is at c.in_ok-file.ensures.file) in
-    file_fails core (pick_of c.args.picks.now) c.args.at files walk.met.items walk.used.items walk.repeated m place c.requires.stands inside at bad
-
-pub enter-requires-clause-some : goal.enter-requires-clause-some
-enter-requires-clause-some c =
+pub set-requires-clause-from_one : goal.set-requires-clause-from_one
+set-requires-clause-from_one c =
     let items = c.args.self.now.files.items in
     let files = map met_seen items in
     let m = met_seen c.index.result.now in
@@ -32,8 +17,8 @@ enter-requires-clause-some c =
     let at : get_or files c.args.at m ≡ m = get_or-map met_seen items c.args.at c.index.result.now m (omega arith) ∙ ap met_seen (sym c.index.ensures) in
     met_some files c.args.at m inside at c.requires.stands.some
 
-pub enter-requires-clause-ino : goal.enter-requires-clause-ino
-enter-requires-clause-ino c =
+pub set-requires-clause-within : goal.set-requires-clause-within
+set-requires-clause-within c =
     let items = c.args.self.now.files.items in
     let files = map met_seen items in
     let m = met_seen c.index.result.now in
@@ -41,44 +26,44 @@ enter-requires-clause-ino c =
     let at : get_or files c.args.at m ≡ m = get_or-map met_seen items c.args.at c.index.result.now m (omega arith) ∙ ap met_seen (sym c.index.ensures) in
     omega (arith, met_below (c.args.frame.now.inodes + 1) files c.args.at m inside at c.requires.stands.fit, c.requires.tables.many_rows)
 
-pub returns-clause-stands : goal.returns-clause-stands
-returns-clause-stands c =
+pub returns-in-Some-clause-stands : goal.returns-in-Some-clause-stands
+returns-in-Some-clause-stands c =
     let core = framed c.args.home.now.pages c.args.frame.now in
+    let pick = pick_of c.args.picks.now in
     let walk = c.args.self.now in
     let files = map met_seen walk.files.items in
     let m = met_seen c.index.result.now in
     let inside : c.args.at < length files = omega (arith, length-map walk.files.items met_seen) in
     let at : get_or files c.args.at m ≡ m = get_or-map met_seen walk.files.items c.args.at c.index.result.now m (omega arith) ∙ ap met_seen (sym c.index.ensures) in
-    let f = file_seen c.in-Ok.file in
-    let read : file_of core m ≡ Ok f = file_rootless core m ∙ sym (rw c.in-Ok.is at c.in_ok-file.ensures.file) in
-    let within = file_within core m f read in
-    let first = c.mark_new-index.ensures in
-    let second = c.mark_new-block.ensures in
-    let third = c.in_ok-entry.ensures in
-    let index_is = c.deref.ensures.value in
-    let blocks_is = c.deref-2.ensures.value in
-    let entries_is = c.deref-3.ensures.value in
-    rw (c.or-self.ensures, c.repeated_in.ensures) (stands_more core (pick_of c.args.picks.now) c.args.at files (map met_seen c.add_children.new.files.items) walk.met.items c.add_children.new.marks.items walk.used.items c.mark_new-block.new.marks.items walk.repeated c.mark_new-index.result c.mark_new-block.result c.in_ok-entry.entry m f inside at read (omega (arith, third.len)) (omega (arith, first.len, second.len))
-    (record {
-      pages = λ before x. rw (index_is, blocks_is, append_assoc) at (second.marked (before ++ c.deref.result.now) (first.marked before x));
-      first_index = λ before x. rw index_is at (first.first before x);
-      first_block = λ before x. rw (index_is, blocks_is) at (second.first (before ++ c.deref.result.now) (first.marked before x));
-      added = rw entries_is at third.added;
-      marked = third.marked;
-      fit = within.numbers_below;
-      some = within.numbers_some;
-      first_entry = rw entries_is at third.first;
-    })
-    c.requires.stands)
+    let heads = heads_of walk.heads m.kind in
+    let listed : IsListedBefore c.args.frame.now.range heads m c.in-Some.body = rw c.of.ensures at c.in-Some.ensures in
+    let it = some_there walk.repeated (sym c.is_some.ensures ∙ c.if-is_some.true) in
+    subst (λ twice. Stands core pick (c.args.at + 1) files walk.met.items walk.used.items twice) (sym it.1)
+    (stands_again core pick c.args.at files walk.met.items walk.used.items it.0 heads m c.in-Some.body inside at
+    (subst (λ twice. Stands core pick c.args.at files walk.met.items walk.used.items twice) it.1 c.requires.stands) (c.requires.heads m.kind) listed)
 
-pub returns-clause-tables : goal.returns-clause-tables
-returns-clause-tables c =
+pub returns-in-Some-clause-tables : goal.returns-in-Some-clause-tables
+returns-in-Some-clause-tables c =
+    let core = framed c.args.home.now.pages c.args.frame.now in
+    let pick = pick_of c.args.picks.now in
+    let walk = c.args.self.now in
+    let files = map met_seen walk.files.items in
+    let m = met_seen c.index.result.now in
+    let inside : c.args.at < length files = omega (arith, length-map walk.files.items met_seen) in
+    let at : get_or files c.args.at m ≡ m = get_or-map met_seen walk.files.items c.args.at c.index.result.now m (omega arith) ∙ ap met_seen (sym c.index.ensures) in
+    let heads = heads_of walk.heads m.kind in
+    let listed : IsListedBefore c.args.frame.now.range heads m c.in-Some.body = rw c.of.ensures at c.in-Some.ensures in
+    let it = some_there walk.repeated (sym c.is_some.ensures ∙ c.if-is_some.true) in
+    rw (c.set.ensures, c.row_of.ensures)
+    (tabled_again core pick c.args.at files walk.met.items walk.used.items it.0 heads m c.in-Some.body inside at
+    (subst (λ twice. Stands core pick c.args.at files walk.met.items walk.used.items twice) it.1 c.requires.stands) (c.requires.heads m.kind) listed walk.owners walk.rows c.requires.tables)
+
+pub returns-in-Some-clause-heads : goal.returns-in-Some-clause-heads
+returns-in-Some-clause-heads c =
     let core = framed c.args.home.now.pages c.args.frame.now in
     let walk = c.args.self.now in
     let files = map met_seen walk.files.items in
     let m = met_seen c.index.result.now in
     let inside : c.args.at < length files = omega (arith, length-map walk.files.items met_seen) in
     let at : get_or files c.args.at m ≡ m = get_or-map met_seen walk.files.items c.args.at c.index.result.now m (omega arith) ∙ ap met_seen (sym c.index.ensures) in
-    let f = file_seen c.in-Ok.file in
-    let read : file_of core m ≡ Ok f = file_rootless core m ∙ sym (rw c.in-Ok.is at c.in_ok-file.ensures.file) in
-    tabled_after core (pick_of c.args.picks.now) c.args.at files (map met_seen c.add_children.new.files.items) _ m f walk.owners c.enter.new.owners walk.rows c.enter.new.rows inside at read c.requires.stands.queued (rw c.deref-3.ensures.value at c.in_ok-entry.ensures.added) c.enter.ensures c.requires.tables
+    knows_again core c.args.at files walk.heads m inside at c.requires.heads

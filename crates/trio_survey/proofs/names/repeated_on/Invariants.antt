@@ -1,0 +1,14 @@
+use Rattle.std.proofs.Common.{◌≡◌, ℕ, ◌++◌, List, length, map, take, drop}
+use Rattle.trio_layout.specs.Entries.{Listed, repeated_name}
+use Rattle.trio_survey.specs.inner.Blocks.{entry_seen, AreNamed}
+use Rattle.trio_survey.specs.inner.Blocks.{MarksNames}
+use Rattle.trio_survey.proofs.names.repeated_on.Given as goal
+
+abbrev pub invariant-loop-listed : goal.invariant-loop-listed
+invariant-loop-listed l = record {
+  room : length l.named ≡ length l.fn.named;
+  marks : (names : List (List ℕ)) (seen : List Listed) → AreNamed names l.entries → MarksNames names l.fn.named seen
+      → MarksNames names l.named (seen ++ map (entry_seen names) (take l.listed-index l.entries));
+  rest : (names : List (List ℕ)) (seen : List Listed) → AreNamed names l.entries → MarksNames names l.fn.named seen
+      → repeated_name (seen ++ map (entry_seen names) (take l.listed-index l.entries)) (map (entry_seen names) (drop l.listed-index l.entries)) ≡ repeated_name seen (map (entry_seen names) l.entries);
+}
