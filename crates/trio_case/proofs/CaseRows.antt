@@ -30,7 +30,8 @@ use Rattle.trio_case.specs.Cases.{CaseShown, case_in, held_in, is_free_number, l
 use Rattle.trio_case.specs.declared.numbers.Numbers.{Numbers}
 use Rattle.trio_case.specs.Order.{place_of}
 use Rattle.trio_case.specs.inner.Memory.{NumbersDiffer}
-use Rattle.trio_case.specs.inner.Maps.{body_lent, is_directory, Tells}
+use Rattle.trio_case.specs.inner.Maps.{body_lent, Tells}
+use Rattle.trio_case.specs.Memory.{is_directory}
 
 -- ---- numbers
 

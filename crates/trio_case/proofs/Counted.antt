@@ -1,19 +1,22 @@
 -- Numbers that differ, by their places.
-use Rattle.std.proofs.Common.{◌≡◌, ℕ, zero, suc, ◌+◌, ◌<◌, ◌||◌, eqb, Bool, true, false, cond, List, [], ◌∷◌, ◌++◌, length, take, Option, None, Some, sym, refl, ap, ◌∙◌, subst, inl, inr, arith}
+use Rattle.std.proofs.Common.{◌≡◌, ℕ, zero, suc, ◌+◌, ◌<◌, ◌||◌, eqb, Bool, true, false, cond, List, [], ◌∷◌, ◌++◌, length, map, take, Option, None, Some, Result, Ok, Err, sym, refl, ap, ◌∙◌, subst, inl, inr, arith}
 use Rattle.std.specs.Prelude.{is_some, slice_get}
+use Rattle.std.specs.List.Sorted.{IsBinarySearchResult, IsSearchInRange}
 use Rattle.std.specs.Option.{option_and_then, option_map}
+use Rattle.std.specs.Ordering.{nat_cmp}
+use Rattle.std.specs.Result.{result_ok}
 use Rattle.std.proofs.lemmas.Bool.Decides.{nat_tests}
-use Rattle.std.proofs.lemmas.List.{map-append, take_more}
+use Rattle.std.proofs.lemmas.List.{get_or-map, length-map, map-append, take_more}
 use Rattle.std.proofs.lemmas.Option.{get_or_from_slice_get, slice_get-get_or, slice_get-map, slice_get_within}
 use Rattle.trio_lists.specs.Lists.{In, is_among, are_new}
 use Rattle.trio_lists.proofs.Members.{In-cases}
 use Rattle.trio_lists.proofs.New.{are_new-first}
-use Rattle.trio_case.specs.Order.{in_order, place_of}
+use Rattle.trio_case.specs.Order.{in_order, place_of, AreRising}
 use Rattle.trio_case.specs.declared.numbered.NumberPlace.{NumberPlace}
 use Rattle.trio_case.specs.inner.Numbered.{AreCounted, ArePlaced, counted_numbers}
 use Rattle.trio_case.proofs.Opening.{In-slice_get}
 use Rattle.trio_case.proofs.Keeping.{none_there}
-use Rattle.trio_case.proofs.Ordered.{not_ordered, place_has}
+use Rattle.trio_case.proofs.Ordered.{found_place, not_ordered, place_has}
 
 -- one number more, with its place
 pub counted_more : (ns : List ℕ) (old new : List NumberPlace) (p : NumberPlace) → new ≡ old ++ p ∷ [] → slice_get ns p.at ≡ Some p.no → AreCounted ns old → AreCounted ns new
@@ -59,9 +62,22 @@ absent ns n e =
     let none : is_among n ns ≡ false = not_ordered n ns (sym (place_some n (in_order ns)) ∙ ap is_some e) in
     none_there (place_of n ns) (sym (place_some n ns ∙ none))
 
+-- a search among things by their numbers is one among the numbers
+search_by : {X : Type 0} (f : X → ℕ) (xs : List X) (x : X) (n : ℕ) (r : Result ℕ ℕ) → IsSearchInRange r (length xs) → IsBinarySearchResult (λ y. nat_cmp (f y) n) xs r → IsBinarySearchResult (λ m. nat_cmp m n) (map f xs) r
+search_by f xs x n (Ok i) within h = λ d. rw (get_or-map f xs i x d within) (h x)
+search_by f xs x n (Err i) within h = λ up.
+    let parted = h (λ a b d le l. rw (← get_or-map f xs a d (f d) (omega (arith, le, l)), ← get_or-map f xs b d (f d) l) (up a b (f d) le (omega (arith, l, length-map xs f)))) in (
+      (λ k d low l. rw (get_or-map f xs k x d (omega (arith, l, within))) (parted.0 k x low l)),
+      (λ k d low l. rw (get_or-map f xs k x d (omega (arith, l, length-map xs f))) (parted.1 k x low (omega (arith, l, length-map xs f)))),
+    )
+
+pub search_found : (ps : List NumberPlace) (n : ℕ) (r : Result ℕ ℕ) → AreRising (counted_numbers ps) → IsSearchInRange r (length ps) → IsBinarySearchResult (λ (p : NumberPlace). nat_cmp p.no n) ps r → place_of n (counted_numbers ps) ≡ result_ok r
+search_found ps n r up within is =
+    found_place (counted_numbers ps) n r up (search_by (λ (p : NumberPlace). p.no) ps (record { no = 0; at = 0 }) n r within is)
+
 -- the place that a search among the sorted ones finds
-pub place_found : (ns order : List ℕ) (ps : List NumberPlace) (n : ℕ) → ArePlaced ns order ps → place_of n ns ≡ option_map (λ (p : NumberPlace). p.at) (option_and_then (slice_get ps) (place_of n order))
-place_found ns order ps n h = by (place_of n order) refl
+pub place_found : (ns : List ℕ) (ps : List NumberPlace) (n : ℕ) → ArePlaced ns ps → place_of n ns ≡ option_map (λ (p : NumberPlace). p.at) (option_and_then (slice_get ps) (place_of n (counted_numbers ps)))
+place_found ns ps n h = by (place_of n (counted_numbers ps)) refl
   where
     at_place : (k : ℕ) (o : Option NumberPlace) → slice_get ps k ≡ o → option_map (λ (p : NumberPlace). p.no) o ≡ Some n → place_of n ns ≡ option_map (λ (p : NumberPlace). p.at) o
     at_place k None e here = absurd cc
@@ -69,12 +85,12 @@ place_found ns order ps n h = by (place_of n order) refl
         let same : p.no ≡ n = cc in
         place_at ns n p.at h.differ (h.counted p (In-slice_get ps k p e) ∙ ap (λ x. Some x) same)
 
-    by : (o : Option ℕ) → place_of n order ≡ o → place_of n ns ≡ option_map (λ (p : NumberPlace). p.at) (option_and_then (slice_get ps) o)
+    by : (o : Option ℕ) → place_of n (counted_numbers ps) ≡ o → place_of n ns ≡ option_map (λ (p : NumberPlace). p.at) (option_and_then (slice_get ps) o)
     by None e = absent ns n (subst (λ xs. place_of n xs ≡ None) h.rising e)
     by (Some k) e =
-        let there = place_has n order k e in
-        let here : slice_get order k ≡ Some n = slice_get-get_or order k 0 there.0 ∙ ap (λ x. Some x) there.1 in
-        at_place k (slice_get ps k) refl (sym (slice_get-map (λ (p : NumberPlace). p.no) ps k) ∙ ap (λ xs. slice_get xs k) h.placed ∙ here)
+        let there = place_has n (counted_numbers ps) k e in
+        let here : slice_get (counted_numbers ps) k ≡ Some n = slice_get-get_or (counted_numbers ps) k 0 there.0 ∙ ap (λ x. Some x) there.1 in
+        at_place k (slice_get ps k) refl (sym (slice_get-map (λ (p : NumberPlace). p.no) ps k) ∙ here)
 
 -- ---- the places in two lists, one after the other
 

@@ -1,7 +1,7 @@
 -- A case with other bytes in one of its pages, or with touched blocks: its files, numbers and pages are the same.
-use Rattle.std.proofs.Common.{◌≡◌, ℕ, zero, suc, ◌++◌, List, [], ◌∷◌, map, Option, None, Some, refl, sym, ap, ◌∙◌}
+use Rattle.std.proofs.Common.{◌≡◌, ℕ, zero, suc, ◌++◌, ◌||◌, List, [], ◌∷◌, map, Option, None, Some, refl, sym, ap, ◌∙◌}
 use Rattle.std.specs.Prelude.{slice_get}
-use Rattle.std.specs.List.{flat_map}
+use Rattle.std.specs.List.{flat_map, list_any}
 use Rattle.std.specs.Option.{option_and_then, option_map}
 use Rattle.std.proofs.lemmas.List.{map-append}
 use Rattle.std.proofs.lemmas.Option.{slice_get-map}
@@ -22,7 +22,8 @@ use Rattle.trio_layout.specs.JudgedFiles.{written_at}
 use Rattle.trio_layout.specs.declared.range.CoreRange.{CoreRange}
 use Rattle.trio_case.specs.Cases.{CaseShown, IsCase}
 use Rattle.trio_case.specs.Places.{number_at}
-use Rattle.trio_case.specs.Rooms.{IsRoomFor, IsUnread}
+use Rattle.trio_case.specs.Memory.{is_directory, writes_directory}
+use Rattle.trio_case.specs.Rooms.{HasSpace, IsRoomFor, IsUnread}
 use Rattle.trio_case.specs.declared.numbers.Numbers.{Numbers}
 use Rattle.trio_case.specs.declared.places.PagePlace.{PagePlace}
 use Rattle.trio_case.specs.declared.places.PagePlace.TheVariants.{Index, Block, Fresh}
@@ -65,6 +66,7 @@ pub record Alike (b b' : Bundled) : Type 0 where
   pub places : (place : PagePlace) → number_at b' place ≡ number_at b place
   pub holds : b'.holds ≡ b.holds
   pub inodes : b'.inodes ≡ b.inodes
+  pub kinds : map (λ (f : LentFile). f.stands.kind) b'.writes ≡ map (λ (f : LentFile). f.stands.kind) b.writes
 
 met-same : (w w' : Written) (o : Option Row) → w'.ino ≡ w.ino → w'.kind ≡ w.kind → w'.body ≡ w.body → written_at w' o ≡ written_at w o
 met-same w w' None i k b = rw (i, k, b) refl
@@ -123,6 +125,7 @@ module _ (b : Bundled) (no : PageNo) (bytes : List ℕ) where
     places = places_same;
     holds = (rest_same b no bytes).0;
     inodes = (rest_same b no bytes).1;
+    kinds = writes_same (λ f. f.stands.kind) (λ f at w. refl) (λ f at w. refl) b no bytes;
   }
 
 -- ---- a bundle with all its blocks marked as touched
@@ -166,6 +169,7 @@ module _ (b : Bundled) where
     places = places_touched;
     holds = refl;
     inodes = refl;
+    kinds = touched-map (λ f. f.stands.kind) (λ f. refl) b.writes;
   }
 
 -- ---- what is true of a case
@@ -185,15 +189,31 @@ pub tells : (t : Numbers) (b b' : Bundled) → Alike b b' → Tells t b → Tell
 tells t b b' same h = record {
   writes = h.writes ∙ sym same.files;
   holds = h.holds ∙ ap (map (λ (x : HoldParts). x.ino)) (sym same.holds);
+  held_order = h.held_order;
   fresh = h.fresh ∙ ap (map (λ (x : InoParts). x.no)) (sym same.inodes);
 }
 
 -- ---- the room of its pages
+
+lists_by_kind : (fs : List LentFile) → list_any (λ (f : LentFile). is_directory f.stands.kind) fs ≡ list_any is_directory (map (λ (f : LentFile). f.stands.kind) fs)
+lists_by_kind [] = refl
+lists_by_kind (f ∷ fs) = ap (λ b. is_directory f.stands.kind || b) (lists_by_kind fs)
+
+pub lists_alike : (b b' : Bundled) → Alike b b' → writes_directory b' ≡ writes_directory b
+lists_alike b b' a = lists_by_kind b'.writes ∙ ap (list_any is_directory) a.kinds ∙ sym (lists_by_kind b.writes)
+
+space_alike : (k : CaseShown) (b' : Bundled) → Alike k.bundle b' → (room : PageRoom) → HasSpace k room → HasSpace (record k { bundle = b' }) room
+space_alike k b' a room h = record {
+  pages = rw (lists_alike k.bundle b' a) h.pages;
+  index = h.index;
+  blocks = h.blocks;
+  named = rw (lists_alike k.bundle b' a) h.named;
+}
 
 pub pages_alike : (k : CaseShown) (b' : Bundled) → Alike k.bundle b' → (room : PageRoom) → IsRoomFor k room → IsRoomFor (record k { bundle = b' }) room
 pages_alike k b' a room h = record {
   order = rw a.pages h.order;
   numbers = h.numbers;
   each = λ p i. (let u : IsUnread k.bundle p = h.each p i in record { place = a.places p.place ∙ u.place; entries = u.entries; index = u.index });
-  space = h.space;
+  space = space_alike k b' a room h.space;
 }

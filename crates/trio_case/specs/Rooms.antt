@@ -1,5 +1,5 @@
 -- What stands in the room of a judgement.
-use Rattle.std.specs.Prelude.{ℕ, ◌≡◌, ◌+◌, ◌*◌, ◌<◌, ◌≤◌, not, ⊤, List, [], map, length, take, drop, count_by, Option, None, Some, is_some, slice_get, vec_len, vec_capacity, MatchOption, MatchResult, Result, Ok, Err}
+use Rattle.std.specs.Prelude.{ℕ, ◌≡◌, ◌+◌, ◌*◌, ◌<◌, ◌≤◌, Bool, true, not, ⊤, List, [], map, length, take, drop, count_by, Option, None, Some, is_some, slice_get, vec_len, vec_capacity, MatchOption, MatchResult, Result, Ok, Err}
 use Rattle.std.specs.List.{flat_map}
 use Rattle.std.specs.Option.{option_and_then, option_map_or}
 use Rattle.trio_rights.specs.declared.kind.Kind.{Kind}
@@ -21,6 +21,8 @@ use Rattle.trio_case.specs.Cases.{CaseShown, case_in}
 use Rattle.trio_case.specs.Places.{bytes_at, number_at}
 use Rattle.trio_case.specs.Order.{in_order, place_of, AreRising}
 use Rattle.trio_case.specs.Reading.{listed_seen, place_seen, AreNamed}
+use Rattle.trio_case.specs.Memory.{size_of, writes_directory, IsWithin}
+use Rattle.trio_case.specs.declared.size.BundleSize.{BundleSize}
 use Rattle.trio_case.specs.declared.room.PageRoom.{PageRoom}
 use Rattle.trio_case.specs.declared.entries.DirEntry.{DirEntry}
 use Rattle.trio_case.specs.declared.entries.FaultPlace.{FaultPlace}
@@ -77,29 +79,29 @@ pub record HasPagePlaces (count : ℕ) (kept : KeptPages) : Type 0 where
   pub order : count ≤ vec_capacity kept.order
   pub pages : count ≤ vec_capacity kept.pages
 
--- and for whatever so many pages may say, of which nothing was read
-pub record HasReadPlaces (count : ℕ) (kept : KeptPages) : Type 0 where
-  pub places : HasPagePlaces count kept
-  pub entries : 16 * count ≤ vec_capacity kept.entries
-  pub numbers : 511 * count ≤ vec_capacity kept.numbers
-  pub names : 16 * count ≤ kept.names.room
+-- there are places for the pages of a bundle of this size and for whatever they may say, of which nothing was read
+pub record HasReadPlaces (size : BundleSize) (kept : KeptPages) : Type 0 where
+  pub places : HasPagePlaces size.pages kept
+  pub entries : size.lists ≡ true → 16 * size.pages ≤ vec_capacity kept.entries
+  pub numbers : 511 * size.pages ≤ vec_capacity kept.numbers
+  pub names : size.lists ≡ true → 16 * size.pages ≤ kept.names.room
   pub no_entries : vec_len kept.entries ≡ 0
   pub no_numbers : vec_len kept.numbers ≡ 0
   pub no_names : length kept.names.names ≡ 0
 
--- there is a place for whatever the pages may say that weren't read yet: 16 entries of a directory block with their
--- names, and 511 numbers of an index page
-pub record HasPlaces (kept : KeptPages) : Type 0 where
-  pub entries : vec_len kept.entries + 16 * unread_blocks kept ≤ vec_capacity kept.entries
+-- there is a place for whatever the pages may say that weren't read yet: 511 numbers of an index page and, where directories are
+-- read, 16 entries of a directory block with their names
+pub record HasPlaces (lists : Bool) (kept : KeptPages) : Type 0 where
   pub numbers : vec_len kept.numbers + 511 * unread_index kept ≤ vec_capacity kept.numbers
-  pub names : length kept.names.names + 16 * unread_blocks kept ≤ kept.names.room
+  pub entries : lists ≡ true → vec_len kept.entries + 16 * unread_blocks kept ≤ vec_capacity kept.entries
+  pub names : lists ≡ true → length kept.names.names + 16 * unread_blocks kept ≤ kept.names.room
 
 -- there is a place for whatever the pages may say, for the chain of any file, and for a mark of each name
-pub record HasSpace (range : CoreRange) (room : PageRoom) : Type 0 where
-  pub pages : HasPlaces room.kept
-  pub index : index_count (core_count range) ≤ vec_capacity room.index
-  pub blocks : core_count range ≤ vec_capacity room.blocks
-  pub named : length room.kept.names.names + 16 * unread_blocks room.kept ≤ length room.named
+pub record HasSpace (k : CaseShown) (room : PageRoom) : Type 0 where
+  pub pages : HasPlaces (writes_directory k.bundle) room.kept
+  pub index : index_count (core_count k.range) ≤ vec_capacity room.index
+  pub blocks : core_count k.range ≤ vec_capacity room.blocks
+  pub named : writes_directory k.bundle ≡ true → length room.kept.names.names + 16 * unread_blocks room.kept ≤ length room.named
 
 -- the kept entries of a directory block are those that its bytes list, and each has one of the names
 pub record SaysEntries (inodes no : ℕ) (names : List (List ℕ)) (entries : List DirEntry) (bytes : List ℕ) (s : Span) : Type 0 where
@@ -139,7 +141,7 @@ pub record KeepsPages (k : CaseShown) (kept : KeptPages) : Type 0 where
 -- What is kept in the room is true of the case, and there is space for the rest.
 pub record Keeps (k : CaseShown) (room : PageRoom) : Type 0 where
   pub pages : KeepsPages k room.kept
-  pub space : HasSpace k.range room
+  pub space : HasSpace k room
   pub first : 0 < k.range.first
 
 -- a page of which nothing was read yet
@@ -158,17 +160,16 @@ pub record IsRoomFor (k : CaseShown) (room : PageRoom) : Type 0 where
   pub order : room.kept.order.items ≡ in_order (bundle_pages (bundle_in k.bundle))
   pub numbers : map (λ p. p.no) room.kept.pages.items ≡ room.kept.order.items
   pub each : (p : KeptPage) → In p room.kept.pages.items → IsUnread k.bundle p
-  pub space : HasSpace k.range room
+  pub space : HasSpace k room
 
--- There is memory for what is read of this case, whatever its pages say then. It goes by the count of the bundle's pages and
--- of core pages.
+-- There is memory for what is read of this case, whatever its pages say then. It goes by the size of the bundle and the count of
+-- core pages.
 pub record HasPageMemory (k : CaseShown) (room : PageRoom) : Type 0 where
-  pub kept : HasReadPlaces (length (bundle_pages (bundle_in k.bundle))) room.kept
+  pub kept : HasReadPlaces (size_of k.bundle) room.kept
   pub index : index_count (core_count k.range) ≤ vec_capacity room.index
   pub blocks : core_count k.range ≤ vec_capacity room.blocks
-  pub named : 16 * length (bundle_pages (bundle_in k.bundle)) ≤ length room.named
+  pub named : writes_directory k.bundle ≡ true → 16 * length (bundle_pages (bundle_in k.bundle)) ≤ length room.named
 
--- memory that was made for so many pages of a bundle and of the core is so for each case of no more pages, and of just so large a core
-abbrev pub IsPageMemory : ℕ → ℕ → PageRoom → Type 0
-IsPageMemory pages core room =
-    (k : CaseShown) → length (bundle_pages (bundle_in k.bundle)) ≤ pages → core_count k.range ≡ core → HasPageMemory k room
+-- memory that was made for a size of a bundle and so large a core is so for each case of no larger bundle, and of just so large a core
+abbrev pub IsPageMemory : BundleSize → ℕ → PageRoom → Type 0
+IsPageMemory size core room = (k : CaseShown) → IsWithin k.bundle size → core_count k.range ≡ core → HasPageMemory k room

@@ -223,7 +223,7 @@ impl Case {
     pub fn held_numbers(&self) -> &[u32]
         ensures { result.now ≡ sorted_by (λ n. n) (bundle_in self.now.bundle).holds }
     {
-        self.numbers.holds.in_order()
+        &self.numbers.held_order
     }
 
     /// The place of a number among those of the write leases, and then of those that were handed in. `None`

@@ -11,6 +11,7 @@ ghost use Rattle.trio_layout.specs.Within.{chain_of_within};
 ghost use Rattle.trio_page.specs.Home.{raised};
 ghost use Rattle.trio_case.specs.Cases.{case_in};
 ghost use Rattle.trio_case.specs.Places.{bytes_at};
+ghost use Rattle.trio_case.specs.Memory.{writes_directory};
 ghost use Rattle.trio_case.specs.Rooms.{looks_left, part, unread_blocks, unread_index, HasPlaces, Keeps, KeepsPages, SaysIndex};
 ghost use Rattle.trio_case.specs.inner.Steps.{IndexAnswer, IsBadIndex, IsIndexKept, IsIndexRead, StandsAt};
 
@@ -94,11 +95,11 @@ fn read_index(
     requires many { used ≤ 511 }
     requires first { 0 < case.now.range.first }
     requires keeps { KeepsPages case.now kept.old }
-    requires places { HasPlaces kept.old }
+    requires places { HasPlaces (writes_directory case.now.bundle) kept.old }
     requires room { vec_len blocks.old + used ≤ vec_capacity blocks.old }
     ensures read { IndexAnswer (page_of (bundle_core (case_in case.now)) no) used last case.now.range result blocks.old.items blocks.new.items }
     ensures keeps { KeepsPages case.now kept.new }
-    ensures places { HasPlaces kept.new }
+    ensures places { HasPlaces (writes_directory case.now.bundle) kept.new }
     ensures len { vec_len blocks.new ≤ vec_len blocks.old + used }
     ensures room { vec_capacity blocks.old ≤ vec_capacity blocks.new }
     ensures same { (kept.new.names ≡ kept.old.names) × (unread_blocks kept.new ≡ unread_blocks kept.old) }
@@ -133,11 +134,11 @@ fn index_page(
     requires many { used ≤ 511 }
     requires page { StandsAt kept.old page.no at page }
     requires keeps { KeepsPages case.now kept.old }
-    requires places { HasPlaces kept.old }
+    requires places { HasPlaces (writes_directory case.now.bundle) kept.old }
     ensures read { let bytes = page_of (bundle_core (case_in case.now)) page.no in
         MatchOption result (IsBadIndex bytes used last case.now.range) (IsIndexKept bytes case.now.range kept.new.numbers.items) }
     ensures keeps { KeepsPages case.now kept.new }
-    ensures places { HasPlaces kept.new }
+    ensures places { HasPlaces (writes_directory case.now.bundle) kept.new }
     ensures same { (kept.new.names ≡ kept.old.names) × (unread_blocks kept.new ≡ unread_blocks kept.old) }
     ensures looks { IfSome result (λ _. reads.new + unread_index kept.new ≤ reads.old + unread_index kept.old) }
     ensures last { reads.new ≤ reads.old + unread_index kept.old }
@@ -174,11 +175,11 @@ fn keep_index(
     requires page { StandsAt kept.old page.no at page }
     requires unread { page.index ≡ None }
     requires keeps { KeepsPages case.now kept.old }
-    requires places { HasPlaces kept.old }
+    requires places { HasPlaces (writes_directory case.now.bundle) kept.old }
     ensures read { let bytes = page_of (bundle_core (case_in case.now)) page.no in
         MatchOption result (IsBadIndex bytes used last case.now.range) (IsIndexRead bytes used last case.now.range kept.new.numbers.items) }
     ensures keeps { KeepsPages case.now kept.new }
-    ensures places { HasPlaces kept.new }
+    ensures places { HasPlaces (writes_directory case.now.bundle) kept.new }
     ensures same { (kept.new.names ≡ kept.old.names) × (unread_blocks kept.new ≡ unread_blocks kept.old) }
     ensures looks { IfSome result (λ _. reads.new + unread_index kept.new ≤ reads.old + unread_index kept.old) }
     ensures last { reads.new ≤ reads.old + unread_index kept.old }

@@ -1,6 +1,6 @@
 //! The entries of a directory, as far as its pages are the bundle's.
 
-ghost use Rattle.std.specs.Prelude.{◌≡◌, ◌++◌, ◌∷◌, [], ◌+◌, ◌*◌, ◌<◌, ◌≤◌, ℕ, List, None, Some, IsSome, Ok, Err, OnOk, OnErr, length, map, take, drop, if◌then◌else◌, vec_len, vec_capacity};
+ghost use Rattle.std.specs.Prelude.{◌≡◌, ◌++◌, ◌∷◌, [], ◌+◌, ◌*◌, ◌<◌, ◌≤◌, ℕ, List, None, Some, IsSome, Ok, Err, OnOk, OnErr, length, map, take, drop, if◌then◌else◌, true, vec_len, vec_capacity};
 ghost use Rattle.std.specs.List.{flat_map};
 ghost use Rattle.trio_lists.specs.Lists.{gathered};
 ghost use Rattle.trio_layout.specs.Case.{bundle_core};
@@ -52,11 +52,11 @@ pub(crate) fn read_entries(
     reads: &mut Reads,
 ) -> Result<(), FaultPlace>
     requires keeps { KeepsPages case.now kept.old }
-    requires places { HasPlaces kept.old }
+    requires places { HasPlaces true kept.old }
     ensures entries { let core = bundle_core (case_in case.now) in
         result_seen (λ _. flat_map (entries_kept kept.new) blocks.now) result ≡ gathered (λ page. entries_where case.now.inodes page (page_of core page)) blocks.now }
     ensures keeps { KeepsPages case.now kept.new }
-    ensures places { HasPlaces kept.new }
+    ensures places { HasPlaces true kept.new }
     ensures most { length kept.new.names.names + 16 * unread_blocks kept.new ≤ length kept.old.names.names + 16 * unread_blocks kept.old }
     ensures same { unread_index kept.new ≡ unread_index kept.old }
     ensures looks { OnOk result (reads.new + unread_blocks kept.new ≤ reads.old + unread_blocks kept.old) }
@@ -79,11 +79,11 @@ fn keep_block(
     reads: &mut Reads,
 ) -> Result<(), FaultPlace>
     requires keeps { KeepsPages case.now kept.old }
-    requires places { HasPlaces kept.old }
+    requires places { HasPlaces true kept.old }
     ensures here { BlockAnswer case.now kept.new no result }
     ensures others { (page : ℕ) → IsDone case.now kept.old page → IsDone case.now kept.new page }
     ensures keeps { KeepsPages case.now kept.new }
-    ensures places { HasPlaces kept.new }
+    ensures places { HasPlaces true kept.new }
     ensures most { length kept.new.names.names + 16 * unread_blocks kept.new ≤ length kept.old.names.names + 16 * unread_blocks kept.old }
     ensures same { unread_index kept.new ≡ unread_index kept.old }
     ensures looks { OnOk result (reads.new + unread_blocks kept.new ≤ reads.old + unread_blocks kept.old) }
@@ -113,11 +113,11 @@ fn keep_entries(
     requires page { StandsAt kept.old page.no at page }
     requires unread { page.entries ≡ None }
     requires keeps { KeepsPages case.now kept.old }
-    requires places { HasPlaces kept.old }
+    requires places { HasPlaces true kept.old }
     ensures here { BlockAnswer case.now kept.new page.no result }
     ensures others { (page : ℕ) → IsDone case.now kept.old page → IsDone case.now kept.new page }
     ensures keeps { KeepsPages case.now kept.new }
-    ensures places { HasPlaces kept.new }
+    ensures places { HasPlaces true kept.new }
     ensures most { length kept.new.names.names + 16 * unread_blocks kept.new ≤ length kept.old.names.names + 16 * unread_blocks kept.old }
     ensures same { unread_index kept.new ≡ unread_index kept.old }
     ensures looks { reads.new + unread_blocks kept.new ≤ reads.old + unread_blocks kept.old }

@@ -1,9 +1,11 @@
 //! One file read as far as its pages are the bundle's.
 
-ghost use Rattle.std.specs.Prelude.{◌≡◌, ◌+◌, ◌≤◌, OnOk};
+ghost use Rattle.std.specs.Prelude.{◌≡◌, ◌+◌, ◌≤◌, OnOk, true};
+ghost use Rattle.trio_rights.specs.declared.kind.Kind.TheVariants.{Directory};
 ghost use Rattle.trio_layout.specs.Case.{file_in};
 ghost use Rattle.trio_layout.specs.Survey.{Met};
 ghost use Rattle.trio_case.specs.Cases.{case_in};
+ghost use Rattle.trio_case.specs.Memory.{writes_directory};
 ghost use Rattle.trio_case.specs.Reading.{result_seen};
 ghost use Rattle.trio_case.specs.Rooms.{file_in_room, looks_left, Keeps};
 
@@ -20,6 +22,8 @@ use trio_rights::Kind;
 /// slot for its body, an index page as a whole, a bad slot, or the first entry that has the name of
 /// one before it. Its chain and its entries then stand in the room.
 ///
+/// The file is no directory where the bundle writes none.
+///
 /// It takes no memory, and looks at a page only where the room doesn't keep what the page says.
 /// Each look but that at the fault leaves one look less that the judgement may make.
 #[tactic(auto, unfolding(trio_layout::specs::Within::file_within))]
@@ -31,6 +35,7 @@ pub fn read_file(
     reads: &mut Reads,
 ) -> Result<Body, FaultPlace>
     requires room { Keeps case.now room.old }
+    requires lists { kind ≡ Directory → writes_directory case.now.bundle ≡ true }
     ensures file { (m : Met) → m.kind ≡ kind → m.body ≡ body.now
         → result_seen (file_in_room room.new kind) result ≡ file_in (case_in case.now) m }
     ensures room { Keeps case.now room.new }

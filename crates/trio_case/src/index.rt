@@ -56,7 +56,7 @@ impl PageIndex {
     }
 
     /// Where the page of this number stands; `None` exactly where it is none of the bundle's.
-    pub fn place(&self, case: &Case, no: u32) -> Option<PagePlace>
+    fn place(&self, case: &Case, no: u32) -> Option<PagePlace>
         requires { IsIndexOf case.now self.now }
         ensures { option_and_then (bytes_at case.now.bundle) result ≡ page_of (bundle_core (case_in case.now)) no }
     {

@@ -1,6 +1,6 @@
 //! The pages of a bundle, with what they say as far as that was read.
 
-ghost use Rattle.std.specs.Prelude.{◌≡◌, ◌+◌, ◌*◌, ◌≤◌, ◌++◌, [], None, Some, MatchOption, IfOk, length, map, slice_get, vec_capacity, vec_len};
+ghost use Rattle.std.specs.Prelude.{◌≡◌, ◌+◌, ◌*◌, ◌≤◌, ◌++◌, [], None, Some, MatchOption, IfOk, if◌then◌else◌, length, map, slice_get, vec_capacity, vec_len};
 ghost use Rattle.trio_rights.specs.Bundle.{bundle_pages};
 ghost use Rattle.trio_lists.specs.Lists.{In};
 ghost use Rattle.trio_lease.specs.Bundles.{Bundled};
@@ -15,6 +15,7 @@ use crate::case::Case;
 use crate::entries::{DirEntry, FaultPlace};
 use crate::listing::push;
 use crate::places::PagePlace;
+use crate::size::BundleSize;
 use std::alloc::Global;
 use trio_lease::{Bundle, FreshPage, WriteLease};
 use trio_nameset::{NAME_BYTES, NameSet};
@@ -87,16 +88,16 @@ impl KeptPages {
         })
     }
 
-    /// No pages, with places for so many, and for whatever they may say.
-    pub fn for_reading(alloc: Global, pages: usize) -> Result<KeptPages, NoMemory>
-        ensures { IfOk result (HasReadPlaces pages) }
+    /// No pages, with places for those of a bundle of this size, and for whatever they may say.
+    pub fn for_reading(alloc: Global, size: BundleSize) -> Result<KeptPages, NoMemory>
+        ensures { IfOk result (HasReadPlaces size) }
     {
-        let entries = pages.checked_mul(16).ok_or(NoMemory)?;
-        let numbers = pages.checked_mul(511).ok_or(NoMemory)?;
-        let names = name_count(pages)?;
+        let entries = size.entries()?;
+        let numbers = size.pages.checked_mul(511).ok_or(NoMemory)?;
+        let names = name_count(size)?;
         Ok(KeptPages {
-            order: Vec::with_capacity(alloc, pages)?,
-            pages: Vec::with_capacity(alloc, pages)?,
+            order: Vec::with_capacity(alloc, size.pages)?,
+            pages: Vec::with_capacity(alloc, size.pages)?,
             entries: Vec::with_capacity(alloc, entries)?,
             numbers: Vec::with_capacity(alloc, numbers)?,
             names: NameSet::with(alloc, names)?,
@@ -149,11 +150,11 @@ impl KeptPages {
     }
 }
 
-/// How many names the entries of so many directory blocks have at most.
-pub(crate) fn name_count(blocks: usize) -> Result<u32, NoMemory>
-    ensures { IfOk result (λ n. n ≡ 16 * blocks) }
+/// How many names the entries of so large a bundle have at most.
+pub(crate) fn name_count(size: BundleSize) -> Result<u32, NoMemory>
+    ensures { IfOk result (λ n. n ≡ (if size.lists then 16 * size.pages else 0)) }
 {
-    let entries = blocks.checked_mul(16).ok_or(NoMemory)?;
+    let entries = size.entries()?;
     match u32::try_from(entries) {
         Ok(names) => Ok(names),
         Err(_) => Err(NoMemory),

@@ -36,6 +36,5 @@ pub use listing::{
     LISTED_BYTES, LISTED_NUMBER_BYTES, ListedEntry, ListedFile, Listing, ListingRoom,
 };
 pub use memory::{CASE_BYTES, CaseMemory};
-pub use places::PagePlace;
 pub use room::{PageRoom, READ_CORE_BYTES, READ_PAGE_BYTES};
 pub use size::{BundleSize, BytesEach, table_size};

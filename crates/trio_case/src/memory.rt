@@ -3,8 +3,7 @@
 ghost use Rattle.std.specs.Prelude.{IfOk};
 ghost use Rattle.trio_case.specs.Memory.{IsCaseMemory};
 
-use crate::numbered::NUMBER_BYTES;
-use crate::numbers::{FILE_BYTES, NumbersMemory, ROW_BYTES, RowsMemory};
+use crate::numbers::{FILE_BYTES, NUMBERS_BYTES, NumbersMemory, ROW_BYTES, RowsMemory};
 use crate::size::{BundleSize, BytesEach};
 use std::alloc::Global;
 use trio_page::NoMemory;
@@ -12,7 +11,7 @@ use trio_page::NoMemory;
 /// How many bytes the memory of a case takes.
 pub const CASE_BYTES: BytesEach = BytesEach {
     page: 16 * ROW_BYTES,
-    value: 3 * NUMBER_BYTES + FILE_BYTES,
+    value: NUMBERS_BYTES + FILE_BYTES,
 };
 
 /// All the memory of a case, by how much its bundle may have. It can be made before there is a bundle.
@@ -28,8 +27,8 @@ impl CaseMemory {
         ensures { IfOk result (IsCaseMemory size) }
     {
         Ok(CaseMemory {
-            numbers: NumbersMemory::with(alloc, size.values)?,
-            rows: RowsMemory::with(alloc, size.values, size.pages)?,
+            numbers: NumbersMemory::with(alloc, size)?,
+            rows: RowsMemory::with(alloc, size)?,
         })
     }
 }

@@ -18,13 +18,12 @@ pub(crate) struct NumberPlace {
 }
 
 /// How many bytes a room takes for each number.
-pub(crate) const NUMBER_BYTES: usize = 2 * size_of::<u32>() + size_of::<NumberPlace>();
+pub(crate) const NUMBER_BYTES: usize = size_of::<u32>() + size_of::<NumberPlace>();
 
 /// Numbers in the order in which they were added, with the memory to sort them.
 #[derive(Drop)]
 pub(crate) struct NumbersRoom {
     pub numbers: Vec<u32>,
-    pub order: Vec<u32>,
     pub places: Vec<NumberPlace>,
 }
 
@@ -36,7 +35,6 @@ impl NumbersRoom {
     {
         Ok(NumbersRoom {
             numbers: Vec::with_capacity(alloc, count)?,
-            order: Vec::with_capacity(alloc, count)?,
             places: Vec::with_capacity(alloc, count)?,
         })
     }
@@ -48,9 +46,7 @@ impl NumbersRoom {
 #[derive(Drop)]
 pub(crate) struct Places {
     numbers: Vec<u32>,
-    // the numbers in rising order
-    order: Vec<u32>,
-    // by that order, each with its place
+    // each with its place, in rising order of the numbers
     places: Vec<NumberPlace>,
 }
 
@@ -62,7 +58,7 @@ impl Model for Places {
 
     ghost view = { λ p. p.numbers.items };
 
-    ghost invariant = { λ p. ArePlaced p.numbers.items p.order.items p.places.items };
+    ghost invariant = { λ p. ArePlaced p.numbers.items p.places.items };
 }
 
 impl Places {
@@ -74,24 +70,21 @@ impl Places {
     {
         let NumbersRoom {
             numbers,
-            mut order,
             mut places,
         } = room;
         set_places(&mut places, &numbers);
         sort_places(&mut places);
-        set_order(&mut order, &places);
-        Places {
-            numbers,
-            order,
-            places,
-        }
+        Places { numbers, places }
     }
 
     /// The place of a number; `None` exactly where it is none of these.
     pub fn find(&self, no: u32) -> Option<usize>
         ensures { result ≡ place_of no self.now }
     {
-        let at = self.order.binary_search(&no).ok()?;
+        let at = self
+            .places
+            .binary_search_by_key(&no, |place| place.no)
+            .ok()?;
         Some(self.places.get(at)?.at)
     }
 
@@ -110,11 +103,13 @@ impl Places {
         self.numbers.len()
     }
 
-    /// The numbers in rising order.
-    pub fn in_order(&self) -> &[u32]
-        ensures { result.now ≡ in_order self.now }
+    /// The numbers in rising order, in a list that has places for them.
+    pub fn in_order(&self, mut order: Vec<u32>) -> Vec<u32>
+        requires { length self.now ≤ vec_capacity order }
+        ensures { result.items ≡ in_order self.now }
     {
-        &self.order
+        set_order(&mut order, &self.places);
+        order
     }
 }
 

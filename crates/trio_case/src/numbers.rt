@@ -1,6 +1,6 @@
 //! What a bundle has under an inode number, and the rows that are copied for it.
 
-ghost use Rattle.std.specs.Prelude.{◌≡◌, ◌≤◌, ◌+◌, ◌*◌, ◌++◌, [], ◌||◌, ℕ, ◌↔◌, IfOk, IsTrue, count_by, length, map, true, vec_capacity};
+ghost use Rattle.std.specs.Prelude.{◌≡◌, ◌≤◌, ◌+◌, ◌*◌, ◌++◌, [], ◌||◌, ℕ, ◌↔◌, IfOk, IsTrue, count_by, length, map, if◌then◌else◌, true, vec_capacity};
 ghost use Rattle.std.specs.List.{list_all};
 ghost use Rattle.std.specs.Option.{option_map};
 ghost use Rattle.trio_rights.specs.Row.{row_in};
@@ -12,7 +12,7 @@ ghost use Rattle.trio_layout.specs.Copied.{copied_row};
 ghost use Rattle.trio_layout.specs.Allowed.{has_kind};
 ghost use Rattle.trio_tables.specs.Row.{as_row};
 ghost use Rattle.trio_case.specs.Cases.{is_child, lent_numbers, HasDirectoryParents};
-ghost use Rattle.trio_case.specs.Memory.{value_count};
+ghost use Rattle.trio_case.specs.Memory.{size_of};
 ghost use Rattle.trio_case.specs.Order.{place_of};
 ghost use Rattle.trio_case.specs.inner.Maps.{most_copied, row_kept, rows_seen, HasCopied, Tells};
 ghost use Rattle.trio_case.specs.inner.Memory.{HasNoRows, HasNumbersMemory, HasRowPlaces, HasRowsFor, NumbersDiffer};
@@ -20,8 +20,8 @@ ghost use Rattle.trio_case.specs.inner.Numbered.{HasNumberPlaces};
 ghost use Rattle.trio_case.specs.inner.RowLists.{row_listed};
 
 use crate::listing::push;
-use crate::numbered::{NumbersRoom, Places};
-use crate::size::writes_directory;
+use crate::numbered::{NUMBER_BYTES, NumbersRoom, Places};
+use crate::size::{BundleSize, writes_directory};
 use std::alloc::Global;
 use std::marker::Model;
 use trio_lease::{Bundle, FreshIno, HoldLease, WriteLease};
@@ -35,27 +35,34 @@ pub(crate) struct Numbers {
     pub writes: Places,
     /// Those of its holds.
     pub holds: Places,
+    /// Those of its holds, in rising order.
+    pub held_order: Vec<u32>,
     /// Those that were handed in.
     pub fresh: Places,
 }
+
+/// How many bytes there are for the inode numbers of a bundle, for each of its values.
+pub(crate) const NUMBERS_BYTES: usize = 3 * NUMBER_BYTES + size_of::<u32>();
 
 /// The memory of the inode numbers of a bundle.
 #[derive(Drop)]
 pub(crate) struct NumbersMemory {
     pub writes: NumbersRoom,
     pub holds: NumbersRoom,
+    pub held_order: Vec<u32>,
     pub fresh: NumbersRoom,
 }
 
 impl NumbersMemory {
-    /// Memory for so many write leases, holds and handed-in numbers, each.
-    pub fn with(alloc: Global, values: usize) -> Result<NumbersMemory, NoMemory>
-        ensures { IfOk result (HasNumbersMemory values) }
+    /// Memory for the inode numbers of a bundle of this size.
+    pub fn with(alloc: Global, size: BundleSize) -> Result<NumbersMemory, NoMemory>
+        ensures { IfOk result (HasNumbersMemory size) }
     {
         Ok(NumbersMemory {
-            writes: NumbersRoom::with(alloc, values)?,
-            holds: NumbersRoom::with(alloc, values)?,
-            fresh: NumbersRoom::with(alloc, values)?,
+            writes: NumbersRoom::with(alloc, size.values)?,
+            holds: NumbersRoom::with(alloc, size.holds)?,
+            held_order: Vec::with_capacity(alloc, size.holds)?,
+            fresh: NumbersRoom::with(alloc, size.inodes)?,
         })
     }
 }
@@ -63,18 +70,22 @@ impl NumbersMemory {
 impl Numbers {
     /// The inode numbers of a bundle, which differ. It takes no memory.
     pub fn of(memory: NumbersMemory, bundle: &Bundle) -> Numbers
-        requires memory { HasNumbersMemory (value_count bundle.now) memory }
+        requires memory { HasNumbersMemory (size_of bundle.now) memory }
         requires differ { NumbersDiffer bundle.now }
         ensures { Tells result bundle.now }
     {
         let NumbersMemory {
             writes,
             holds,
+            held_order,
             fresh,
         } = memory;
+        let holds = held(holds, bundle.holds());
+        let held_order = holds.in_order(held_order);
         Numbers {
             writes: written(writes, bundle.writes()),
-            holds: held(holds, bundle.holds()),
+            holds,
+            held_order,
             fresh: handed_in(fresh, bundle.inodes()),
         }
     }
@@ -237,20 +248,27 @@ pub(crate) struct RowsMemory {
 }
 
 impl RowsMemory {
-    /// Memory for the rows of so many files, and of 16 children to each of so many pages.
-    pub fn with(alloc: Global, values: usize, pages: usize) -> Result<RowsMemory, NoMemory>
-        ensures few { IfOk result (λ m. values ≤ vec_capacity m.few) }
-        ensures no_few { IfOk result (λ m. m.few.items ≡ []) }
-        ensures listed { IfOk result (λ m. HasRowPlaces (values + 16 * pages) m.listed) }
-        ensures none_listed { IfOk result (λ m. HasNoRows m.listed) }
+    /// Memory for the rows of a bundle of this size.
+    pub fn with(alloc: Global, size: BundleSize) -> Result<RowsMemory, NoMemory>
+        ensures { IfOk result (HasRowsFor size) }
     {
-        let children = pages.checked_mul(16).ok_or(NoMemory)?;
-        let count = values.checked_add(children).ok_or(NoMemory)?;
         Ok(RowsMemory {
-            listed: RowsRoom::with(alloc, count)?,
-            few: Vec::with_capacity(alloc, values)?,
+            listed: RowsRoom::with(alloc, listed_count(size)?)?,
+            few: Vec::with_capacity(alloc, size.values)?,
         })
     }
+}
+
+/// How many rows with their numbers are copied for a bundle of this size, at most: none where it writes no
+/// directory.
+fn listed_count(size: BundleSize) -> Result<usize, NoMemory>
+    ensures { IfOk result (λ n. n ≡ (if size.lists then size.values + 16 * size.pages else 0)) }
+{
+    if !size.lists {
+        return Ok(0);
+    }
+    let children = size.entries()?;
+    size.values.checked_add(children).ok_or(NoMemory)
 }
 
 impl CopiedRows {
@@ -273,7 +291,7 @@ pub(crate) fn copy_rows(
     numbers: &Numbers,
     rows: &Shadow,
 ) -> CopiedRows
-    requires memory { HasRowsFor bundle.now memory }
+    requires memory { HasRowsFor (size_of bundle.now) memory }
     requires tells { Tells numbers.now bundle.now }
     requires parents { HasDirectoryParents rows.now }
     requires written { list_all (λ f. has_kind f.stands.kind (row_in rows.now f.stands.ino)) bundle.now.writes ≡ true }

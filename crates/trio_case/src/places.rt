@@ -10,7 +10,7 @@ use trio_page::{Page, Reads};
 
 /// The place of a page in its bundle.
 #[derive(Clone, Copy)]
-pub enum PagePlace {
+pub(crate) enum PagePlace {
     /// An index page of a write lease: which lease, and which page.
     Index(usize, usize),
     /// A block of a write lease: which lease, and which page.

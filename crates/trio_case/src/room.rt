@@ -11,6 +11,7 @@ ghost use Rattle.trio_case.specs.Rooms.{entries_kept, looks_left, HasPageMemory,
 use crate::case::Case;
 use crate::entries::DirEntry;
 use crate::kept::{KEPT_BYTES, KeptPages, SAID_BYTES, name_count};
+use crate::size::BundleSize;
 use std::alloc::Global;
 use trio_marks::Marks;
 use trio_page::NoMemory;
@@ -22,7 +23,7 @@ pub const READ_PAGE_BYTES: usize = KEPT_BYTES + SAID_BYTES + 16 * size_of::<u32>
 /// How many bytes it takes for each core page of the image, beside those for index pages.
 pub const READ_CORE_BYTES: usize = size_of::<u32>();
 
-/// The memory of what is read of a case, by the number of the bundle's pages and of core pages.
+/// The memory of what is read of a case, by the size of the bundle and the number of core pages.
 ///
 /// What a page of the bundle says is kept here once it was read.
 #[derive(Drop)]
@@ -37,13 +38,13 @@ pub struct PageRoom {
 }
 
 impl PageRoom {
-    /// Memory for what is read of any bundle of at most so many pages, of an image of so many core pages.
-    /// It can be made before there is a bundle.
-    pub fn with(alloc: Global, pages: usize, core: usize) -> Result<PageRoom, NoMemory>
-        ensures { IfOk result (IsPageMemory pages core) }
+    /// Memory for what is read of any bundle of at most this size, of an image of so many core pages. It can
+    /// be made before there is a bundle.
+    pub fn with(alloc: Global, size: BundleSize, core: usize) -> Result<PageRoom, NoMemory>
+        ensures { IfOk result (IsPageMemory size core) }
     {
-        let kept = KeptPages::for_reading(alloc, pages)?;
-        let names = name_count(pages)?;
+        let kept = KeptPages::for_reading(alloc, size)?;
+        let names = name_count(size)?;
         Ok(PageRoom {
             kept,
             index: Vec::with_capacity(alloc, core.div_ceil(511))?,

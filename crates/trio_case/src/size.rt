@@ -1,6 +1,6 @@
 //! How large a bundle may be.
 
-ghost use Rattle.std.specs.Prelude.{◌≡◌, ◌+◌, ◌-◌, ◌*◌, ◌≤◌, ℕ, IfOk, if◌then◌else◌};
+ghost use Rattle.std.specs.Prelude.{◌≡◌, ◌+◌, ◌-◌, ◌*◌, ◌≤◌, ℕ, IfOk, if◌then◌else◌, true};
 ghost use Rattle.trio_case.specs.Memory.{size_of, value_count, writes_directory};
 
 use crate::kept::page_count;
@@ -8,12 +8,18 @@ use trio_lease::Bundle;
 use trio_page::NoMemory;
 use trio_rights::Kind;
 
-/// How many pages a bundle has at most, and how many values: write leases, holds and handed-in inode
-/// numbers together.
+/// How much a bundle has at most.
 #[derive(Clone, Copy)]
 pub struct BundleSize {
     pub pages: usize,
+    /// Write leases, holds and handed-in inode numbers together.
     pub values: usize,
+    /// Of these, holds.
+    pub holds: usize,
+    /// Of these, handed-in inode numbers.
+    pub inodes: usize,
+    /// Whether it may write a directory. Only then is anything listed.
+    pub lists: bool,
 }
 
 /// How many bytes memory takes for each page of a bundle, and for each write lease, hold and handed-in inode
@@ -31,11 +37,16 @@ impl BundleSize {
     pub fn within(bytes: u64, numbers: u32) -> BundleSize
         ensures enough { (pages values : ℕ) → 4 * numbers + 16384 * pages + 1024 * (1 + values) ≤ bytes → (pages ≤ result.pages) × (values ≤ result.values) }
         ensures few { (16384 * result.pages ≤ bytes - (4 * numbers + 1024)) × (1024 * result.values ≤ bytes - (4 * numbers + 1024)) }
+        ensures all { (result.holds ≡ result.values) × (result.inodes ≡ result.values) × (result.lists ≡ true) }
     {
         let rest = bytes.saturating_sub(4 * u64::from(numbers) + 1024);
+        let values = (rest / 1024) as usize;
         BundleSize {
             pages: (rest / 16384) as usize,
-            values: (rest / 1024) as usize,
+            values,
+            holds: values,
+            inodes: values,
+            lists: true,
         }
     }
 
@@ -46,7 +57,21 @@ impl BundleSize {
         Ok(BundleSize {
             pages: page_count(bundle)?,
             values: value_count(bundle)?,
+            holds: bundle.holds().len(),
+            inodes: bundle.inodes().len(),
+            lists: writes_directory(bundle),
         })
+    }
+
+    /// How many entries so large a bundle may list: 16 on each page, and none where it writes no directory.
+    pub fn entries(&self) -> Result<usize, NoMemory>
+        ensures { IfOk result (λ n. n ≡ (if self.now.lists then 16 * self.now.pages else 0)) }
+    {
+        if self.lists {
+            self.pages.checked_mul(16).ok_or(NoMemory)
+        } else {
+            Ok(0)
+        }
     }
 }
 

@@ -11,4 +11,5 @@ pub mod ToldOnce
 pub mod Few
 pub mod FlatPlaces
 pub mod Outlined
+pub mod Unlisted
 pub mod Sizes

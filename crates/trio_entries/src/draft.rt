@@ -4,7 +4,7 @@ ghost use Rattle.std.specs.Prelude.{◌≡◌, ◌+◌, ◌*◌, ◌↔◌, IfOk
 ghost use Rattle.trio_lease.specs.Views.{bundle_in};
 ghost use Rattle.trio_case.specs.Memory.{size_of};
 ghost use Rattle.trio_state.specs.Moves.{outline_of};
-ghost use Rattle.trio_entries.specs.Drafts.{HasDraftMemory, HasToldPlaces, IsDraftMemory};
+ghost use Rattle.trio_entries.specs.Drafts.{HasDraftMemory, HasToldPlaces, IsDraftMemory, told_count};
 
 use crate::finder::{FINDER_BYTES, Finder};
 use crate::handed::{COPY_BYTES, HandedRoom};
@@ -16,8 +16,8 @@ use trio_lease::Bundle;
 use trio_nodes::{PlacedBlock, RawFile};
 use trio_page::NoMemory;
 
-/// How many bytes the memory of an entry takes: for the copy of a bundle and its outline, for what is told
-/// of 16 files and a block to each page, and of a file to each value.
+/// How many bytes the memory of an entry takes at most: for the copy of a bundle and its outline, for what
+/// is told of 16 files and a block to each page, and of a file to each value.
 pub const DRAFT_BYTES: BytesEach = BytesEach {
     page: COPY_BYTES.page
         + OUTLINE_BYTES.page
@@ -64,20 +64,19 @@ impl ToldMemory {
     {
         Ok(ToldMemory {
             handed: HandedRoom::with(alloc, size)?,
-            files: Vec::with_capacity(alloc, file_count(size)?)?,
+            files: Vec::with_capacity(alloc, told_count(size)?)?,
             blocks: Vec::with_capacity(alloc, size.pages)?,
             finder: Finder::with(alloc, size)?,
         })
     }
 }
 
-/// How many files are told of a bundle of this size, at most: those that have an entry in a slot of a
-/// page, the written ones and the held ones.
-fn file_count(size: BundleSize) -> Result<usize, NoMemory>
-    ensures { IfOk result (λ n. n ≡ 16 * size.pages + size.values) }
+/// Of how many files the release of a bundle of this size tells at most: of those that it lists, of the
+/// written ones and of the held ones.
+fn told_count(size: BundleSize) -> Result<usize, NoMemory>
+    ensures { IfOk result (λ n. n ≡ told_count size) }
 {
-    let slots = size.pages.checked_mul(16).ok_or(NoMemory)?;
-    slots.checked_add(size.values).ok_or(NoMemory)
+    size.entries()?.checked_add(size.values).ok_or(NoMemory)
 }
 
 /// The outline of the bundle of a release that has begun, with all memory of the entry of the release.

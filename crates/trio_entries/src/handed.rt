@@ -48,9 +48,9 @@ impl HandedRoom {
     {
         Ok(HandedRoom {
             heads: Vec::with_capacity(alloc, size.values)?,
-            holds: Vec::with_capacity(alloc, size.values)?,
+            holds: Vec::with_capacity(alloc, size.holds)?,
             pages: Room::with(alloc, size.pages)?,
-            numbers: Vec::with_capacity(alloc, size.values)?,
+            numbers: Vec::with_capacity(alloc, size.inodes)?,
         })
     }
 

@@ -71,9 +71,9 @@ impl OutlineMemory {
     {
         Ok(OutlineMemory {
             files: Vec::with_capacity(alloc, size.values)?,
-            holds: Vec::with_capacity(alloc, size.values)?,
+            holds: Vec::with_capacity(alloc, size.holds)?,
             pages: Vec::with_capacity(alloc, size.pages)?,
-            numbers: Vec::with_capacity(alloc, size.values)?,
+            numbers: Vec::with_capacity(alloc, size.inodes)?,
         })
     }
 }

@@ -25,7 +25,7 @@ use Rattle.trio_layout.specs.Listing.{Listing, ListedEntry, entry_listed, file_l
 use Rattle.trio_layout.specs.Rules.{entry_in_grammar, entry_is_own, entry_keeps_rights, file_keeps_rights}
 use Rattle.trio_judge.specs.declared.walk.FaultAt.{FaultAt}
 use Rattle.trio_judge.specs.declared.walk.Walk.{Walk}
-use Rattle.trio_judge.specs.inner.Walk.{AreOwn, IsForeign, KeepRights, Lists, IsListed, OwningFails, Owns, RightsFail, listing_of, AreFound, IsReady, SameFindings, SameQueue, BadEntry, Noted, PlacesLeft, files_of, file_met, is_new, own_numbers, listed_met}
+use Rattle.trio_judge.specs.inner.Walk.{AreOwn, IsForeign, KeepRights, Lists, IsListed, OwningFails, Owns, RightsFail, listing_of, AreFound, IsReady, SameFindings, SameQueue, BadEntry, Noted, PlacesLeft, files_of, file_met, is_new, own_numbers, listed_met, writes_directory}
 use Rattle.trio_case.specs.Order.{place_of}
 use Rattle.trio_case.proofs.Counted.{place_some, place_within}
 use Rattle.trio_case.proofs.Ordered.{mark_more}
@@ -175,6 +175,7 @@ ready_same c w w' s r = record {
   own = rw s.files r.own;
   written = rw s.files r.written;
   found = rw (s.found, s.files) r.found;
+  lists = rw s.files r.lists;
   places = rw s.files r.places;
   pages = s.pages ∙ r.pages;
   room = rw s.room r.room;
@@ -230,8 +231,8 @@ find_again c files e h = by (is_new c e) refl
 pub find_first : (c : Case) (files : List Met) (e : Met) → is_new c e ≡ true → is_among e.ino (numbers files) ≡ false → files ++ e ∷ [] ≡ files ++ first_listed (numbers files) (filter (is_new c) (e ∷ []))
 find_first c files e n h = rw (n, h) refl
 
-pub ready_more : (c : Case) (w w' : Walk) (e : Met) (at : ℕ) → IsReady c w → files_of w' ≡ files_of w ++ e ∷ [] → is_among e.ino (numbers (files_of w)) ≡ false → is_new c e ≡ true → place_of e.ino (own_numbers c) ≡ Some at → w'.found.items ≡ set w.found.items at true → vec_capacity w.files ≤ vec_capacity w'.files → vec_len w'.pages ≡ vec_len w.pages → w'.listing.room ≡ w.listing.room → IsReady c w'
-ready_more c w w' e at r files unfound new place found places pages room =
+pub ready_more : (c : Case) (w w' : Walk) (e : Met) (at : ℕ) → IsReady c w → files_of w' ≡ files_of w ++ e ∷ [] → is_among e.ino (numbers (files_of w)) ≡ false → is_new c e ≡ true → place_of e.ino (own_numbers c) ≡ Some at → w'.found.items ≡ set w.found.items at true → vec_capacity w.files ≤ vec_capacity w'.files → vec_len w'.pages ≡ vec_len w.pages → w'.listing.room ≡ w.listing.room → writes_directory c ≡ true → IsReady c w'
+ready_more c w w' e at r files unfound new place found places pages room lists =
     let all : numbers (files_of w') ≡ numbers (files_of w) ++ e.ino ∷ [] = ap numbers files ∙ map_push (λ (x : Met). x.ino) (files_of w) e in
     record {
       fit = r.fit;
@@ -242,6 +243,7 @@ ready_more c w w' e at r files unfound new place found places pages room =
       ];
       written = λ n i. subst (λ l. In n l) (sym all) (In-left n (numbers (files_of w)) (e.ino ∷ []) (r.written n i));
       found = rw (found, all) (found_more (own_numbers c) w.found.items (numbers (files_of w)) e.ino at place r.found);
+      lists = λ m i d. lists;
       places = omega (arith, r.places, places);
       pages = pages ∙ r.pages;
       room = rw room r.room;

@@ -16,11 +16,11 @@ use Rattle.trio_judge.specs.Judging.{IsJudgeRoom}
 use Rattle.trio_judge.specs.Laws.{RoomStaysTouched, RoomStaysWithBytes}
 use Rattle.trio_judge.specs.declared.verdict.Room.{Room}
 use Rattle.trio_judge.specs.declared.walk.Walk.{Walk}
-use Rattle.trio_judge.specs.inner.Walk.{AreFound, KeepRights, Lists, OwningFails, RightsFail, Starts, files_of, own_numbers}
+use Rattle.trio_judge.specs.inner.Walk.{AreFound, KeepRights, Lists, OwningFails, RightsFail, Starts, files_of, own_numbers, writes_directory}
 use Rattle.trio_case.proofs.CaseRows.{writes_of}
-use Rattle.trio_case.proofs.OtherBytes.{Alike, alike, alike_touched, pages_alike, touched}
+use Rattle.trio_case.proofs.OtherBytes.{Alike, alike, alike_touched, lists_alike, pages_alike, touched}
 use Rattle.trio_case.proofs.Sorted.{sorted-map}
-use Rattle.trio_judge.proofs.Starting.{mets_of, written_number}
+use Rattle.trio_judge.proofs.Starting.{directory_lent, mets_of, written_number}
 
 module _ (k : CaseShown) (b' : Bundled) (a : Alike k.bundle b') where
   abbrev other : CaseShown
@@ -31,6 +31,9 @@ module _ (k : CaseShown) (b' : Bundled) (a : Alike k.bundle b') where
 
   own_same : own_numbers (case_in other) ≡ own_numbers (case_in k)
   own_same = rw (writes_of other, writes_of k, a.files, a.inodes) refl
+
+  directory_same : writes_directory (case_in other) ≡ writes_directory (case_in k)
+  directory_same = directory_lent other ∙ lists_alike k.bundle b' a ∙ sym (directory_lent k)
 
   sorted_mets : (c : CaseShown) → written_files (case_in c) ≡ sorted_by (λ (m : Met). m.ino) (map (λ (f : LentFile). written_met (case_in c) (written_in f.stands)) c.bundle.writes)
   sorted_mets c =
@@ -60,13 +63,14 @@ module _ (k : CaseShown) (b' : Bundled) (a : Alike k.bundle b') where
           own = λ n i. subst (In n) (sym own_same) (s.ready.own n i);
           written = λ n i. s.ready.written n (subst (In n) writes_same i);
           found = subst (λ own. AreFound own w.found.items (numbers (files_of w))) (sym own_same) s.ready.found;
+          lists = λ m i e. directory_same ∙ s.ready.lists m i e;
           places = rw own_same s.ready.places;
           pages = rw a.pages s.ready.pages;
           room = record {
             files = rw own_same s.ready.room.files;
             index = rw a.pages s.ready.room.index;
             blocks = rw a.pages s.ready.room.blocks;
-            entries = rw a.pages s.ready.room.entries;
+            entries = λ lists. rw a.pages (s.ready.room.entries (sym directory_same ∙ lists));
           };
         };
         owning = s.owning;

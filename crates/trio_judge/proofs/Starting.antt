@@ -5,9 +5,11 @@ use Rattle.std.proofs.lemmas.Bool.{and_parts, false≢true}
 use Rattle.std.proofs.lemmas.List.{length-append, length-map}
 use Rattle.std.proofs.lemmas.Bool.Decides.{nat_tests}
 use Rattle.trio_rights.specs.Row.{Row, row_in}
+use Rattle.trio_rights.specs.declared.kind.Kind.TheVariants.{Directory}
 use Rattle.trio_rights.specs.Bundle.{Written, bundle_pages}
 use Rattle.trio_lists.specs.Lists.{In, is_among, are_new}
 use Rattle.trio_lists.specs.Sorting.{sorted_by}
+use Rattle.trio_lists.proofs.Filters.{In-list_any, list_any-map}
 use Rattle.trio_lists.proofs.Marked.{are_new-append}
 use Rattle.trio_lists.proofs.Members.{In-cases, In-is_among, In-left, In-map, is_among-In, list_all-In, map-In}
 use Rattle.trio_lists.proofs.Sorting.{in_sorted, sorted_in, sorted_new}
@@ -20,9 +22,10 @@ use Rattle.trio_layout.specs.Case.{Case}
 use Rattle.trio_layout.specs.JudgedFiles.{written_at, written_files, written_met}
 use Rattle.trio_case.specs.Order.{place_of}
 use Rattle.trio_case.specs.Cases.{CaseShown, case_in, lent_numbers, IsCase}
+use Rattle.trio_case.specs.Memory.{is_directory, writes_directory as lends_directory}
 use Rattle.trio_judge.specs.declared.walk.JudgedFile.{JudgedFile}
 use Rattle.trio_judge.specs.declared.walk.Walk.{Walk}
-use Rattle.trio_judge.specs.inner.Walk.{AreFound, HasListingRoom, is_found, KeepRights, Lists, OwningFails, RightsFail, Starts, file_met, files_of, listing_of, own_numbers}
+use Rattle.trio_judge.specs.inner.Walk.{AreFound, HasListingRoom, is_found, KeepRights, Lists, OwningFails, RightsFail, Starts, file_met, files_of, listing_of, own_numbers, writes_directory}
 use Rattle.trio_case.proofs.CaseRows.{writes_of}
 use Rattle.trio_case.proofs.Ordered.{are_unmarked}
 use Rattle.trio_case.proofs.Sorted.{sorted-map}
@@ -30,6 +33,10 @@ use Rattle.trio_case.proofs.Sorted.{sorted-map}
 pub written_number : (w : Written) (o : Option Row) → (written_at w o).ino ≡ w.ino
 written_number w None = refl
 written_number w (Some r) = refl
+
+written_kind : (w : Written) (o : Option Row) → (written_at w o).kind ≡ w.kind
+written_kind w None = refl
+written_kind w (Some r) = refl
 
 -- the written files, sorted after they were made
 pub files_sorted : (c : Case) (fs : List JudgedFile) → map file_met fs ≡ map (written_met c) c.bundle.writes → map file_met (sorted_by (λ f. f.ino) fs) ≡ written_files c
@@ -44,6 +51,19 @@ written_numbers c = go (sorted_by (λ w. w.ino) c.bundle.writes)
     go : (ws : List Written) → numbers (map (written_met c) ws) ≡ map (λ (w : Written). w.ino) ws
     go [] = refl
     go (w ∷ ws) = rw (written_number w (row_in c.rows w.ino), go ws) refl
+
+-- ---- whether a directory is written
+
+-- in the words of the case and of its bundle
+pub directory_lent : (k : CaseShown) → writes_directory (case_in k) ≡ lends_directory k.bundle
+directory_lent k = list_any-map (λ (f : LentFile). written_in f.stands) (λ (w : Written). is_directory w.kind) k.bundle.writes
+
+-- a directory among the written files
+written_directory : (c : Case) (m : Met) → In m (written_files c) → m.kind ≡ Directory → writes_directory c ≡ true
+written_directory c m i e =
+    let q = map-In (written_met c) m (sorted_by (λ w. w.ino) c.bundle.writes) i in
+    let kind : q.0.kind ≡ Directory = sym (ap (λ (x : Met). x.kind) q.2 ∙ written_kind q.0 (row_in c.rows q.0.ino)) ∙ e in
+    In-list_any (λ (w : Written). is_directory w.kind) q.0 c.bundle.writes (sorted_in (λ w. w.ino) q.0 c.bundle.writes q.1) (ap is_directory kind)
 
 -- ---- marks for the files found
 
@@ -149,6 +169,7 @@ starts k w fits files places found pages many owning rights listing room =
         own = λ x i. In-left x ws c.bundle.numbers (own x i);
         written = written;
         found = subst (λ marks. AreFound (own_numbers c) marks (numbers (files_of w))) counts (are_found ws c.bundle.numbers (numbers (files_of w)) same);
+        lists = λ m i e. written_directory c m (subst (λ l. In m l) files i) e;
         places = places;
         pages = many;
         room = room;

@@ -1,11 +1,13 @@
 -- One file passed.
-use Rattle.std.proofs.Common.{◌≡◌, ℕ, suc, ◌+◌, ◌*◌, ◌<◌, ◌≤◌, List, [], ◌∷◌, ◌++◌, length, get_or, take, drop, Result, Ok, Err, inl, inr, refl, sym, ap, ◌∙◌, subst, arith}
+use Rattle.std.proofs.Common.{◌≡◌, true, ℕ, suc, ◌+◌, ◌*◌, ◌<◌, ◌≤◌, List, [], ◌∷◌, ◌++◌, length, get_or, take, drop, Result, Ok, Err, inl, inr, refl, sym, ap, ◌∙◌, subst, arith}
 use Rattle.std.specs.List.{flat_map, filter}
 use Rattle.std.specs.Prelude.{IfErr, OnOk}
 use Rattle.std.proofs.lemmas.List.{append-nil, drop_more, drop-append-le, length-append, length-map, length-take-le, take_more, take-append-drop, take-append-le}
 use Rattle.std.proofs.lemmas.List.Concat.{flat_map-append}
 use Rattle.trio_rights.specs.Bundle.{bundle_pages}
 use Rattle.trio_lists.specs.Lists.{In}
+use Rattle.trio_rights.specs.declared.kind.Kind.TheVariants.{Directory}
+use Rattle.trio_lists.proofs.Filters.{get_or-In}
 use Rattle.trio_lists.proofs.Members.{In-flat}
 use Rattle.trio_layout.specs.Core.{Location}
 use Rattle.trio_layout.specs.Survey.{Front, Met, first_listed, numbers}
@@ -17,7 +19,7 @@ use Rattle.trio_layout.proofs.QueueLaws.{pass_many}
 use Rattle.trio_layout.proofs.Walks.{pass_many-more, pigeons, waiting_in_fronts}
 use Rattle.trio_judge.specs.declared.walk.FaultAt.{FaultAt}
 use Rattle.trio_judge.specs.declared.walk.Walk.{Walk}
-use Rattle.trio_judge.specs.inner.Walk.{BadEntry, IsOnWay, IsPassed, IsQueued, IsReady, Noted, PlacesLeft, SameQueue, Stands, fault_place, files_of, is_new, own_numbers}
+use Rattle.trio_judge.specs.inner.Walk.{BadEntry, IsOnWay, IsPassed, IsQueued, IsReady, Noted, PlacesLeft, SameQueue, Stands, fault_place, files_of, is_new, own_numbers, writes_directory}
 use Rattle.trio_judge.proofs.Listings.{entries_few, pages_few}
 use Rattle.trio_case.proofs.Distinct.{no_more}
 use Rattle.trio_judge.proofs.Noting.{files_same, so_far}
@@ -61,16 +63,20 @@ on_way c at w m p r h = record {
   few = omega (arith, h, few_files c w r, length-take-le at (files_of w) (omega (arith, h)));
 }
 
+-- a directory among the files found, which is there only where one is written
+pub directory_found : (c : Case) (at : ℕ) (w : Walk) (m : Met) → IsReady c w → at < length (files_of w) → get_or (files_of w) at m ≡ m → m.kind ≡ Directory → writes_directory c ≡ true
+directory_found c at w m r h e d = r.lists m (subst (λ x. In x (files_of w)) e (get_or-In (files_of w) at m h)) d
+
 -- its entries have a place in the listing
-pub entries_place : (c : Case) (done es : List Met) (m : Met) (w w' : Walk) → IsReady c w → SameQueue w w' → es ≡ flat_map (entries_in c) done → Stands c (done ++ m ∷ []) es w' → PlacesLeft (length (entries_in c m)) w'
-entries_place c done es m w w' r same is s = λ none.
+pub entries_place : (c : Case) (done es : List Met) (m : Met) (w w' : Walk) → IsReady c w → writes_directory c ≡ true → SameQueue w w' → es ≡ flat_map (entries_in c) done → Stands c (done ++ m ∷ []) es w' → PlacesLeft (length (entries_in c m)) w'
+entries_place c done es m w w' r lists same is s = λ none.
     let l = so_far c (done ++ m ∷ []) es w' none s.listed in
     let few = pages_few c (done ++ m ∷ []) es l.owns in
     let all = entries_few c (done ++ m ∷ []) in
     let both : length (flat_map (entries_in c) (done ++ m ∷ [])) ≡ length es + length (entries_in c m) =
     ap length (flat_map-append (entries_in c) done (m ∷ []) ∙ ap (λ l. flat_map (entries_in c) done ++ l) (append-nil (entries_in c m))) ∙ length-append (flat_map (entries_in c) done) (entries_in c m) ∙ ap (λ l. length l + length (entries_in c m)) (sym is) in
     let so = ap (λ (x : Listing). length x.entries) l.listing ∙ length-map es (entry_listed c) in
-    let room : 16 * length (bundle_pages c.bundle) ≤ w'.listing.room.entries = rw same.room r.room.entries in
+    let room : 16 * length (bundle_pages c.bundle) ≤ w'.listing.room.entries = rw same.room (r.room.entries lists) in
     omega (arith, few, all, both, so, room)
 
 -- ---- the queue

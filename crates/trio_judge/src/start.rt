@@ -36,13 +36,12 @@ impl WalkMemory {
     pub fn with(alloc: Global, size: BundleSize, numbers: usize) -> Result<WalkMemory, NoMemory>
         ensures { IfOk result (IsWalkMemory size) }
     {
-        let entries = entry_count(size.pages)?;
         let room = ListingRoom {
-            held: size.values,
+            held: size.holds,
             files: size.values,
             index: size.pages,
             blocks: size.pages,
-            entries,
+            entries: size.entries()?,
         };
         Ok(WalkMemory {
             files: Vec::with_capacity(alloc, size.values)?,
@@ -51,13 +50,6 @@ impl WalkMemory {
             listing: Listing::with(alloc, room, numbers)?,
         })
     }
-}
-
-/// How many entries so many pages may list.
-fn entry_count(pages: usize) -> Result<usize, NoMemory>
-    ensures { IfOk result (λ n. n ≡ 16 * pages) }
-{
-    pages.checked_mul(16).ok_or(NoMemory)
 }
 
 impl Walk {

@@ -87,7 +87,7 @@ impl RoomMemory {
         ensures { IfOk result (IsRoomMemory size core) }
     {
         Ok(RoomMemory {
-            pages: PageRoom::with(alloc, size.pages, core)?,
+            pages: PageRoom::with(alloc, size, core)?,
             walk: WalkMemory::with(alloc, size, numbers)?,
             heads: Vec::with_capacity(alloc, size.pages)?,
         })

@@ -1,6 +1,6 @@
 //! The walk over the judged files.
 
-ghost use Rattle.std.specs.Prelude.{◌≡◌, if◌then◌else◌, Some, ◌+◌, ◌<◌, ◌≤◌, ◌++◌, ◌∷◌, [], ℕ, List, Ok, IfErr, OnOk, length, map, None, slice_index_or, vec_len, vec_capacity};
+ghost use Rattle.std.specs.Prelude.{◌≡◌, if◌then◌else◌, Some, ◌+◌, ◌<◌, ◌≤◌, ◌++◌, ◌∷◌, [], ℕ, List, Ok, IfErr, OnOk, length, map, None, slice_index_or, true, vec_len, vec_capacity};
 ghost use Rattle.std.specs.List.{filter, flat_map};
 ghost use Rattle.std.specs.Option.{option_or};
 ghost use Rattle.trio_layout.specs.Listing.{is_kept};
@@ -13,7 +13,7 @@ ghost use Rattle.trio_tables.specs.Row.{as_row};
 ghost use Rattle.trio_case.specs.Cases.{case_in};
 ghost use Rattle.trio_case.specs.Rooms.{entries_in_room, entries_kept, file_in_room, looks_left, Keeps};
 ghost use Rattle.trio_judge.specs.inner.Again.{AreFoundHeads};
-ghost use Rattle.trio_judge.specs.inner.Walk.{fault_place, file_met, files_of, listed_met, BadEntry, IsListed, IsOnWay, IsQueued, IsReady, IsPassed, Noted, PlacesLeft, SameFindings, SameQueue, Stands, is_new};
+ghost use Rattle.trio_judge.specs.inner.Walk.{fault_place, file_met, files_of, listed_met, BadEntry, IsListed, IsOnWay, IsQueued, IsReady, IsPassed, Noted, PlacesLeft, SameFindings, SameQueue, Stands, is_new, writes_directory};
 
 use crate::again::{is_listed_before, mark_head};
 use crate::pages::mark_own;
@@ -257,6 +257,7 @@ impl Walk {
     fn note_entries(&mut self, case: &Case, room: &PageRoom, directory: u32) -> Result<(), FaultAt>
         requires keeps { Keeps case.now room.now }
         requires ready { IsReady (case_in case.now) self.old }
+        requires lists { writes_directory (case_in case.now) ≡ true }
         requires places { PlacesLeft (length (flat_map (entries_kept room.now.kept) room.now.blocks.items)) self.old }
         ensures noted { OnOk result (Noted (case_in case.now) (map (met_in plain directory) (flat_map (entries_kept room.now.kept) room.now.blocks.items)) self.old self.new) }
         ensures bad { IfErr result (BadEntry (case_in case.now) (map (met_in plain directory) (flat_map (entries_kept room.now.kept) room.now.blocks.items))) }
@@ -276,6 +277,7 @@ impl Walk {
         entries: &[DirEntry],
     ) -> Result<(), FaultAt>
         requires ready { IsReady (case_in case.now) self.old }
+        requires lists { writes_directory (case_in case.now) ≡ true }
         requires places { PlacesLeft (length entries.now) self.old }
         ensures noted { OnOk result (Noted (case_in case.now) (map (listed_met directory) entries.now) self.old self.new) }
         ensures bad { IfErr result (BadEntry (case_in case.now) (map (listed_met directory) entries.now)) }
@@ -290,6 +292,7 @@ impl Walk {
 
     fn note_entry(&mut self, case: &Case, entry: &JudgedFile) -> Result<(), FaultAt>
         requires ready { IsReady (case_in case.now) self.old }
+        requires lists { writes_directory (case_in case.now) ≡ true }
         requires places { PlacesLeft 1 self.old }
         ensures noted { OnOk result (Noted (case_in case.now) (file_met entry.now ∷ []) self.old self.new) }
         ensures bad { IfErr result (BadEntry (case_in case.now) (file_met entry.now ∷ [])) }
@@ -306,6 +309,7 @@ impl Walk {
     /// Puts the file of an entry into the queue where it is new and wasn't found before.
     fn find(&mut self, case: &Case, entry: &JudgedFile)
         requires ready { IsReady (case_in case.now) self.old }
+        requires lists { writes_directory (case_in case.now) ≡ true }
         ensures grows { files_of self.new ≡ files_of self.old ++ first_listed (numbers (files_of self.old)) (filter (is_new (case_in case.now)) (file_met entry.now ∷ [])) }
         ensures ready { IsReady (case_in case.now) self.new }
         ensures same { SameFindings self.old self.new }

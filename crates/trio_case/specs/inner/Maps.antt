@@ -1,10 +1,8 @@
 -- What the numbers and the rows of a case tell. Cited by the case's own invariant and private functions alone.
-use Rattle.std.specs.Prelude.{ℕ, ◌≡◌, ◌+◌, ◌==◌, ◌<◌, Bool, true, false, List, ◌++◌, Option, None, count_by, length, map, slice_index_or}
+use Rattle.std.specs.Prelude.{ℕ, ◌≡◌, ◌+◌, ◌==◌, ◌<◌, Bool, false, List, ◌++◌, Option, None, count_by, length, map, slice_index_or}
 use Rattle.std.specs.List.{find}
 use Rattle.std.specs.Option.{option_and_then, option_map, option_map_or}
 use Rattle.trio_rights.specs.Row.{Row, row_in}
-use Rattle.trio_rights.specs.declared.kind.Kind.{Kind}
-use Rattle.trio_rights.specs.declared.kind.Kind.TheVariants.{Regular, Directory}
 use Rattle.trio_lists.specs.Lists.{is_among, tabulated}
 use Rattle.trio_lease.specs.Bundles.{Bundled}
 use Rattle.trio_lease.specs.Views.{bundle_in}
@@ -12,7 +10,7 @@ use Rattle.trio_lease.specs.declared.parts.HoldParts.{HoldParts}
 use Rattle.trio_layout.specs.Copied.{copied_row}
 use Rattle.trio_tables.specs.Row.{as_row}
 use Rattle.trio_tables.specs.declared.row.Row.{Row as RowData}
-use Rattle.trio_case.specs.Order.{place_of}
+use Rattle.trio_case.specs.Order.{in_order, place_of}
 use Rattle.trio_case.specs.declared.numbers.Numbers.{Numbers}
 use Rattle.trio_case.specs.declared.numbers.CopiedRows.{CopiedRows}
 use Rattle.trio_case.specs.declared.numbers.CopiedRows.TheVariants.{Listed, Few}
@@ -35,15 +33,11 @@ rows_kept t rows inodes = tabulated (row_kept t rows) (inodes + 1)
 abbrev pub body_lent : List HoldParts → ℕ → Option (List ℕ)
 body_lent holds n = option_map (λ h. h.body) (find (λ h. h.ino == n) holds)
 
--- the kind is a directory's
-abbrev pub is_directory : Kind → Bool
-is_directory Regular = false
-is_directory Directory = true
-
 -- the numbers are those that the bundle has
 pub record Tells (numbers : Numbers) (b : Bundled) : Type 0 where
   pub writes : numbers.writes ≡ map (λ f. f.stands.ino) b.writes
   pub holds : numbers.holds ≡ map (λ h. h.ino) b.holds
+  pub held_order : numbers.held_order.items ≡ in_order numbers.holds
   pub fresh : numbers.fresh ≡ map (λ n. n.no) b.inodes
 
 -- the row of a file that stands in one of these directories

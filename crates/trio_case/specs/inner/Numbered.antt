@@ -16,7 +16,6 @@ AreCounted numbers places = (p : NumberPlace) → In p places → slice_get numb
 -- there is memory for so many numbers and their places
 pub record HasNumberPlaces (count : ℕ) (room : NumbersRoom) : Type 0 where
   pub numbers : count ≤ vec_capacity room.numbers
-  pub order : count ≤ vec_capacity room.order
   pub places : count ≤ vec_capacity room.places
 
 -- no number was added yet
@@ -24,8 +23,7 @@ abbrev pub is_blank : NumbersRoom → Type 0
 is_blank room = room.numbers.items ≡ []
 
 -- the numbers differ, and stand in rising order with their places
-pub record ArePlaced (numbers order : List ℕ) (places : List NumberPlace) : Type 0 where
+pub record ArePlaced (numbers : List ℕ) (places : List NumberPlace) : Type 0 where
   pub differ : are_new [] numbers ≡ true
-  pub rising : order ≡ in_order numbers
-  pub placed : counted_numbers places ≡ order
+  pub rising : counted_numbers places ≡ in_order numbers
   pub counted : AreCounted numbers places

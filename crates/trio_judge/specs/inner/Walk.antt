@@ -1,11 +1,12 @@
 -- How far a walk over the judged files has come. Cited by private functions alone.
 use Rattle.std.specs.Prelude.{ℕ, ◌≡◌, ◌+◌, ◌*◌, ◌<◌, ◌≤◌, ◌==◌, ◌⊎◌, Bool, true, false, ◌&&◌, IsFalse, List, [], ◌∷◌, ◌++◌, length, map, take, drop, Option, None, MatchOption, is_ok, if◌then◌else◌, slice_index_or, vec_capacity, vec_len}
-use Rattle.std.specs.List.{list_all, flat_map, filter}
+use Rattle.std.specs.List.{list_all, list_any, flat_map, filter}
 use Rattle.std.specs.Option.{option_map_or}
 use Rattle.trio_rights.specs.Row.{row_in}
 use Rattle.trio_rights.specs.Bundle.{bundle_pages, is_written}
 use Rattle.trio_lists.specs.Lists.{In, is_among, are_new}
 use Rattle.trio_lists.specs.Sorting.{sorted_by}
+use Rattle.trio_rights.specs.declared.kind.Kind.TheVariants.{Directory}
 use Rattle.trio_layout.specs.declared.body.Body.{Body}
 use Rattle.trio_layout.specs.Core.{Location}
 use Rattle.trio_layout.specs.Survey.{Met, numbers, first_listed}
@@ -15,6 +16,7 @@ use Rattle.trio_layout.specs.Listing.{Listing, entry_listed, file_listed}
 use Rattle.trio_layout.specs.Rules.{entry_in_grammar, entry_is_own, entry_keeps_rights, file_keeps_rights, has_rights}
 use Rattle.trio_layout.specs.Broken.{BreaksOwning, BreaksRights}
 use Rattle.trio_layout.proofs.QueueLaws.{pass_many}
+use Rattle.trio_case.specs.Memory.{is_directory}
 use Rattle.trio_case.specs.Order.{place_of, AreMarked}
 use Rattle.trio_case.specs.declared.entries.DirEntry.{DirEntry}
 use Rattle.trio_case.specs.declared.listing.ListingRoom.{ListingRoom}
@@ -141,21 +143,26 @@ pub record AreFound (own : List ℕ) (marks : List Bool) (files : List ℕ) : Ty
   pub places : length marks ≡ length own
   pub each : (n : ℕ) → is_found own marks n ≡ is_among n files
 
--- a listing of this room has a place for all that may be listed
+-- a directory is written
+abbrev pub writes_directory : Case → Bool
+writes_directory c = list_any (λ w. is_directory w.kind) c.bundle.writes
+
+-- A listing of this room has a place for all that may be listed. That is entries only where a directory is written.
 pub record HasListingRoom (c : Case) (room : ListingRoom) : Type 0 where
   pub files : length (own_numbers c) ≤ room.files
   pub index : length (bundle_pages c.bundle) ≤ room.index
   pub blocks : length (bundle_pages c.bundle) ≤ room.blocks
-  pub entries : 16 * length (bundle_pages c.bundle) ≤ room.entries
+  pub entries : writes_directory c ≡ true → 16 * length (bundle_pages c.bundle) ≤ room.entries
 
--- The files found are each found once and are the bundle's, the written ones among them, and there is a place for all that
--- may be found.
+-- The files found are each found once and are the bundle's, the written ones among them. One is a directory only where a directory
+-- is written. There is a place for all that may be found.
 pub record IsReady (c : Case) (w : Walk) : Type 0 where
   pub fit : (n : ℕ) → In n (own_numbers c) → n < c.inodes + 1
   pub once : are_new [] (numbers (files_of w)) ≡ true
   pub own : (n : ℕ) → In n (numbers (files_of w)) → In n (own_numbers c)
   pub written : (n : ℕ) → In n (map (λ x. x.ino) c.bundle.writes) → In n (numbers (files_of w))
   pub found : AreFound (own_numbers c) w.found.items (numbers (files_of w))
+  pub lists : (m : Met) → In m (files_of w) → m.kind ≡ Directory → writes_directory c ≡ true
   pub places : length (own_numbers c) ≤ vec_capacity w.files
   pub pages : vec_len w.pages ≡ length (bundle_pages c.bundle)
   pub room : HasListingRoom c w.listing.room

@@ -6,6 +6,7 @@ use Rattle.trio_layout.specs.Chain.{index_count}
 use Rattle.trio_layout.specs.Within.{chain_of_within}
 use Rattle.trio_lists.specs.Lists.{result_map}
 use Rattle.trio_case.specs.Cases.{case_in}
+use Rattle.trio_case.specs.Memory.{writes_directory}
 use Rattle.trio_case.specs.Rooms.{looks_left, unread_blocks, HasPlaces, KeepsPages}
 use Rattle.trio_case.proofs.Chains.{after, rest_of}
 use Rattle.trio_case.proofs.chain.read_chain.Given as goal
@@ -18,7 +19,7 @@ invariant-loop-left l = record {
   index_kept : vec_capacity l.fn.room.index ≤ vec_capacity l.room.index;
   blocks_kept : vec_capacity l.fn.room.blocks ≤ vec_capacity l.room.blocks;
   keeps : KeepsPages l.case l.room.kept;
-  places : HasPlaces l.room.kept;
+  places : HasPlaces (writes_directory l.case.bundle) l.room.kept;
   names : l.room.kept.names ≡ l.fn.room.kept.names;
   unread : unread_blocks l.room.kept ≡ unread_blocks l.fn.room.kept;
   named : l.room.named ≡ l.fn.room.named;

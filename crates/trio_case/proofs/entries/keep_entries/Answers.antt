@@ -12,12 +12,12 @@ use Rattle.trio_case.proofs.entries.keep_entries.Goals as goal
 pub read_page-read-requires-clause-room : goal.read_page-read-requires-clause-room
 read_page-read-requires-clause-room c =
     let some = block_unread c.args.kept.now c.args.at c.args.page c.requires.page.page c.requires.unread in
-    omega (arith, some, c.requires.places.entries)
+    omega (arith, some, c.requires.places.entries refl)
 
 pub read_page-read-requires-clause-space : goal.read_page-read-requires-clause-space
 read_page-read-requires-clause-space c =
     let some = block_unread c.args.kept.now c.args.at c.args.page c.requires.page.page c.requires.unread in
-    omega (arith, some, c.requires.places.names)
+    omega (arith, some, c.requires.places.names refl)
 
 pub index_mut-requires : goal.index_mut-requires
 index_mut-requires c =
@@ -86,9 +86,9 @@ returns-clause-places c =
     let less = count-set_less (λ (x : KeptPage). not (is_some x.entries)) pages c.args.at page q c.requires.page.page (ap (λ o. not (is_some o)) c.requires.unread) refl in
     let same = count-set_same (λ (x : KeptPage). not (is_some x.index)) pages c.args.at page q c.requires.page.page refl in
     record {
-      entries = omega (arith, less, c.requires.places.entries, read.len, read.room);
+      entries = λ on. omega (arith, less, c.requires.places.entries refl, read.len, read.room);
       numbers = omega (arith, same, c.requires.places.numbers);
-      names = omega (arith, less, c.requires.places.names, read.more, read.space);
+      names = λ on. omega (arith, less, c.requires.places.names refl, read.more, read.space);
     }
 
 pub returns-clause-most : goal.returns-clause-most

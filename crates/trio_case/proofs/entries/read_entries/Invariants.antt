@@ -1,4 +1,4 @@
-use Rattle.std.proofs.Common.{◌≡◌, ◌≤◌, ◌+◌, ◌*◌, ℕ, length, take}
+use Rattle.std.proofs.Common.{◌≡◌, ◌≤◌, ◌+◌, ◌*◌, ℕ, true, length, take}
 use Rattle.trio_lists.specs.Lists.{In}
 use Rattle.trio_case.specs.Rooms.{unread_blocks, unread_index, HasPlaces, KeepsPages}
 use Rattle.trio_case.specs.inner.Steps.{IsDone}
@@ -8,7 +8,7 @@ abbrev pub invariant-loop-block : goal.invariant-loop-block
 invariant-loop-block l = record {
   done : (page : ℕ) → In page (take l.block-index l.blocks) → IsDone l.case l.kept page;
   keeps : KeepsPages l.case l.kept;
-  places : HasPlaces l.kept;
+  places : HasPlaces true l.kept;
   most : length l.kept.names.names + 16 * unread_blocks l.kept ≤ length l.fn.kept.names.names + 16 * unread_blocks l.fn.kept;
   same : unread_index l.kept ≡ unread_index l.fn.kept;
   looks : l.reads + unread_blocks l.kept ≤ l.fn.reads + unread_blocks l.fn.kept;

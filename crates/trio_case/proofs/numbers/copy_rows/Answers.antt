@@ -1,6 +1,7 @@
 use Rattle.std.proofs.Common.{◌≡◌, false, sym, arith}
 use Rattle.std.specs.List.{list_any}
-use Rattle.trio_case.specs.inner.Maps.{is_directory, rows_seen}
+use Rattle.trio_case.specs.inner.Maps.{rows_seen}
+use Rattle.trio_case.specs.Memory.{is_directory}
 use Rattle.trio_case.proofs.CaseRows.{own_copied}
 use Rattle.trio_case.proofs.CopiedCount.{most_of}
 use Rattle.trio_case.proofs.numbers.copy_rows.Goals as goal
@@ -8,9 +9,10 @@ use Rattle.trio_case.proofs.numbers.copy_rows.Goals as goal
 pub listed_rows-requires-clause-places : goal.listed_rows-requires-clause-places
 listed_rows-requires-clause-places c =
     let most = most_of c.args.numbers.now c.args.bundle.now c.args.rows.now c.requires.tells in
+    let places = c.requires.memory.listed (sym c.if-writes_directory.ensures) in
     record {
-      numbers = omega (arith, most, c.requires.children, c.requires.memory.listed.numbers);
-      rows = omega (arith, most, c.requires.children, c.requires.memory.listed.rows);
+      numbers = omega (arith, most, c.requires.children, places.numbers);
+      rows = omega (arith, most, c.requires.children, places.rows);
     }
 
 pub returns-else-writes_directory : goal.returns-else-writes_directory

@@ -16,6 +16,7 @@ use Rattle.trio_entries.specs.Telling.{whole_case}
 use Rattle.trio_entries.specs.inner.Finding.{IsMarkedBy}
 use Rattle.trio_entries.proofs.Few.{accepted_few, listed_own}
 use Rattle.trio_entries.proofs.Judged.{told_apart, told_by, written_noted}
+use Rattle.trio_entries.proofs.Unlisted.{told_few}
 use Rattle.trio_entries.proofs.telling.accepted.Goals as goal
 
 pub judge-requires-clause-own : goal.judge-requires-clause-own
@@ -25,7 +26,9 @@ judge-requires-clause-own c = λ n i.
     subst (λ (ns : List ℕ). In n (ns ++ map (λ (x : InoParts). x.no) k.bundle.inodes)) (writes_of k) (listed_own (whole_case k c.args.rows.now) n j)
 
 pub accepted_files-requires-clause-places : goal.accepted_files-requires-clause-places
-accepted_files-requires-clause-places c = omega (arith, c.into_memory-handed.ensures.files, c.requires.few)
+accepted_files-requires-clause-places c =
+    let few = told_few c.args.case.now c.args.rows.now c.args.listing.now.listing c.requires.listed c.requires.few in
+    omega (arith, few, c.into_memory-handed.ensures.files)
 
 pub accepted_files-requires-clause-entries : goal.accepted_files-requires-clause-entries
 accepted_files-requires-clause-entries c =

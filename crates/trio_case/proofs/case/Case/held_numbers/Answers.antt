@@ -3,4 +3,4 @@ use Rattle.trio_case.specs.Order.{in_order}
 use Rattle.trio_case.proofs.case.Case.held_numbers.Goals as goal
 
 pub returns : goal.returns
-returns c = rw (← c.self.view_is) (c.in_order.ensures ∙ ap in_order c.self.invariant.0.holds)
+returns c = rw (← c.self.view_is) (c.deref.ensures.value ∙ c.self.invariant.0.held_order ∙ ap in_order c.self.invariant.0.holds)

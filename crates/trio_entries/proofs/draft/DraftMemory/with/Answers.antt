@@ -1,9 +1,8 @@
-use Rattle.trio_case.specs.Memory.{size_of}
 use Rattle.trio_entries.proofs.Sizes.{outline_less, told_less}
 use Rattle.trio_entries.proofs.draft.DraftMemory.with.Goals as goal
 
 pub returns : goal.returns
 returns c = λ b fits. record {
-  outline = outline_less (size_of b) c.args.size fits.pages fits.values c.in_ok-with.field-0 c.in_ok-with.ensures;
-  told = told_less (size_of b) c.args.size fits.pages fits.values c.in_ok-with-2.field-0 c.in_ok-with-2.ensures;
+  outline = outline_less b c.args.size fits c.in_ok-with.field-0 c.in_ok-with.ensures;
+  told = told_less b c.args.size fits c.in_ok-with-2.field-0 c.in_ok-with-2.ensures;
 }

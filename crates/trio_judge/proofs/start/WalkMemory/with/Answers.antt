@@ -1,5 +1,5 @@
-use Rattle.std.proofs.Common.{ap, arith}
-use Rattle.trio_judge.proofs.Starting.{own_count}
+use Rattle.std.proofs.Common.{sym, ap, ◌∙◌, arith}
+use Rattle.trio_judge.proofs.Starting.{directory_lent, own_count}
 use Rattle.trio_judge.proofs.start.WalkMemory.with.Goals as goal
 
 pub returns : goal.returns
@@ -14,11 +14,14 @@ returns c = λ k fits.
       pages = omega (arith, fits.pages, c.in_ok-with_capacity-3.ensures.capacity);
       no_pages = c.in_ok-with_capacity-3.ensures.items;
       listing = ap (λ l. l.listing) made;
-      held = omega (arith, fits.values, ap (λ l. l.room.held) made);
+      held = omega (arith, fits.holds, ap (λ l. l.room.held) made);
       room = record {
         files = omega (arith, own, fits.values, ap (λ l. l.room.files) made);
         index = omega (arith, fits.pages, ap (λ l. l.room.index) made);
         blocks = omega (arith, fits.pages, ap (λ l. l.room.blocks) made);
-        entries = omega (arith, fits.pages, c.in_ok-entries.ensures, ap (λ l. l.room.entries) made);
+        entries = λ lists.
+            let some = fits.lists (sym (directory_lent k) ∙ lists) in
+            let all = rw some at c.in_ok-entries.ensures in
+            omega (arith, fits.pages, all, ap (λ l. l.room.entries) made);
       };
     }

@@ -64,4 +64,4 @@ returns-clause-ready c =
     let place = own_place k e.ino ∙ sym c.own_place.ensures ∙ c.in-Some.is in
     let unfound : is_among e.ino (numbers (files_of w)) ≡ false = sym (mark_at (case_in k) w e.ino c.in-Some.at c.requires.ready place) ∙ search rules in
     let new : is_new (case_in k) e ≡ true = unfound_new (case_in k) w e.ino c.in-Some.at c.requires.ready place unfound in
-    ready_more (case_in k) w _ e c.in-Some.at c.requires.ready (rw (c.add.ensures.added, map_push file_met) refl) unfound new place refl c.add.ensures.room refl refl
+    ready_more (case_in k) w _ e c.in-Some.at c.requires.ready (rw (c.add.ensures.added, map_push file_met) refl) unfound new place refl c.add.ensures.room refl refl c.requires.lists

@@ -9,8 +9,9 @@ use Rattle.trio_case.specs.Cases.{case_in}
 use Rattle.trio_case.specs.Rooms.{entries_in_room, entries_kept, file_in_room}
 use Rattle.trio_judge.specs.inner.Walk.{file_met, files_of}
 use Rattle.trio_judge.proofs.Noting.{ready_same}
-use Rattle.trio_judge.proofs.Visiting.{directory_passed, directory_queued, entries_place, entry_breaks, file_breaks, if_err_then, is_judged, on_ok_then, on_way, regular_passed, regular_queued}
+use Rattle.trio_judge.proofs.Visiting.{directory_found, directory_passed, directory_queued, entries_place, entry_breaks, file_breaks, if_err_then, is_judged, on_ok_then, on_way, regular_passed, regular_queued}
 use Rattle.trio_judge.proofs.FoundAgain.{read_of}
+use Rattle.trio_judge.proofs.Starting.{directory_lent}
 use Rattle.trio_judge.proofs.walk.Walk.go_over.Goals as goal
 
 pub returns-in-Err-clause-fault : goal.returns-in-Err-clause-fault
@@ -24,6 +25,13 @@ returns-in-Err-clause-fault c =
     let bad : file_in k m ≡ Err place = sym (rw c.in-Err.is at (c.read_file.ensures.file m refl refl)) in
     file_breaks k m place (is_judged k c.args.at w m c.requires.queued c.requires.ready inside here) bad
 
+pub read_file-requires-clause-lists : goal.read_file-requires-clause-lists
+read_file-requires-clause-lists c = λ directory.
+    let k = c.args.case.now in
+    let w = c.args.self.now in
+    let inside : c.args.at < length (files_of w) = omega (arith, length-map w.files.items file_met) in
+    sym (directory_lent k) ∙ directory_found (case_in k) c.args.at w (file_met c.args.file.now) c.requires.ready inside c.requires.here directory
+
 pub note_file-requires-clause-read : goal.note_file-requires-clause-read
 note_file-requires-clause-read c =
     sym (rw c.in-Ok.is at (c.read_file.ensures.file (file_met c.args.file.now) refl refl))
@@ -36,6 +44,12 @@ note_file-requires-clause-on_way c =
 
 pub note_entries-requires-clause-ready : goal.note_entries-requires-clause-ready
 note_entries-requires-clause-ready c = ready_same (case_in c.args.case.now) c.args.self.now c.note_file.new.self c.note_file.ensures.same c.requires.ready
+
+pub note_entries-requires-clause-lists : goal.note_entries-requires-clause-lists
+note_entries-requires-clause-lists c =
+    let w = c.args.self.now in
+    let inside : c.args.at < length (files_of w) = omega (arith, length-map w.files.items file_met) in
+    directory_found (case_in c.args.case.now) c.args.at w (file_met c.args.file.now) c.requires.ready inside c.requires.here c.in-Directory.is
 
 pub note_entries-requires-clause-places : goal.note_entries-requires-clause-places
 note_entries-requires-clause-places c =
@@ -51,7 +65,8 @@ note_entries-requires-clause-places c =
     let entries : entries_in k m ≡ map (met_in plain m.ino) (flat_map (entries_kept room.kept) room.blocks.items) =
     ap (children_in plain m.ino) read ∙ ap (λ kind. map (met_in plain m.ino) (entries_in_room room kind)) c.in-Directory.is in
     let count : length (entries_in k m) ≡ length (flat_map (entries_kept room.kept) room.blocks.items) = ap length entries ∙ length-map (flat_map (entries_kept room.kept) room.blocks.items) (met_in plain m.ino) in
-    rw count at (entries_place k (take at (files_of w)) (flat_map (entries_in k) (take at (files_of w))) m w c.note_file.new.self c.requires.ready c.note_file.ensures.same refl stands)
+    let lists = directory_found k at w m c.requires.ready inside here c.in-Directory.is in
+    rw count at (entries_place k (take at (files_of w)) (flat_map (entries_in k) (take at (files_of w))) m w c.note_file.new.self c.requires.ready lists c.note_file.ensures.same refl stands)
 
 pub returns-in-Directory-clause-queued : goal.returns-in-Directory-clause-queued
 returns-in-Directory-clause-queued c =

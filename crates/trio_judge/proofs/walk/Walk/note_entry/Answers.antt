@@ -9,7 +9,7 @@ returns-then-not-is_in_grammar-clause-bad c =
     rw c.fault.ensures (bad_entry (case_in c.args.case.now) (file_met c.args.entry.now) (sym c.is_in_grammar.ensures ∙ c.if-not-is_in_grammar.true))
 
 pub find-requires : goal.find-requires
-find-requires c = record { ready = ready_same (case_in c.args.case.now) c.args.self.now c.list.new.self c.list.ensures.same c.requires.ready }
+find-requires c = record { ready = ready_same (case_in c.args.case.now) c.args.self.now c.list.new.self c.list.ensures.same c.requires.ready; lists = c.requires.lists }
 
 pub returns-clause-noted : goal.returns-clause-noted
 returns-clause-noted c =
