@@ -1,6 +1,6 @@
 -- A write grant of the controller is the step that the definitions say.
 use Rattle.std.proofs.Common.{◌≡◌, ◌≢◌, ℕ, zero, suc, ◌+◌, ◌-◌, ◌*◌, ◌<◌, Bool, true, false, not, ◌&&◌, ◌||◌, List, [], ◌∷◌, ◌++◌, length, map, get_or, Option, Some, None, is_some, slice_get, inl, inr, ◌⊎◌, refl, sym, ap, subst, ◌∙◌, arith}
-use Rattle.std.specs.Prelude.{◌==◌, Ok, Err, if◌then◌else◌, slice_set, IsTrue}
+use Rattle.std.specs.Prelude.{◌==◌, OnErr, Ok, Err, Result, if◌then◌else◌, slice_set, IsTrue}
 use Rattle.std.specs.List.{find, filter, list_any}
 use Rattle.std.specs.Option.{IsSomeAnd, option_map, option_map_or, option_and_then}
 use Rattle.std.proofs.lemmas.Bool.{and_from, eq-eqb, eqb-true, false≢true}
@@ -750,3 +750,8 @@ module _ (s : Store) (first : ℕ) (table : List Keyed) (files : List Opened) (c
 pub kept_either : (s t : State) (P Q : Type 0) → Kept s → (P × (t ≡ logged s)) ⊎ (Q × (t ≡ s)) → Kept t
 kept_either s t P Q k (inl l) = subst Kept (sym l.1) (logged_kept s k)
 kept_either s t P Q k (inr r) = subst Kept (sym r.1) k
+
+-- what is so whatever a call answered is so where it is refused
+pub where_refused : {A F P : Type 0} (r : Result A F) → P → OnErr r P
+where_refused (Ok x) so = tt
+where_refused (Err fault) so = so

@@ -1,7 +1,7 @@
 -- Each call of the controller leaves all recorded, its entry too.
 use Rattle.std.proofs.Common.{◌≡◌, ◌⊎◌, ◌+◌, ◌≤◌, ◌<◌, ◌==◌, ℕ, Bool, true, false, List, [], ◌∷◌, ◌++◌, append_assoc, append-nil, length, length-append, Option, Some, None, Result, Ok, Err, inl, inr, refl, sym, ap, subst, ◌∙◌, arith}
 use Rattle.std.specs.List.{filter}
-use Rattle.std.specs.Prelude.{replicate}
+use Rattle.std.specs.Prelude.{OnErr, replicate}
 use Rattle.std.proofs.lemmas.Bool.{eq-eqb, eqb-true, eqb-false}
 use Rattle.trio_lists.specs.Lists.{In}
 use Rattle.trio_lists.proofs.Filters.{In-filter}
@@ -102,6 +102,11 @@ allot_entries s lib pages inodes (Ok given) told e = ap (with_told (entry.Allot 
 allot_entries s lib pages inodes (Err (unallotted.NoPages wanted free)) told e = ap (with_told (entry.Allot lib pages inodes)) (sym e)
 allot_entries s lib pages inodes (Err (unallotted.NoInodes wanted free)) told e = ap (with_told (entry.Allot lib pages inodes)) (sym e)
 allot_entries s lib pages inodes (Err unallotted.NoMemory) told e = ap (with_told (entry.Allot lib pages inodes)) (sym e)
+
+-- what is said of a refused grant is so of one of which nothing is told
+pub if_untold : {P : Type 0} (said : Result Lease GrantFault) → None ≡ grant_told said → OnErr said P → P
+if_untold (Ok lease) none so = absurd cc
+if_untold (Err fault) none so = so
 
 -- ---- what holds after a call that ends no bundle
 

@@ -49,6 +49,13 @@ module _ {seen : Spare} (log : Logged) (promised kits bytes : ℕ) (was : spare_
       let room = ap (λ (l : Logged). l.room) pushed in
       spends_so n log' promised' kits bytes (omega (arith, long, one, few)) (omega (arith, grows, room)) (omega arith) refl
 
+-- with an entry more it isn't the log of before
+pub longer : {P : Type 0} (old mid new : List Entry) (e : Entry) → new ≡ mid ++ e ∷ [] → length old ≤ length mid → new ≡ old → P
+longer old mid new e pushed grows same =
+    let one = ap (λ (es : List Entry). length es) pushed ∙ length-append mid (e ∷ []) in
+    let is = ap (λ (es : List Entry). length es) same in
+    absurd (omega (arith, one, grows, is))
+
 -- one call after another
 pub spends_both : (n : ℕ) (a b c : Spare) → Spends n 0 a b → Spends 0 0 b c → Spends n 0 a c
 spends_both n a b c x y = (let e = x.entries in let f = y.entries in let g = x.bytes in let h = y.bytes in record { entries = omega (arith, e, f); bytes = omega (arith, g, h) })

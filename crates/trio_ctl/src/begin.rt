@@ -1,6 +1,6 @@
 //! Releases that begin, and that wait for their end.
 
-ghost use Rattle.std.specs.Prelude.{◌≡◌, ◌≢◌, ◌+◌, ◌↔◌, IfErr, IfOk, IsTrue, None, OnErr, OnOk, Some};
+ghost use Rattle.std.specs.Prelude.{◌≡◌, ◌≢◌, ◌+◌, ◌≤◌, ◌↔◌, IfErr, IfOk, IsTrue, None, OnErr, OnOk, Some, vec_len};
 ghost use Rattle.trio_lease.specs.Views.{bundle_in};
 ghost use Rattle.trio_case.specs.Cases.{case_in as case_shown};
 ghost use Rattle.trio_judge.specs.Judging.{IsJudgeRoom};
@@ -29,8 +29,7 @@ use trio_rights::LibNo;
 
 impl Registry {
     /// Takes a closed bundle in: its case, and the room to judge it. All memory of its end is taken, and
-    /// an entry is promised for it. With a fault the bundle comes back, and nothing has changed but what is
-    /// kept, of which one may be taken.
+    /// an entry is promised for it. With a fault the bundle comes back, and nothing has changed.
     pub(crate) fn begin(
         &mut self,
         spares: &mut Spares,
@@ -53,6 +52,7 @@ impl Registry {
         ensures looked { self.new.looked ≡ self.old.looked }
         ensures back { IfErr result (λ back. back.0 ≡ bundle) }
         ensures takes { TakesOne (sizes_of self.old.state) spares.old spares.new }
+        ensures unspent { OnErr result (vec_len spares.old.kits ≤ vec_len spares.new.kits) }
         ensures sure { HasRoom (record { made = self.old.state.entries; promised = self.old.promised }) 1 → HasSpare (room_for self.old.state.home.core (bundle_in bundle)) spares.old → IfErr result (λ back. back.1 ≢ NoReleaseMemory) }
     {
         let (case, room, draft) = match self.taken_in(spares, entry, lib, bundle) {

@@ -44,6 +44,7 @@ impl Ctl {
         ensures lease { IfOk result (λ lease. IsSomeAnd (row_at self.old.state.home ino)
             (λ r. lease ≡ lent_by (opened self.old.state lib.0 ino kind r))) }
         ensures spends { Spends 2 0 self.old.spare self.new.spare }
+        ensures unspent { self.new.log ≡ self.old.log → Spends 0 0 self.old.spare self.new.spare }
         ensures floor { self.old.looked ≤ self.new.looked }
         ensures was_kept { Kept self.old.state }
         ensures kept { Kept self.new.state }
@@ -79,6 +80,7 @@ impl Ctl {
         ensures pages { IfOk result (λ given. given.pages.items ≡ map (fresh_page lib) (page_numbers given.pages.items)) }
         ensures inodes { IfOk result (λ given. given.inodes.items ≡ map (fresh_number lib) (inode_numbers given.inodes.items)) }
         ensures spends { Spends 1 0 self.old.spare self.new.spare }
+        ensures unspent { self.new.log ≡ self.old.log → Spends 0 0 self.old.spare self.new.spare }
         ensures floor { self.old.looked ≤ self.new.looked }
         ensures was_kept { Kept self.old.state }
         ensures kept { Kept self.new.state }

@@ -189,8 +189,11 @@ impl Ctl {
     /// With one spare entry and the room of a bundle in spare bytes, [`begin`](Self::begin),
     /// [`release`](Self::release) and [`settle`](Self::settle) don't lack memory. Each of them takes of
     /// what is spare only where it finds no memory of its own, and one entry at most; the bytes stay, as
-    /// they are those of each entry. As the memory of an entry has to serve every bundle of that room,
-    /// whether it has many pages or many leases, it may take up to one and a half times the bytes.
+    /// they are those of each entry.
+    ///
+    /// Spare bytes count what one release needs. The memory of an entry serves every bundle of that room, so
+    /// it has places for the most pages and for the most leases at once. It may take more than the bytes,
+    /// but less than twice as many where they are the room of a bundle.
     pub fn make_room(&mut self, entries: u64, bytes: u64) -> Result<(), NoMemory>
         ensures entries { OnOk result (entries ≤ spare_entries self.new.spare) }
         ensures bytes { OnOk result (bytes ≤ self.new.spare.bytes) }

@@ -45,6 +45,7 @@ impl Registry {
         ensures kept { Kept self.new.state }
         ensures begun { self.new.begun ≡ self.old.begun }
         ensures promised { self.new.promised ≤ self.old.promised + 1 }
+        ensures unpromised { OnErr result (self.new.promised ≡ self.old.promised) }
         ensures floor { self.old.looked ≤ self.new.looked }
     {
         let Some(row) = self.store.rows.row(ino) else {

@@ -14,8 +14,10 @@ use trio_layout::CoreRange;
 use trio_lease::Bundle;
 use trio_page::NoMemory;
 
-// what `Ctl::room` tells is no less than what the release of a bundle takes: for each page of the bundle, for
-// each write lease, hold and inode number in it, and for each page and inode number of the image
+// `Ctl::room` tells no less than these sums, for a page of the bundle, for a write lease, hold or inode number
+// in it, and for a page and an inode number of the image. They are sums of the sizes of types, written by hand
+// beside each `with` after the lists that it makes, whose clauses say only that there are at least so many
+// places.
 const _: () = prove!(CASE_BYTES.page + ROOM_BYTES.page + DRAFT_BYTES.page <= 16384);
 
 const _: () = prove!(CASE_BYTES.value + ROOM_BYTES.value + DRAFT_BYTES.value <= 1024);
@@ -23,6 +25,10 @@ const _: () = prove!(CASE_BYTES.value + ROOM_BYTES.value + DRAFT_BYTES.value <= 
 const _: () = prove!(READ_CORE_BYTES <= 4);
 
 const _: () = prove!(LISTED_NUMBER_BYTES <= 4);
+
+// so it does of what is taken once a release: a number for every 511 core pages, of which no image has more
+// than 8192, and the table's place for the number 0
+const _: () = prove!(READ_CORE_BYTES * (8192 / 511 + 1) + LISTED_NUMBER_BYTES <= 1024);
 
 /// All memory of one release: of its case, of its judgement, and of its entry in the log. It can be made
 /// before there is a bundle.

@@ -52,6 +52,7 @@ impl Ctl {
         ensures leases { IfErr result (λ came. came.0 ≡ back) }
         ensures call { IfErr result (λ came. came.1 ≡ call_back call came.2) }
         ensures spends { Spends 1 0 self.old.spare self.new.spare }
+        ensures unspent { self.new.log ≡ self.old.log → Spends 0 0 self.old.spare self.new.spare }
         ensures floor { self.old.looked ≤ self.new.looked }
         ensures was_kept { Kept self.old.state }
         ensures kept { Kept self.new.state }

@@ -1,6 +1,6 @@
 //! Read grants: lending copies of a file, and their end.
 
-ghost use Rattle.std.specs.Prelude.{◌≡◌, ◌+◌, ◌≤◌, IfOk, None, Some};
+ghost use Rattle.std.specs.Prelude.{◌≡◌, ◌+◌, ◌≤◌, IfOk, None, OnErr, Some};
 ghost use Rattle.trio_layout.specs.Image.{row_at};
 ghost use Rattle.trio_nodes.specs.declared.grant.GrantKind.TheVariants.{Read};
 ghost use Rattle.trio_tables.specs.Row.{as_row};
@@ -40,6 +40,7 @@ impl Registry {
             ≡ lent_by (opened self.old.state lib.0 ino Read (as_row row.now))) }
         ensures begun { self.new.begun ≡ self.old.begun }
         ensures promised { self.new.promised ≤ self.old.promised + 1 }
+        ensures unpromised { OnErr result (self.new.promised ≡ self.old.promised) }
         ensures floor { self.old.looked ≤ self.new.looked }
     {
         let range = self.range();

@@ -1,6 +1,6 @@
 //! The end of a release: the judgement of what a library hands in, and what stands after it.
 
-ghost use Rattle.std.specs.Prelude.{◌≡◌, ◌≢◌, ◌≤◌, ◌+◌, ◌*◌, ℕ, IfErr, IfOk, IsOk, None, length};
+ghost use Rattle.std.specs.Prelude.{◌≡◌, ◌≢◌, ◌≤◌, ◌+◌, ◌*◌, ℕ, IfErr, IfOk, IsOk, None, OnErr, length, vec_len};
 ghost use Rattle.trio_rights.specs.Bundle.{bundle_pages};
 ghost use Rattle.trio_lease.specs.Views.{bundle_in};
 ghost use Rattle.trio_layout.specs.Copied.{with_copied};
@@ -65,6 +65,7 @@ impl Registry {
         ensures fault { IfErr result (λ back. Beginning (underway_at self.now) lib.0 (bundle_in bundle) (Answered (release_fault_answer back.1)) (underway_at self.now)) }
         ensures back { IfErr result (λ back. back.0 ≡ bundle) }
         ensures takes { TakesOne (sizes_of self.now.state) spares.old spares.new }
+        ensures unspent { OnErr result (vec_len spares.old.kits ≤ vec_len spares.new.kits) }
         ensures sure { HasRoom (record { made = self.now.state.entries; promised = self.now.promised }) 1 → HasSpare (room_for self.now.state.home.core (bundle_in bundle)) spares.old → IfErr result (λ back. back.1 ≢ NoReleaseMemory) }
     {
         if let Some(ino) = parted_hold(&self.files, &self.store.rows, lib, &bundle) {
@@ -106,6 +107,7 @@ impl Registry {
         ensures back { IfErr result (λ back. back.0 ≡ bundle) }
         ensures reads { reads.new ≤ reads.old + 2 * length (bundle_pages (bundle_in bundle)) }
         ensures takes { TakesOne (sizes_of self.now.state) spares.old spares.new }
+        ensures unspent { OnErr result (vec_len spares.old.kits ≤ vec_len spares.new.kits) }
         ensures sure { HasRoom (record { made = self.now.state.entries; promised = self.now.promised }) 1 → HasSpare (room_for self.now.state.home.core (bundle_in bundle)) spares.old → IfErr result (λ back. back.1 ≢ NoReleaseMemory) }
     {
         let (case, room, draft) = match self.taken_in(spares, entry, lib, bundle) {
@@ -124,6 +126,7 @@ impl Registry {
         ensures kit { IfOk result (HasKit (sizes_of self.now.state) bundle.now) }
         ensures sure { HasSpare (room_for self.now.state.home.core (bundle_in bundle.now)) spares.old → IsOk result }
         ensures takes { TakesOne (sizes_of self.now.state) spares.old spares.new }
+        ensures unspent { OnErr result (vec_len spares.old.kits ≤ vec_len spares.new.kits) }
     {
         let inodes = self.store.rows.inodes();
         spares.kit_for(self.alloc, bundle, self.range(), inodes, self.room(bundle))

@@ -1,6 +1,6 @@
 //! Releases, in two moves or in one call, with their entries in the log.
 
-ghost use Rattle.std.specs.Prelude.{◌≡◌, ◌≢◌, ◌≤◌, ◌+◌, ◌*◌, ◌++◌, ◌↔◌, IfErr, IfOk, IsTrue, length, true};
+ghost use Rattle.std.specs.Prelude.{◌≡◌, ◌≢◌, ◌≤◌, ◌+◌, ◌*◌, ◌++◌, ◌↔◌, IfErr, IfOk, IsTrue, OnErr, length, true};
 ghost use Rattle.std.specs.List.{list_all};
 ghost use Rattle.trio_rights.specs.Bundle.{bundle_pages};
 ghost use Rattle.trio_rights.specs.Row.{row_in};
@@ -60,6 +60,7 @@ impl Ctl {
         ensures rest { self.new ≡ record self.old { begun = self.new.begun; spare = self.new.spare } }
         ensures sure { HasRoomFor self.old (bundle_in bundle) → IfErr result (λ back. back.1 ≢ NoReleaseMemory) }
         ensures spends { Spends 1 0 self.old.spare self.new.spare }
+        ensures unspent { OnErr result (Spends 0 0 self.old.spare self.new.spare) }
         ensures back { IfErr result (λ back. back.0 ≡ bundle) }
         ensures was_kept { KeptUnderway (underway_of self.old) }
         ensures kept { KeptUnderway (underway_of self.new) }
@@ -171,6 +172,7 @@ impl Ctl {
         ensures back { IfErr result (λ back. back.0 ≡ bundle) }
         ensures sure { HasRoomFor self.old (bundle_in bundle) → IfErr result (λ back. back.1 ≢ NoReleaseMemory) }
         ensures spends { Spends 1 0 self.old.spare self.new.spare }
+        ensures unspent { OnErr result (Spends 0 0 self.old.spare self.new.spare) }
         ensures floor { self.old.looked ≤ self.new.looked }
         ensures looked { self.new.looked ≤ self.old.looked + length (bundle_pages (bundle_in bundle)) + length (bundle_in bundle).writes }
         ensures reads { reads.new ≤ reads.old + 3 * length (bundle_pages (bundle_in bundle)) + length (bundle_in bundle).writes }

@@ -1,6 +1,6 @@
 //! Settles, each with its entries in the log.
 
-ghost use Rattle.std.specs.Prelude.{◌≡◌, ◌≤◌, ◌+◌, IfErr, IsOk, length};
+ghost use Rattle.std.specs.Prelude.{◌≡◌, ◌≤◌, ◌+◌, IfErr, IsOk, OnErr, length};
 ghost use Rattle.trio_rights.specs.Bundle.{bundle_pages};
 ghost use Rattle.trio_lease.specs.Views.{bundle_in};
 ghost use Rattle.trio_desk.specs.Call.{Settle, settle_told};
@@ -51,6 +51,7 @@ impl Ctl {
         ensures calls { IfErr result (λ came. came.2 ≡ calls) }
         ensures sure { HasRoomFor self.old (bundle_in bundle) → IsOk result }
         ensures spends { Spends 1 0 self.old.spare self.new.spare }
+        ensures unspent { OnErr result (Spends 0 0 self.old.spare self.new.spare) }
         ensures floor { self.old.looked ≤ self.new.looked }
         ensures looked { self.new.looked ≤ self.old.looked + length (bundle_pages (bundle_in bundle)) + length (bundle_in bundle).writes }
         ensures was_kept { Kept self.old.state }

@@ -1,6 +1,6 @@
 //! Memory that is kept for releases to come.
 
-ghost use Rattle.std.specs.Prelude.{◌≡◌, ◌≤◌, ◌+◌, ℕ, [], IfOk, IsOk, vec_capacity, vec_len};
+ghost use Rattle.std.specs.Prelude.{◌≡◌, ◌≤◌, ◌+◌, ℕ, [], IfOk, IsOk, OnErr, vec_capacity, vec_len};
 ghost use Rattle.trio_lease.specs.Views.{bundle_in};
 ghost use Rattle.trio_desk.specs.Contents.{AreWithinLimits, Sizes};
 ghost use Rattle.trio_ctl.specs.Kits.{AreSpare, HasKit, HasSpare, IsMore, Serves, TakesOne};
@@ -48,6 +48,7 @@ impl Spares {
         ensures kit { IfOk result (HasKit (record { range = range; inodes = inodes }) bundle.now) }
         ensures sure { HasSpare room self.old → IsOk result }
         ensures takes { TakesOne (record { range = range; inodes = inodes }) self.old self.new }
+        ensures unspent { OnErr result (vec_len self.old.kits ≤ vec_len self.new.kits) }
     {
         match Kit::of(alloc, bundle, range, inodes) {
             Ok(kit) => Ok(kit),
@@ -60,6 +61,7 @@ impl Spares {
         ensures serves { (z : Sizes) → AreSpare z self.old → IfOk result (Serves z room) }
         ensures sure { HasSpare room self.old → IsOk result }
         ensures takes { (z : Sizes) → AreSpare z self.old → TakesOne z self.old self.new }
+        ensures unspent { OnErr result (vec_len self.old.kits ≤ vec_len self.new.kits) }
     {
         if room > self.bytes {
             return Err(NoMemory);

@@ -1,4 +1,4 @@
-use Rattle.std.proofs.Common.{arith, ◌++◌, [], ◌∷◌, List, ap, append-nil, inr, refl, subst, sym, ◌∙◌}
+use Rattle.std.proofs.Common.{arith, ◌++◌, [], ◌∷◌, List, ap, append-nil, inr, length, refl, subst, sym, ◌∙◌}
 use Rattle.std.specs.Prelude.{vec_len}
 use Rattle.trio_log.specs.Logged.{Logged}
 use Rattle.trio_nodes.specs.declared.entry.Entry.{Entry}
@@ -10,7 +10,7 @@ use Rattle.trio_laws.specs.history.Replays.{IsLibrary}
 use Rattle.trio_ctl.specs.Answers.{allot_answer}
 use Rattle.trio_ctl.specs.Ctl.{Controller}
 use Rattle.trio_ctl.proofs.Recording.{after_call, allot_entries, next_entry, one_room, same_room}
-use Rattle.trio_ctl.proofs.Spending.{spends_entry, spends_places}
+use Rattle.trio_ctl.proofs.Spending.{longer, spends_entry, spends_places}
 use Rattle.trio_ctl.proofs.Views.{seen_idle, seen_state}
 use Rattle.trio_ctl.proofs.ctl.Ctl.allot.Goals as goal
 
@@ -57,6 +57,7 @@ returns-in_default c = record {
   pages = tt;
   inodes = tt;
   spends = spends_places c.self.inside.log c.self.inside.registry.promised (vec_len c.self.inside.spares.kits) c.self.inside.spares.bytes (ap (λ (x : Controller). x.spare) c.self.view_is) 1 c.make_places.new.log c.self.inside.registry.promised c.make_places.ensures.kept c.make_places.ensures.grows (omega arith);
+  unspent = λ same. spends_places c.self.inside.log c.self.inside.registry.promised (vec_len c.self.inside.spares.kits) c.self.inside.spares.bytes (ap (λ (x : Controller). x.spare) c.self.view_is) 0 c.make_places.new.log c.self.inside.registry.promised c.make_places.ensures.kept c.make_places.ensures.grows (omega arith);
   floor = (let still = ap (λ (x : Controller). x.looked) c.self.view_is in omega (arith, still));
   was_kept = subst Kept (seen_state c.self.view_is) c.self.invariant.0.all.kept;
   kept = c.self.invariant.0.all.kept;
@@ -73,6 +74,7 @@ returns-in_default-with c = record {
   pages = tt;
   inodes = tt;
   spends = spends_places c.self.inside.log c.self.inside.registry.promised (vec_len c.self.inside.spares.kits) c.self.inside.spares.bytes (ap (λ (x : Controller). x.spare) c.self.view_is) 1 c.make_places.new.log c.self.inside.registry.promised c.make_places.ensures.kept c.make_places.ensures.grows (omega arith);
+  unspent = λ same. spends_places c.self.inside.log c.self.inside.registry.promised (vec_len c.self.inside.spares.kits) c.self.inside.spares.bytes (ap (λ (x : Controller). x.spare) c.self.view_is) 0 c.make_places.new.log c.self.inside.registry.promised c.make_places.ensures.kept c.make_places.ensures.grows (omega arith);
   floor = (let still = ap (λ (x : Controller). x.looked) c.self.view_is in omega (arith, still));
   was_kept = subst Kept (seen_state c.self.view_is) c.self.invariant.0.all.kept;
   kept = c.self.invariant.0.all.kept;
@@ -93,6 +95,9 @@ returns-in-Some c =
       pages = c.allot-result.ensures.pages;
       inodes = c.allot-result.ensures.inodes;
       spends = (let few = c.allot-result.ensures.promised in spends_entry c.self.inside.log c.self.inside.registry.promised (vec_len c.self.inside.spares.kits) c.self.inside.spares.bytes (ap (λ (x : Controller). x.spare) c.self.view_is) 1 c.make_places.new.log c.push.new.self c.allot-result.new.self.promised _ c.make_places.ensures.kept c.make_places.ensures.grows c.push.ensures (omega (arith, few)));
+      unspent = λ same.
+          let was = ap (λ (es : List Entry). length es) before in
+          longer c.args.self.now.log c.make_places.new.log.entries _ _ (ap (λ (l : Logged). l.entries) c.push.ensures) (omega (arith, was)) same;
       floor = (let still = ap (λ (x : Controller). x.looked) c.self.view_is in let more = c.allot-result.ensures.floor in omega (arith, still, more));
       was_kept = subst Kept seen c.self.invariant.0.all.kept;
       kept = c.allot-result.ensures.kept;
@@ -113,6 +118,7 @@ returns-in_default-allot_told c =
       pages = c.allot-result.ensures.pages;
       inodes = c.allot-result.ensures.inodes;
       spends = (let few = c.allot-result.ensures.promised in spends_places c.self.inside.log c.self.inside.registry.promised (vec_len c.self.inside.spares.kits) c.self.inside.spares.bytes (ap (λ (x : Controller). x.spare) c.self.view_is) 1 c.make_places.new.log c.allot-result.new.self.promised c.make_places.ensures.kept c.make_places.ensures.grows (omega (arith, few)));
+      unspent = λ same. (let few = c.allot-result.ensures.promised in spends_places c.self.inside.log c.self.inside.registry.promised (vec_len c.self.inside.spares.kits) c.self.inside.spares.bytes (ap (λ (x : Controller). x.spare) c.self.view_is) 0 c.make_places.new.log c.allot-result.new.self.promised c.make_places.ensures.kept c.make_places.ensures.grows (omega (arith, few)));
       floor = (let still = ap (λ (x : Controller). x.looked) c.self.view_is in let more = c.allot-result.ensures.floor in omega (arith, still, more));
       was_kept = subst Kept seen c.self.invariant.0.all.kept;
       kept = c.allot-result.ensures.kept;

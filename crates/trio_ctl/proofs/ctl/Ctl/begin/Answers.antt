@@ -94,6 +94,16 @@ returns-in_default-clause-sure c = λ room lacks.
 pub returns-in_default-clause-spends : goal.returns-in_default-clause-spends
 returns-in_default-clause-spends c = spends_places c.self.inside.log c.self.inside.registry.promised (vec_len c.self.inside.spares.kits) c.self.inside.spares.bytes (ap (λ (x : Controller). x.spare) c.self.view_is) 1 c.make_places.new.log c.self.inside.registry.promised c.make_places.ensures.kept c.make_places.ensures.grows (omega arith)
 
+pub returns-in_default-clause-unspent : goal.returns-in_default-clause-unspent
+returns-in_default-clause-unspent c = spends_places c.self.inside.log c.self.inside.registry.promised (vec_len c.self.inside.spares.kits) c.self.inside.spares.bytes (ap (λ (x : Controller). x.spare) c.self.view_is) 0 c.make_places.new.log c.self.inside.registry.promised c.make_places.ensures.kept c.make_places.ensures.grows (omega arith)
+
+pub returns-in-Err-clause-unspent : goal.returns-in-Err-clause-unspent
+returns-in-Err-clause-unspent c =
+    let long = ap (λ (es : List Entry). length es) c.make_places.ensures.kept in
+    let same = c.in-Err.ensures.unpromised in
+    let kits = c.in-Err.ensures.unspent in
+    spends_so c.self.inside.log c.self.inside.registry.promised (vec_len c.self.inside.spares.kits) c.self.inside.spares.bytes (ap (λ (x : Controller). x.spare) c.self.view_is) 0 c.make_places.new.log c.begin.new.self.promised (vec_len c.begin.new.spares.kits) c.begin.new.spares.bytes (omega (arith, long, same)) c.make_places.ensures.grows (omega (arith, kits)) c.begin.ensures.takes.bytes
+
 pub returns-in-Err-clause-sure : goal.returns-in-Err-clause-sure
 returns-in-Err-clause-sure c = λ room.
     let both = has_both (bundle_in c.args.bundle) c.self.inside.log c.self.inside.registry.promised c.self.inside.spares c.self.view_is refl (next_entry _ _ _ _ _ _ _ _ c.self.invariant.0 refl refl) c.is_small.ensures room in

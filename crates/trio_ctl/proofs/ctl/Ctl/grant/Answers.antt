@@ -1,4 +1,4 @@
-use Rattle.std.proofs.Common.{arith, ◌≡◌, ◌++◌, [], ◌∷◌, List, ap, append-nil, inr, refl, subst, sym, ◌∙◌}
+use Rattle.std.proofs.Common.{arith, ◌≡◌, ◌++◌, [], ◌∷◌, List, ap, append-nil, inr, length, refl, subst, sym, ◌∙◌}
 use Rattle.std.specs.Prelude.{vec_len}
 use Rattle.std.specs.Prelude.{IfOk}
 use Rattle.std.specs.Option.{IsSomeAnd}
@@ -14,8 +14,8 @@ use Rattle.trio_laws.specs.history.Replays.{IsLibrary}
 use Rattle.trio_ctl.specs.Answers.{grant_answer}
 use Rattle.trio_ctl.specs.Ctl.{Controller}
 use Rattle.trio_open.specs.Open.{lent_by}
-use Rattle.trio_ctl.proofs.Recording.{after_call, grant_entries, next_entry, no_more_room, one_more_room}
-use Rattle.trio_ctl.proofs.Spending.{spends_entry, spends_places}
+use Rattle.trio_ctl.proofs.Recording.{after_call, grant_entries, if_untold, next_entry, no_more_room, one_more_room}
+use Rattle.trio_ctl.proofs.Spending.{longer, spends_entry, spends_places}
 use Rattle.trio_ctl.proofs.Views.{seen_idle, seen_state}
 use Rattle.trio_ctl.proofs.ctl.Ctl.grant.Goals as goal
 
@@ -61,6 +61,7 @@ returns-in_default c = record {
   };
   lease = tt;
   spends = spends_places c.self.inside.log c.self.inside.registry.promised (vec_len c.self.inside.spares.kits) c.self.inside.spares.bytes (ap (λ (x : Controller). x.spare) c.self.view_is) 2 c.make_places.new.log c.self.inside.registry.promised c.make_places.ensures.kept c.make_places.ensures.grows (omega arith);
+  unspent = λ same. spends_places c.self.inside.log c.self.inside.registry.promised (vec_len c.self.inside.spares.kits) c.self.inside.spares.bytes (ap (λ (x : Controller). x.spare) c.self.view_is) 0 c.make_places.new.log c.self.inside.registry.promised c.make_places.ensures.kept c.make_places.ensures.grows (omega arith);
   floor = (let still = ap (λ (x : Controller). x.looked) c.self.view_is in omega (arith, still));
   was_kept = subst Kept (seen_state c.self.view_is) c.self.invariant.0.all.kept;
   kept = c.self.invariant.0.all.kept;
@@ -80,6 +81,9 @@ returns-in-Some c =
       };
       lease = subst (λ (v : State). IfOk c.grant-result.result (λ lease. IsSomeAnd (row_at v.home c.args.ino) (λ r. lease ≡ lent_by (opened v c.args.lib.0 c.args.ino c.args.kind r)))) seen c.grant-result.ensures.lease;
       spends = (let few = c.grant-result.ensures.promised in spends_entry c.self.inside.log c.self.inside.registry.promised (vec_len c.self.inside.spares.kits) c.self.inside.spares.bytes (ap (λ (x : Controller). x.spare) c.self.view_is) 2 c.make_places.new.log c.push.new.self c.grant-result.new.self.promised _ c.make_places.ensures.kept c.make_places.ensures.grows c.push.ensures (omega (arith, few)));
+      unspent = λ same.
+          let was = ap (λ (es : List Entry). length es) before in
+          longer c.args.self.now.log c.make_places.new.log.entries _ _ (ap (λ (l : Logged). l.entries) c.push.ensures) (omega (arith, was)) same;
       floor = (let still = ap (λ (x : Controller). x.looked) c.self.view_is in let more = c.grant-result.ensures.floor in omega (arith, still, more));
       was_kept = subst Kept seen c.self.invariant.0.all.kept;
       kept = c.grant-result.ensures.kept;
@@ -99,6 +103,7 @@ returns-in_default-grant_told c =
       };
       lease = subst (λ (v : State). IfOk c.grant-result.result (λ lease. IsSomeAnd (row_at v.home c.args.ino) (λ r. lease ≡ lent_by (opened v c.args.lib.0 c.args.ino c.args.kind r)))) seen c.grant-result.ensures.lease;
       spends = (let few = c.grant-result.ensures.promised in spends_places c.self.inside.log c.self.inside.registry.promised (vec_len c.self.inside.spares.kits) c.self.inside.spares.bytes (ap (λ (x : Controller). x.spare) c.self.view_is) 2 c.make_places.new.log c.grant-result.new.self.promised c.make_places.ensures.kept c.make_places.ensures.grows (omega (arith, few)));
+      unspent = λ same. (let few : c.grant-result.new.self.promised ≡ c.self.inside.registry.promised = if_untold c.grant-result.result (sym c.in_default-grant_told.is ∙ c.grant_told.ensures) c.grant-result.ensures.unpromised in spends_places c.self.inside.log c.self.inside.registry.promised (vec_len c.self.inside.spares.kits) c.self.inside.spares.bytes (ap (λ (x : Controller). x.spare) c.self.view_is) 0 c.make_places.new.log c.grant-result.new.self.promised c.make_places.ensures.kept c.make_places.ensures.grows (omega (arith, few)));
       floor = (let still = ap (λ (x : Controller). x.looked) c.self.view_is in let more = c.grant-result.ensures.floor in omega (arith, still, more));
       was_kept = subst Kept seen c.self.invariant.0.all.kept;
       kept = c.grant-result.ensures.kept;

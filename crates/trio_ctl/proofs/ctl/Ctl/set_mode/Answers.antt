@@ -1,4 +1,4 @@
-use Rattle.std.proofs.Common.{◌≡◌, ◌+◌, ◌++◌, ◌∷◌, [], ℕ, List, Ok, Err, ap, append-nil, arith, length, refl, subst, sym, ◌∙◌}
+use Rattle.std.proofs.Common.{◌≡◌, ◌+◌, ◌++◌, ◌∷◌, [], ℕ, List, Ok, Err, ap, append-nil, arith, length, length-append, refl, subst, sym, ◌∙◌}
 use Rattle.std.specs.Prelude.{vec_len}
 use Rattle.trio_lease.specs.Shown.{Shown}
 use Rattle.trio_layout.specs.Image.{row_at}
@@ -19,7 +19,7 @@ use Rattle.trio_open.specs.inner.Modes.{busy_holder}
 use Rattle.trio_ctl.proofs.LeasesBack.{all_back_is, are_back, backs_whose}
 use Rattle.trio_ctl.proofs.ModeCalls.{busy_told, fault_told, free_at, happens_moded, happens_refused, happens_wants, moded_history, moded_logs, moded_room, plain_call, plain_refusal, plain_told, refused_history}
 use Rattle.trio_ctl.proofs.Recording.{next_entry, one_room}
-use Rattle.trio_ctl.proofs.Spending.{spends_places}
+use Rattle.trio_ctl.proofs.Spending.{longer, spends_places}
 use Rattle.trio_ctl.proofs.Views.{seen_idle, seen_state}
 use Rattle.trio_ctl.proofs.ctl.Ctl.set_mode.Goals as goal
 
@@ -51,6 +51,7 @@ returns-in-Some c =
       leases = refl;
       call = refl;
       spends = record { entries = omega arith; bytes = omega arith };
+      unspent = λ same. record { entries = omega arith; bytes = omega arith };
       floor = omega arith;
       was_kept = subst Kept same c.self.invariant.0.all.kept;
       kept = subst Kept same c.self.invariant.0.all.kept;
@@ -72,6 +73,7 @@ returns-in_default-make_places c =
       leases = refl;
       call = refl;
       spends = spends_places c.self.inside.log c.self.inside.registry.promised (vec_len c.self.inside.spares.kits) c.self.inside.spares.bytes (ap (λ (x : Controller). x.spare) c.self.view_is) 1 c.make_places.new.log c.self.inside.registry.promised c.make_places.ensures.kept c.make_places.ensures.grows (omega arith);
+      unspent = λ same. spends_places c.self.inside.log c.self.inside.registry.promised (vec_len c.self.inside.spares.kits) c.self.inside.spares.bytes (ap (λ (x : Controller). x.spare) c.self.view_is) 0 c.make_places.new.log c.self.inside.registry.promised c.make_places.ensures.kept c.make_places.ensures.grows (omega arith);
       floor = (let still = ap (λ (x : Controller). x.looked) c.self.view_is in omega (arith, still));
       was_kept = subst Kept same c.self.invariant.0.all.kept;
       kept = c.self.invariant.0.all.kept;
@@ -93,6 +95,7 @@ returns-in_default-make_mode_room c =
       leases = refl;
       call = refl;
       spends = spends_places c.self.inside.log c.self.inside.registry.promised (vec_len c.self.inside.spares.kits) c.self.inside.spares.bytes (ap (λ (x : Controller). x.spare) c.self.view_is) 1 c.make_places.new.log c.self.inside.registry.promised c.make_places.ensures.kept c.make_places.ensures.grows (omega arith);
+      unspent = λ same. spends_places c.self.inside.log c.self.inside.registry.promised (vec_len c.self.inside.spares.kits) c.self.inside.spares.bytes (ap (λ (x : Controller). x.spare) c.self.view_is) 0 c.make_places.new.log c.self.inside.registry.promised c.make_places.ensures.kept c.make_places.ensures.grows (omega arith);
       floor = (let still = ap (λ (x : Controller). x.looked) c.self.view_is in omega (arith, still));
       was_kept = subst Kept same c.self.invariant.0.all.kept;
       kept = c.self.invariant.0.all.kept;
@@ -286,3 +289,14 @@ returns-in-Some-fault-clause-floor c =
     let still = ap (λ (x : Controller). x.looked) c.self.view_is in
     let back = c.refuse_mode.ensures.looked in
     omega (arith, still, back)
+
+pub returns-clause-unspent : goal.returns-clause-unspent
+returns-clause-unspent c = λ same.
+    let was = ap (λ (es : List Entry). length es) (c.make_places.ensures.kept ∙ ap (λ (x : Controller). x.log) c.self.view_is) in
+    let backs = ap (λ (es : List Entry). length es) c.give_back_all.ensures.log ∙ length-append c.make_places.new.log.entries (back_entries c.args.lib c.args.back.items) in
+    longer c.args.self.now.log c.give_back_all.new.log.entries _ _ (ap (λ (l : Logged). l.entries) c.push-2.ensures) (omega (arith, was, backs)) same
+
+pub returns-in-Some-fault-clause-unspent : goal.returns-in-Some-fault-clause-unspent
+returns-in-Some-fault-clause-unspent c = λ same.
+    let was = ap (λ (es : List Entry). length es) (c.make_places.ensures.kept ∙ ap (λ (x : Controller). x.log) c.self.view_is) in
+    longer c.args.self.now.log c.make_places.new.log.entries _ _ (ap (λ (l : Logged). l.entries) c.push.ensures) (omega (arith, was)) same

@@ -73,6 +73,7 @@ returns-in_default c =
           let promised = c.promised.ensures in
           c.in_default.ensures.succeeds (omega (arith, place, promised));
       spends = spends_places c.self.inside.log c.self.inside.registry.promised (vec_len c.self.inside.spares.kits) c.self.inside.spares.bytes (ap (λ (x : Controller). x.spare) c.self.view_is) 1 c.make_places.new.log c.self.inside.registry.promised c.make_places.ensures.kept c.make_places.ensures.grows (omega arith);
+      unspent = spends_places c.self.inside.log c.self.inside.registry.promised (vec_len c.self.inside.spares.kits) c.self.inside.spares.bytes (ap (λ (x : Controller). x.spare) c.self.view_is) 0 c.make_places.new.log c.self.inside.registry.promised c.make_places.ensures.kept c.make_places.ensures.grows (omega arith);
       looked = (let same = ap (λ (x : Controller). x.looked) c.self.view_is in omega (arith, same));
       floor = (let still = ap (λ (x : Controller). x.looked) c.self.view_is in omega (arith, still));
       was_kept = subst Kept (seen_state c.self.view_is) c.self.invariant.0.all.kept;
@@ -101,6 +102,9 @@ returns-in-Err c =
       spends =
           spends_so c.self.inside.log c.self.inside.registry.promised (vec_len c.self.inside.spares.kits) c.self.inside.spares.bytes (ap (λ (x : Controller). x.spare) c.self.view_is) 1 c.make_places.new.log c.self.inside.registry.promised (vec_len c.judged.new.spares.kits) c.judged.new.spares.bytes
           (let long = ap (λ (es : List Entry). length es) c.make_places.ensures.kept in omega (arith, long)) c.make_places.ensures.grows c.judged.ensures.takes.kits c.judged.ensures.takes.bytes;
+      unspent =
+          spends_so c.self.inside.log c.self.inside.registry.promised (vec_len c.self.inside.spares.kits) c.self.inside.spares.bytes (ap (λ (x : Controller). x.spare) c.self.view_is) 0 c.make_places.new.log c.self.inside.registry.promised (vec_len c.judged.new.spares.kits) c.judged.new.spares.bytes
+          (let long = ap (λ (es : List Entry). length es) c.make_places.ensures.kept in omega (arith, long)) c.make_places.ensures.grows (let kits = c.in-Err.ensures.unspent in omega (arith, kits)) c.judged.ensures.takes.bytes;
       looked = (let same = ap (λ (x : Controller). x.looked) c.self.view_is in omega (arith, same));
       floor = (let still = ap (λ (x : Controller). x.looked) c.self.view_is in omega (arith, still));
       was_kept = subst Kept (seen_state c.self.view_is) c.self.invariant.0.all.kept;

@@ -8,7 +8,7 @@ use Rattle.trio_layout.specs.Image.{row_at}
 use Rattle.trio_state.specs.Step.{Grant}
 use Rattle.trio_laws.proofs.Runs.{step_kept}
 use Rattle.trio_ctl.proofs.Views.{state_is}
-use Rattle.trio_ctl.proofs.Granting.{denied_step, kept_either}
+use Rattle.trio_ctl.proofs.Granting.{denied_step, kept_either, where_refused}
 use Rattle.trio_ctl.proofs.registry.Registry.grant.Goals as goal
 
 pub returns-in_default-clause-kept : goal.returns-in_default-clause-kept
@@ -36,3 +36,9 @@ returns-in-Some-denial-clause-step c =
     let r = as_row c.in-Some.row in
     let live = subst (λ (v : State). row_at v.home c.args.ino ≡ Some r) (state_is c.self.view_is) (sym c.row.ensures ∙ ap (option_map as_row) c.in-Some.is) in
     denied_step c.args.self.now.state c.args.lib.0 c.args.ino c.args.kind r c.in-Some-denial.fault c.log_refusal-in-Some-denial.result c.log_refusal-in-Some-denial.new.self.state live (sym c.denial.ensures ∙ c.in-Some-denial.is) c.log_refusal-in-Some-denial.ensures.answer
+
+pub returns-in-Write-clause-unpromised : goal.returns-in-Write-clause-unpromised
+returns-in-Write-clause-unpromised c = where_refused c.lend_file.result c.lend_file.ensures.promised
+
+pub returns-in-Hold-clause-unpromised : goal.returns-in-Hold-clause-unpromised
+returns-in-Hold-clause-unpromised c = where_refused c.lend_hold.result c.lend_hold.ensures.promised

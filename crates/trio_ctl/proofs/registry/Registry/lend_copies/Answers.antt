@@ -127,5 +127,6 @@ returns-in-Ok-push c =
           (ap ReadLent (c.in-Ok-copied_file.ensures.lease ∙ ap (λ (o : Opened). shown_of o.grant) made));
       begun = ap (λ (x : Registered). x.begun) c.self.view_is;
       promised = (let new = ap (λ (e : Entries). e.promised) c.enter_with_promise.ensures in let old = ap (λ (x : Registered). x.promised) c.self.view_is in omega (arith, new, old));
+      unpromised = tt;
       floor = (let old = ap (λ (x : Registered). x.looked) c.self.view_is in omega (arith, old, c.settled_body.ensures.floor, c.copied_file.ensures.floor));
     }

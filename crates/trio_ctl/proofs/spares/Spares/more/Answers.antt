@@ -15,5 +15,5 @@ loop-preserved c =
     let room = inv.2 in
     let grows = c.in_ok-push.ensures.capacity in
     let one = c.in_ok-push.ensures.len in
-    let serves = serves_so z each c.within-size.result c.core_pages-core.result c.in_ok-with.field-0 c.within-size.ensures.enough (sym c.core_pages-core.ensures) c.in_ok-with.ensures in
+    let serves = serves_so z each c.within-size.result c.core_pages-core.result c.in_ok-with.field-0 c.within-size.ensures.enough c.within-size.ensures.all (sym c.core_pages-core.ensures) c.in_ok-with.ensures in
     (omega (arith, at, one), inv.1, omega (arith, room, grows), subst (All (Serves z each)) (sym c.in_ok-push.ensures.items) (All-push (Serves z each) c.loop.kits.items c.in_ok-with.field-0 inv.3 serves))
