@@ -25,6 +25,7 @@ ghost use Rattle.trio_app.specs.Main.{EndOfProcess};
 mod generating;
 mod plain;
 mod running;
+mod saying;
 mod script;
 mod sure;
 mod threads;
@@ -33,6 +34,7 @@ mod turns;
 pub use generating::generate;
 pub use plain::plain_main;
 pub use running::run;
+use saying::{say_broken_rule, say_faults};
 use std::alloc::Global;
 use std::env;
 use std::fs::File;
@@ -86,20 +88,6 @@ fn words_given<R: Env + AllocGlobal>(rt: &R) -> Result<Vec<String>, NoMemory> {
     }
 }
 
-/// Says on the standard error which call of the host failed last, on what and why, where one did.
-fn say_faults<R: Host<File = File> + Print + Eprint>(
-    rt: &R,
-    files: &RealFiles<'_, R>,
-    out: &StdoutSink<'_, R>,
-) {
-    if let Some((name, error)) = files.last_fault() {
-        let _ = eprintln!(rt; "trio: {name}: {error}");
-    }
-    if let Some(error) = out.last_fault() {
-        let _ = eprintln!(rt; "trio: standard output: {error}");
-    }
-}
-
 /// Runs the program on the words of the command line, the host's files and its standard output.
 fn run_words<R: Threads + Wait + Sync + Env + Host<File = File> + Print + Eprint + AllocGlobal>(
     rt: &R,
@@ -118,6 +106,9 @@ fn run_words<R: Threads + Wait + Sync + Env + Host<File = File> + Print + Eprint
     let mut out = StdoutSink::new(rt);
     let status = trio_main(rt, rt.alloc(), &words, &mut files, &mut out, &OpenGate);
     say_faults(rt, &files, &out);
+    if status == Status::NotVerified.code() {
+        say_broken_rule(rt, &mut files, &words);
+    }
     status
 }
 

@@ -18,6 +18,7 @@ mod content;
 mod counts;
 mod hold_gate;
 mod kept;
+mod limit;
 mod memory;
 mod outside;
 mod plan;

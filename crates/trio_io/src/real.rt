@@ -12,13 +12,14 @@ ghost use Rattle.trio_io.specs.Shelf.{Rose, NoFaults};
 
 use crate::counts::{FaultCounts, is_among, place};
 use crate::replacing::replace_file;
-use crate::standing::{Standing, Target};
+use crate::standing::{Standing, Target, linked_paths};
 use crate::streams::{HostErrors, counted, fill, write_all};
 use crate::temporary::NAME_LENGTH;
 use crate::{Failed, Files, MAX_OFFSET, Sink};
 use std::alloc::{AllocError as NoMemory, Global};
 use std::fs::File;
 use std::io::{Seek, SeekFrom};
+use std::path::PathBuf;
 use std::rt::Files as Host;
 use std::{fs, io};
 
@@ -43,8 +44,10 @@ use std::{fs, io};
 /// A temporary file is locked while it is written. One that nobody has locked was left by a run that
 /// was killed, and a write that would take its name removes it.
 ///
-/// The memory for a temporary file's path is taken beforehand. Where a name is a link and there is no
-/// memory for where it leads, the write fails.
+/// A regular file isn't replaced by more bytes than the process may write into one.
+///
+/// The memory for a temporary file's path is taken beforehand, and that for where a link leads. Where a
+/// link was changed since and there is no memory for where it leads now, the write fails.
 ///
 /// An error of the host that makes a call fail raises the count of its name and direction. A call
 /// that was interrupted raises it too, and is made again. It changes nothing that the host has no
@@ -56,6 +59,7 @@ pub struct RealFiles<'a, R: Host<File = File>> {
     counts: FaultCounts,
     last_read: Option<OpenRead>,
     first_reads: Vec<Option<Standing>>,
+    links: Vec<Option<PathBuf>>,
     path: String,
     last_fault: Option<(usize, io::Error)>,
 }
@@ -83,13 +87,16 @@ impl<'a, R: Host<File = File>> RealFiles<'a, R> {
             (λ files. NoFaults (⟦<RealFiles<'a, R> as Files>⟧.seen files)) }
     {
         let first_reads = vec![in alloc; None; names.len()]?;
-        let path = String::with_capacity(alloc, longest(&names).saturating_add(NAME_LENGTH))?;
+        let links = linked_paths(host, alloc, &names)?;
+        let most = longest(&names).max(longest_path(&links));
+        let path = String::with_capacity(alloc, most.saturating_add(NAME_LENGTH))?;
         Ok(RealFiles {
             host,
             alloc,
             counts: FaultCounts::new(alloc, names)?,
             last_read: None,
             first_reads,
+            links,
             path,
             last_fault: None,
         })
@@ -127,6 +134,17 @@ fn longest(names: &[String]) -> usize {
     let mut most = 0;
     for name in names {
         most = most.max(name.len());
+    }
+    most
+}
+
+/// The length of the longest of these paths.
+fn longest_path(paths: &[Option<PathBuf>]) -> usize {
+    let mut most = 0;
+    for path in paths {
+        if let Some(path) = path {
+            most = most.max(path.as_str().len());
+        }
     }
     most
 }
@@ -231,6 +249,7 @@ impl<R: Host<File = File>> Files for RealFiles<'_, R> {
             name,
             names: &counts.names,
             first_reads: &self.first_reads,
+            links: &self.links,
         };
         let path = &mut self.path;
         let result = replace_file(self.host, self.alloc, path, &target, bytes, &mut errors);

@@ -5,14 +5,14 @@ ghost use Rattle.std.specs.Io.KnownBytes.{Appends};
 ghost use Rattle.trio_io.specs.Shelf.{Rose};
 
 use crate::Failed;
-use crate::standing::{Standing, Target};
+use crate::limit::check_size;
+use crate::standing::{Standing, Target, is_link};
 use crate::streams::{HostErrors, counted, failed, write_all};
 use crate::temporary::{create_beside, lock, set_beside};
 use std::alloc::Global;
 use std::fs::{File, Metadata, OpenFile, OpenOptions, Permissions};
 use std::io::{ErrorKind, Write};
 use std::os::unix::fs::{FileTypeExt, MetadataExt, PermissionsExt};
-use std::path::PathBuf;
 use std::rt::Files as Host;
 use std::{fs, io};
 
@@ -26,8 +26,8 @@ struct OldFile {
     metadata: Metadata,
 }
 
-/// Makes these bytes the whole content of a file. `path` gets the names that are needed, and has
-/// room for those beside a target that is no link.
+/// Makes these bytes the whole content of a file. `path` gets the names that are needed, and has room for
+/// those beside a target that leads where it led before.
 ///
 /// A regular file, or none, is replaced by a temporary file that was written and synced beside it:
 /// whatever happens, the old content or the new one stands whole. It may be replaced only where it
@@ -93,22 +93,25 @@ fn replace_regular<R: Host<File = File>>(
     ensures cause { OnErr result (Rose errors.old.count errors.new.count) }
     ensures later { errors.old.count ≤ errors.new.count }
 {
-    let linked = counted(linked_path(host, alloc, target.name), errors)?;
-    let place = match &linked {
-        Some(path) => path.as_str(),
-        None => target.name,
+    let is_link = is_link(host, target.name);
+    let known = if is_link {
+        target.known_path(host)
+    } else {
+        None
+    };
+    let found = if is_link && known.is_none() {
+        Some(counted(host.canonicalize(alloc, target.name), errors)?)
+    } else {
+        None
+    };
+    let place = match (known, &found) {
+        (Some(path), _) => path,
+        (None, Some(path)) => path.as_str(),
+        (None, None) => target.name,
     };
     write_and_rename(host, path, place, target, old, bytes, errors)?;
     let _ = sync_folder(host, path, place);
     Ok(())
-}
-
-/// Where a name is a link, the path of the file that it leads to.
-fn linked_path<R: Host>(host: &R, alloc: Global, name: &str) -> io::Result<Option<PathBuf>> {
-    match fs::symlink_metadata(host, name) {
-        Ok(metadata) if metadata.is_symlink() => Ok(Some(host.canonicalize(alloc, name)?)),
-        _ => Ok(None),
-    }
 }
 
 /// Writes a temporary file beside a path and renames it to that path, or removes it.
@@ -129,6 +132,7 @@ fn write_and_rename<R: Host<File = File>>(
         None => None,
     };
     let mode = first_mode(old_metadata);
+    counted(check_size(host, bytes), errors)?;
     let mut new = counted(create_beside(host, path, place, mode), errors)?;
     let replaced = match write_synced(&mut new, old_metadata, bytes, errors) {
         Ok(()) => counted(rename_over(host, path, place, target, old), errors),

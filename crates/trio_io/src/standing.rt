@@ -1,9 +1,11 @@
 //! Which file of the host a name leads to, and whether it is still that file.
 
 use crate::counts::place;
+use std::alloc::{AllocError as NoMemory, Global};
 use std::fs::Metadata;
 use std::io::ErrorKind;
 use std::os::unix::fs::MetadataExt;
+use std::path::PathBuf;
 use std::rt::Files as Host;
 use std::{fs, io};
 
@@ -42,9 +44,23 @@ pub(crate) struct Target<'a> {
     pub names: &'a [String],
     /// Each name's file as it stood at the first read of the name.
     pub first_reads: &'a [Option<Standing>],
+    /// Of each name that was a link, the path of the file to which it led.
+    pub links: &'a [Option<PathBuf>],
 }
 
-impl Target<'_> {
+impl<'a> Target<'a> {
+    /// The path of the file to which the name led, where it still leads there.
+    pub fn known_path<R: Host>(&self, host: &R) -> Option<&'a str> {
+        let path = match self.links.get(place(self.names, self.name))? {
+            Some(path) => path.as_str(),
+            None => return None,
+        };
+        match (standing_of(host, self.name), standing_of(host, path)) {
+            (Ok(Some(now)), Ok(Some(there))) if now.is_same_file(&there) => Some(path),
+            _ => None,
+        }
+    }
+
     /// Fails unless the name leads to the file that stood there, or to none where none did, and
     /// that file is as it was when it was read.
     pub fn check<R: Host>(&self, host: &R, stood: Option<Standing>) -> io::Result<()> {
@@ -69,6 +85,38 @@ impl Target<'_> {
             }
         }
         true
+    }
+}
+
+/// Of each name that is a link, the path of the file to which it leads, if it leads to one.
+pub(crate) fn linked_paths<R: Host>(
+    host: &R,
+    alloc: Global,
+    names: &[String],
+) -> Result<Vec<Option<PathBuf>>, NoMemory> {
+    let mut paths = Vec::with_capacity(alloc, names.len())?;
+    for name in names {
+        paths.push(linked_path(host, alloc, name.as_str())?)?;
+    }
+    Ok(paths)
+}
+
+fn linked_path<R: Host>(host: &R, alloc: Global, name: &str) -> Result<Option<PathBuf>, NoMemory> {
+    if !is_link(host, name) {
+        return Ok(None);
+    }
+    match host.canonicalize(alloc, name) {
+        Ok(path) => Ok(Some(path)),
+        Err(error) if error.kind() == ErrorKind::OutOfMemory => Err(NoMemory),
+        Err(_) => Ok(None),
+    }
+}
+
+/// Whether a name is a link of the host.
+pub(crate) fn is_link<R: Host>(host: &R, name: &str) -> bool {
+    match fs::symlink_metadata(host, name) {
+        Ok(metadata) => metadata.is_symlink(),
+        Err(_) => false,
     }
 }
 
