@@ -1,8 +1,10 @@
-//! What the layers that need no controller cost: the judge on bundles of many pages, a check of an image,
-//! the tree of one as text, and the index of a directory.
+//! What the layers that need no controller cost: the judge on bundles of many pages, the survey of images
+//! that are made to be slow, a check of an image, the tree of one as text, and the index of a directory.
 //!
 //! - `trio_bench_layers judge` judges bundles of directory pages, each five times over, and prints how
 //!   often the time of one goes into that of another.
+//! - `trio_bench_layers survey` surveys the worst images known, each five times over, and prints how often
+//!   the time of a full one goes into that of each.
 //! - `trio_bench_layers workload IMAGE` writes an image of the shape and size in which the generator's
 //!   workload leaves one, and `trio_bench_layers check IMAGE` loads and verifies an image and reads and
 //!   sums the bytes of its file, ten times over, and prints how often the second time goes into the first.
@@ -17,13 +19,16 @@
 
 mod bundles;
 mod checking;
+mod images;
 mod judging;
 mod names;
+mod surveying;
 mod trees;
 
 use crate::checking::{measure_check, write_workload};
 use crate::judging::measure_judge;
 use crate::names::measure_names;
+use crate::surveying::measure_survey;
 use crate::trees::measure_tree;
 use std::alloc::Global;
 use std::fs::File;
@@ -35,6 +40,7 @@ use trio_bench_common::words_given;
 #[derive(Clone, Copy)]
 enum Asked<'a> {
     Judge,
+    Survey,
     Tree,
     Names,
     /// An image of this name is to be written.
@@ -57,6 +63,8 @@ fn read_words(words: &[String]) -> Asked<'_> {
 fn alone<'a>(what: &str) -> Asked<'a> {
     if what == "judge" {
         Asked::Judge
+    } else if what == "survey" {
+        Asked::Survey
     } else if what == "tree" {
         Asked::Tree
     } else if what == "names" {
@@ -77,7 +85,7 @@ fn with_image<'a>(what: &str, image: &'a str) -> Asked<'a> {
 }
 
 const USAGE: &str =
-    "usage: trio_bench_layers judge\n       trio_bench_layers workload IMAGE\n       trio_bench_layers check IMAGE\n       trio_bench_layers tree\n       trio_bench_layers names";
+    "usage: trio_bench_layers judge\n       trio_bench_layers survey\n       trio_bench_layers workload IMAGE\n       trio_bench_layers check IMAGE\n       trio_bench_layers tree\n       trio_bench_layers names";
 
 fn main(rt: HostRuntime) -> io::Result<()> {
     let words = words_given(&rt)?;
@@ -91,6 +99,7 @@ fn measure<R: Clock + Files<File = File> + Print + AllocGlobal>(
 ) -> io::Result<()> {
     match asked {
         Asked::Judge => measure_judge(rt),
+        Asked::Survey => measure_survey(rt),
         Asked::Tree => measure_tree(rt),
         Asked::Names => measure_names(rt),
         Asked::Workload(name) => write_workload(rt, name),
