@@ -1,4 +1,5 @@
-//! Images of 32 MiB: a full one, and ones whose files share their blocks.
+//! Images of 32 MiB: a full one, a deep one, a wide one, one of equal blocks, and ones whose files share
+//! their blocks.
 
 use std::alloc::Global;
 use trio_layout::{Body, CoreRange, EntryPart};
@@ -109,19 +110,76 @@ fn add_file(alloc: Global, sample: &mut Sample, directory: u32, file: u32) -> Op
     Some(())
 }
 
+/// An image of one directory in another, as deep as its pages suffice.
+pub fn deep_image(alloc: Global) -> Option<Image> {
+    let mut sample = blank(alloc)?;
+    let depth = RANGE.end.saturating_sub(RANGE.first) / 2;
+    for d in 0..depth {
+        let head = RANGE.first.wrapping_add(2 * d);
+        put_chain(&mut sample, head, &behind(alloc, head, 1)?, 0);
+        let entry = shared_entry(Kind::Directory, d, 0, false)?;
+        let (child, blocks) = if d.wrapping_add(1) < depth {
+            (head.wrapping_add(2), 1)
+        } else {
+            (0, 0)
+        };
+        put_entry(&mut sample, head.wrapping_add(1), 0, &entry, child, blocks);
+    }
+    image_of(alloc, sample, 1)
+}
+
+/// An image of as many empty files as it has inode numbers, all in the root.
+pub fn wide_image(alloc: Global) -> Option<Image> {
+    let mut sample = blank(alloc)?;
+    let block = put_root(alloc, &mut sample, INODES - 1)?;
+    for file in 0..INODES - 1 {
+        let entry = shared_entry(Kind::Regular, file, mixed(file), false)?;
+        put_entry(&mut sample, block, file, &entry, 0, 0);
+    }
+    image_of(alloc, sample, (INODES - 1).div_ceil(SLOTS))
+}
+
+/// How many directories an image of equal blocks has.
+const EQUALS: u32 = 3500;
+
+/// An image of directories that have one block each, all of the same bytes.
+pub fn equal_image(alloc: Global) -> Option<Image> {
+    let mut sample = blank(alloc)?;
+    let block = put_root(alloc, &mut sample, EQUALS)?;
+    let first = block.wrapping_add(EQUALS.div_ceil(SLOTS));
+    for d in 0..EQUALS {
+        let head = first.wrapping_add(2 * d);
+        put_chain(&mut sample, head, &behind(alloc, head, 1)?, 0);
+        let entry = shared_entry(Kind::Directory, d, d, false)?;
+        put_entry(&mut sample, block, d, &entry, head, 1);
+        for slot in 0..SLOTS {
+            let entry = shared_entry(Kind::Regular, EQUALS + slot, slot, false)?;
+            put_entry(&mut sample, head.wrapping_add(1), slot, &entry, 0, 0);
+        }
+    }
+    image_of(alloc, sample, EQUALS.div_ceil(SLOTS))
+}
+
+/// Writes the chain of a root of so many entries, and returns its first block.
+fn put_root(alloc: Global, sample: &mut Sample, entries: u32) -> Option<u32> {
+    let listing = entries.div_ceil(SLOTS);
+    let block = RANGE.first.wrapping_add(listing.div_ceil(INDEX));
+    let pages = behind(alloc, block.wrapping_sub(1), listing)?;
+    put_chain(sample, RANGE.first, &pages, 0);
+    Some(block)
+}
+
 /// An image of these files. In this order it has the root's index pages and blocks, the empty block, the
 /// full ones, the index pages that all chains share, and the first ones.
 pub fn shared_image(alloc: Global, shared: &Shared) -> Option<Image> {
     let mut sample = blank(alloc)?;
     let listing = shared.files.div_ceil(SLOTS);
-    let block = RANGE.first.wrapping_add(listing.div_ceil(INDEX));
+    let block = put_root(alloc, &mut sample, shared.files)?;
     let empty = block.wrapping_add(listing);
     let rest = empty.wrapping_add(shared.blocks).wrapping_add(1);
     let chain = chain_behind(alloc, shared, empty)?;
     let more = shared.blocks.wrapping_add(shared.empty);
     let first = rest.wrapping_add(more.div_ceil(INDEX));
-    let root = behind(alloc, block.wrapping_sub(1), listing)?;
-    put_chain(&mut sample, RANGE.first, &root, 0);
     put_chain(&mut sample, rest, &chain, 0);
     let padding = vec![in alloc; empty; INDEX as usize].ok()?;
     for head in 0..shared.heads {
