@@ -25,16 +25,18 @@ use Rattle.trio_walk.specs.Walks.{InAllShown}
 use Rattle.trio_walk.specs.Asks.{IsAlike, noted}
 use Rattle.trio_walk.specs.declared.outcome.Outcome.{Outcome}
 use Rattle.trio_walk.specs.declared.outcome.Outcome.TheVariants.{Replied}
-use Rattle.trio_calls_dir.specs.declared.calls.TryEnd.{TryEnd}
-use Rattle.trio_calls_dir.specs.declared.calls.TryEnd.TheVariants.{NoMemory as LacksMemory, Replied as IsRepliedTry}
+use Rattle.trio_calls_dir.specs.declared.chmods.ChmodTry.{ChmodTry}
+use Rattle.trio_walk.specs.declared.attempts.TryEnd.{TryEnd}
+use Rattle.trio_walk.specs.declared.attempts.TryEnd.TheVariants.{NoMemory as LacksMemory, Replied as IsRepliedTry}
 use Rattle.trio_calls_dir.specs.Chmods.{EndsHandedIn, EndsModed, LeavesBy, NamesOther, hand_in_ask, mode_ask}
 use Rattle.trio_calls_dir.specs.inner.Chmods.{ComesBack, IsRetold, IsUnset, RefusesSo}
-use Rattle.trio_calls_dir.specs.inner.Goes.{IsRefusedAs, SameDesk}
-use Rattle.trio_calls_dir.specs.inner.Tries.{try_end}
+use Rattle.trio_calls_dir.specs.inner.Goes.{IsRefusedAs}
+use Rattle.trio_walk.specs.Tries.{SameDesk, try_end}
 use Rattle.trio_calls_dir.proofs.Alike.{may_alike}
 use Rattle.trio_calls_dir.proofs.Ends.{may_looked}
 use Rattle.trio_calls_dir.proofs.Given.{may_now}
-use Rattle.trio_calls_dir.proofs.Tries.{may_empty, may_settled, settled, unsettled}
+use Rattle.trio_edit_laws.proofs.Called.{may_after, may_settled, settle_may}
+use Rattle.trio_walk.proofs.Retrying.{settled, unsettled}
 
 -- a session that is empty but for its look-ups and room
 emptied_by : (s s' : SessionSeen) → s' ≡ record (emptied s) { room = s'.room } → s' ≡ record (emptied s) { finds = s'.finds; room = s'.room }
@@ -95,8 +97,7 @@ module _ {D : Type 0} (called : D → Ask → Told → D → Type 0) (seen : D �
   set_done_may x e on = by asked
     where
       told_by : (told : Told) → AfterMode s call result s' told → MayCall (seen d') s'
-      told_by ModeSet after =
-          subst (λ (q : SessionSeen). MayCall (seen d') q) (sym after.1) (may_empty (seen d') (record s { room = s'.room }) (subst (λ (q : SessionSeen). IsOn (seen d') q) after.1 on))
+      told_by ModeSet after = may_settled (seen d') s s' after.1 on
       told_by (NotModeSet f) after = absurd (let wrong : Ok x ≡ Err (call_back (Some call) f, f) = sym e ∙ after.0 in cc wrong)
       told_by told after = absurd after
 
@@ -129,7 +130,7 @@ module _ {D : Type 0} (called : D → Ask → Told → D → Type 0) (seen : D �
         by (Made told made then) = told_by told made then.0 then.1
         by (NotMade same alone) = absurd alone
 
-    unset_as : (end : TryEnd) → IsUnset back fault end → IsUnset (call_back (Some call) refused.0) refused.0 end
+    unset_as : (end : TryEnd ChmodTry) → IsUnset back fault end → IsUnset (call_back (Some call) refused.0) refused.0 end
     unset_as end u = subst (λ b. IsUnset b refused.0 end) refused.1.back_is (subst (λ k. IsUnset back k end) refused.1.fault_is u)
 
     -- by its cause, Busy or want of memory
@@ -145,7 +146,7 @@ module _ {D : Type 0} (called : D → Ask → Told → D → Type 0) (seen : D �
         by NotOwner r = absurd r
         by BadMode r = absurd r
 
-    pub set_refused : (end : TryEnd) → IsUnset back fault end → IsOn (seen d) s → HasReadsAlone s → Modes (try_end end)
+    pub set_refused : (end : TryEnd ChmodTry) → IsUnset back fault end → IsOn (seen d) s → HasReadsAlone s → Modes (try_end end)
     set_refused end u on alone = by refused.0 refused.1 (unset_as end u)
       where
         alike : IsAlike s s'
@@ -201,32 +202,25 @@ module _ {D : Type 0} (called : D → Ask → Told → D → Type 0) (seen : D �
     asks_it = ap (λ (q : SessionSeen). Settle q.parcel q.reads q.calls) whole ∙ ap (λ (cs : List Done). Settle s.parcel s.reads (cs ++ one ∷ [])) alone.calls
 
     module _ {E : Type 0} (d' : D) (s3 : SessionSeen) (result : Result ℕ E)
-        (asked : OneCall called d (Settle s2.parcel s2.reads s2.calls) d' (λ told. SeenAfter (seen d) (Settle s2.parcel s2.reads s2.calls) told (seen d') × AfterSettle s2 result s3 told) ⊥) where
+        (asked : OneCall called d (Settle s2.parcel s2.reads s2.calls) d' (λ told. SeenAfter (seen d) (Settle s2.parcel s2.reads s2.calls) told (seen d') × AfterSettle s2 result s3 told) ⊥) (on : IsOn (seen d') s3) where
       -- how it ends
-      abbrev Hands : TryEnd → SessionSeen → Type 0
+      abbrev Hands : TryEnd ChmodTry → SessionSeen → Type 0
       Hands end s' = OneCall called d (hand_in_ask s call reply) d' (λ told. EndsHandedIn reply told (try_end end) × LeavesBy s (try_end end) s') ((end ≡ LacksMemory) × IsAlike s s')
 
       -- it was handed in
       pub handed : (n : ℕ) → result ≡ Ok n → Hands (IsRepliedTry reply) s3
       handed n e =
-          let t = settled called seen d d' s2 s3 result asked n e in
+          let t = (settled called seen d d' s2 s3 result asked on n e).0 in
           Made Settled (subst (λ a. called d a Settled d') asks_it t.made)
           (refl, emptied_by s s3 (t.empty ∙ ap (λ (q : SessionSeen). record (emptied q) { room = s3.room }) whole))
 
-      pub handed_may : (n : ℕ) → result ≡ Ok n → IsOn (seen d') s3 → MayCall (seen d') s3
-      handed_may n e on = may_settled called seen d d' s2 s3 result asked (settled called seen d d' s2 s3 result asked n e) on
-
-      settle_same : SameDesk (seen d) (seen d')
-      settle_same = by asked
-        where
-          by : OneCall called d (Settle s2.parcel s2.reads s2.calls) d' (λ told. SeenAfter (seen d) (Settle s2.parcel s2.reads s2.calls) told (seen d') × AfterSettle s2 result s3 told) ⊥ → SameDesk (seen d) (seen d')
-          by (Made told made then) = record { lib = then.0.lib; creds = then.0.creds; sizes = then.0.sizes; root = then.0.root }
-          by (NotMade same none) = absurd none
+      pub handed_may : MayCall (seen d') s3
+      handed_may = settle_may called seen d d' s2 s3 result asked noted_may on
 
       -- there was no memory, and it was taken back
       module _ (fault : E) (e : result ≡ Err fault) (s4 : SessionSeen) (taken : Option Done) (took_back : MatchOption taken ((s3.calls ≡ []) × (s4 ≡ s3)) (λ done. (s3.calls ≡ s4.calls ++ done ∷ []) × (s4 ≡ record s3 { calls = s4.calls }))) where
         same : s3 ≡ noted call reply 0 (record s { room = room })
-        same = (unsettled called seen d d' s2 s3 result asked fault e).same ∙ whole
+        same = (unsettled called seen d d' s2 s3 result asked on fault e).0.same ∙ whole
 
         back : s4 ≡ record s { room = room; calls = [] }
         back =
@@ -238,10 +232,12 @@ module _ {D : Type 0} (called : D → Ask → Told → D → Type 0) (seen : D �
 
         pub unhanded : Hands LacksMemory s4
         unhanded =
-            let t = unsettled called seen d d' s2 s3 result asked fault e in
+            let t = (unsettled called seen d d' s2 s3 result asked on fault e).0 in
             Made NotSettled (subst (λ a. called d a NotSettled d') asks_it t.made) (refl, alike)
 
-        pub unhanded_may : IsOn (seen d') s3 → MayCall (seen d') s4
-        unhanded_may on =
+        pub unhanded_may : MayCall (seen d') s4
+        unhanded_may =
+            let t = (unsettled called seen d d' s2 s3 result asked on fault e).1 in
             let o = subst (λ (q : SessionSeen). IsOn (seen d') q) same on in
-            may_alike (seen d') s s4 alike (may_now (seen d) (seen d') s settle_same may (record { lib = o.lib; creds = o.creds; out = o.out; writes = o.writes; reads = o.reads; core = o.core }))
+            may_alike (seen d') s s4 alike
+            (may_after (seen d) (seen d') (Settle s2.parcel s2.reads s2.calls) NotSettled s t.seen may (record { lib = o.lib; creds = o.creds; out = o.out; writes = o.writes; reads = o.reads; core = o.core }))

@@ -7,7 +7,7 @@ use Rattle.trio_walk.specs.Walks.{Walked}
 use Rattle.trio_walk.specs.declared.walks.WalkEnd.{WalkEnd}
 use Rattle.trio_walk.proofs.Possible.{calls_same}
 use Rattle.trio_nodes.specs.Nodes.{Nodes}
-use Rattle.trio_calls_dir.specs.inner.Tries.{HasNothing}
+use Rattle.trio_walk.specs.Tries.{HasNothing}
 
 -- what has nothing has nothing but read leases
 pub none_alone : (s : SessionSeen) → HasNothing s → HasReadsAlone s

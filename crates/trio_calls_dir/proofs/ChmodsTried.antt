@@ -30,18 +30,19 @@ use Rattle.trio_session.specs.Seen.{HasReadsAlone, SessionSeen, emptied}
 use Rattle.trio_edit_laws.specs.Calls.{MayCall}
 use Rattle.trio_walk.specs.declared.walks.WalkEnd.{WalkEnd}
 use Rattle.trio_walk.specs.declared.walks.WalkEnd.TheVariants.{At, Reply as IsReply, Busy as IsBusyWalk, NoMemory as NoWalkMemory}
-use Rattle.trio_walk.specs.Needs.{Needed, asked}
+use Rattle.trio_walk.specs.Needs.{Needed, asked, chmod_needs}
 use Rattle.trio_walk.specs.Walks.{AreAsked, EndsBy, InAllShown, MayWalk, Walked, lent_call, need_of, served_by, shows_root}
 use Rattle.trio_walk.specs.Asks.{IsAlike, TryEnds, grant_ask}
 use Rattle.trio_walk.specs.declared.outcome.Outcome.{Outcome}
 use Rattle.trio_walk.specs.declared.outcome.Outcome.TheVariants.{Replied, Busy, NoMemory}
 use Rattle.trio_walk.proofs.Possible.{lib_same, moment_possible}
-use Rattle.trio_calls_dir.specs.Chmods.{AsksSo, BreaksOff, ChmodTried, Comes, ComesSo, EndsAs, EndsDenied, EndsHandedIn, EndsModed, HandsIn, LeavesBy, NamesOther, SetsMode, TriedSo, chmod_needs, hand_in_ask, lent_to, mode_ask}
+use Rattle.trio_calls_dir.specs.Chmods.{AsksSo, BreaksOff, ChmodTried, Comes, ComesSo, EndsAs, EndsDenied, EndsHandedIn, EndsModed, HandsIn, LeavesBy, NamesOther, SetsMode, TriedSo, hand_in_ask, lent_to, mode_ask}
 use Rattle.trio_calls_dir.specs.inner.Chmods.{Finds, IsRetold, RefusesSo, TriesCall, comes_of}
-use Rattle.trio_calls_dir.specs.inner.Goes.{IsRefusal, IsRefusedAs, SameDesk}
-use Rattle.trio_calls_dir.specs.inner.Tries.{HasNothing, try_end}
-use Rattle.trio_calls_dir.specs.declared.calls.TryEnd.{TryEnd}
-use Rattle.trio_calls_dir.specs.declared.calls.TryEnd.TheVariants.{NoMemory as NoMemoryTry}
+use Rattle.trio_calls_dir.specs.inner.Goes.{IsRefusal, IsRefusedAs}
+use Rattle.trio_walk.specs.Tries.{HasNothing, OthersHold, SameDesk, try_end}
+use Rattle.trio_calls_dir.specs.declared.chmods.ChmodTry.{ChmodTry}
+use Rattle.trio_walk.specs.declared.attempts.TryEnd.{TryEnd}
+use Rattle.trio_walk.specs.declared.attempts.TryEnd.TheVariants.{NoMemory as NoMemoryTry}
 use Rattle.trio_calls_dir.proofs.Alike.{alike_then}
 use Rattle.trio_calls_dir.proofs.Ends.{same_asks}
 use Rattle.trio_calls_dir.proofs.Others.{nothing_own}
@@ -279,7 +280,7 @@ module _ {D : Type 0} (called : D → Ask → Told → D → Type 0) (seen : D �
 
   -- ---- the whole try
 
-  module _ (d' : D) (s' : SessionSeen) (outcome : TryEnd) (same : SameDesk (seen d1) (seen d')) where
+  module _ (d' : D) (s' : SessionSeen) (outcome : TryEnd ChmodTry) (same : SameDesk (seen d1) (seen d')) where
     -- a refusal that is handed in, or lacks memory before
     hands : (reply : Reply) → end ≡ IsReply reply → IsRefusal reply
         → OneCall called d1 (hand_in_ask s1 (Chmod path mode) reply) d' (λ told. EndsHandedIn reply told (try_end outcome) × LeavesBy s1 (try_end outcome) s') ((outcome ≡ NoMemoryTry) × IsAlike s1 s')
@@ -287,7 +288,7 @@ module _ {D : Type 0} (called : D → Ask → Told → D → Type 0) (seen : D �
     hands reply is refusal (Made told made then) = tried_handed d' s' (try_end outcome) same told reply is refusal made then.0 then.1
     hands reply is refusal (NotMade here then) =
         subst (λ (q : D). ChmodTried called seen path mode d s (try_end outcome) q s') (sym here)
-        (subst (λ (o : TryEnd). ChmodTried called seen path mode d s (try_end o) d1 s') (sym then.0)
+        (subst (λ (o : TryEnd ChmodTry). ChmodTried called seen path mode d s (try_end o) d1 s') (sym then.0)
         (tried_short (λ n e. let wrong : IsReply reply ≡ At n = sym is ∙ e in cc wrong) (λ holder e. let wrong : IsReply reply ≡ IsBusyWalk holder = sym is ∙ e in cc wrong) s' then.1))
 
     -- a change of mode that is asked for
@@ -313,3 +314,10 @@ module _ {D : Type 0} (called : D → Ask → Told → D → Type 0) (seen : D �
           subst (λ (k : Call). TriesCall called seen k d s (try_end outcome) d' s') (sym of)
           (modes ino is
           (subst (λ (k : Call). OneCall called d1 (mode_ask s1 ino mode k) d' (λ told. EndsModed told (try_end outcome) × LeavesBy s1 (try_end outcome) s' × NamesOther s1.lib (try_end outcome)) ⊥) of h))
+
+-- Busy names another library
+pub tried_others : {D : Type 0} (called : D → Ask → Told → D → Type 0) (seen : D → DeskSeen) (call : Call) (d : D) (s : SessionSeen) (end : Outcome) (d' : D) (s' : SessionSeen)
+    → TriesCall called seen call d s end d' s' → OthersHold s.lib end
+tried_others called seen (Chmod path mode) d s (Busy holder) d' s' t = t.others
+tried_others called seen (Chmod path mode) d s end d' s' t = tt
+tried_others called seen call d s end d' s' t = absurd t

@@ -29,8 +29,8 @@ use Rattle.trio_walk.specs.Asks.{AskedBy, IsAlike, TryEnds, allot_asks, grant_as
 use Rattle.trio_walk.specs.declared.outcome.Outcome.{Outcome}
 use Rattle.trio_walk.specs.declared.outcome.Outcome.TheVariants.{Busy, NoMemory, Replied}
 use Rattle.trio_calls_dir.specs.declared.replies.Replied as replied
-use Rattle.trio_calls_dir.specs.declared.stops.Stop.{Stop}
-use Rattle.trio_calls_dir.specs.declared.stops.Stop.TheVariants.{NoMemory as LacksMemory}
+use Rattle.trio_walk.specs.declared.outcome.Stop.{Stop}
+use Rattle.trio_walk.specs.declared.outcome.Stop.TheVariants.{NoMemory as LacksMemory}
 use Rattle.trio_calls_dir.specs.Asks.{ComesBy, Target, as_lent, numbers_for, pages_for, wants_of}
 use Rattle.trio_calls_dir.specs.inner.Goes.{AfterTry, Goes, IsNames, IsNumber, IsOfDir, IsRefusal, IsRefusedAs, LeavesHere, StopsBy, asks_from, number_made, try_ends}
 use Rattle.trio_calls_dir.proofs.Alike.{alike_room, alike_then, may_alike}

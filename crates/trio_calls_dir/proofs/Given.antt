@@ -3,14 +3,12 @@ use Rattle.std.proofs.Common.{◌≡◌, ℕ, List, sym, ap, ◌∙◌, subst, �
 use Rattle.std.specs.Prelude.{map, ◌||◌}
 use Rattle.trio_lists.specs.Lists.{In}
 use Rattle.trio_desk.specs.Call.{DeskSeen}
-use Rattle.trio_desk.specs.Out.{LibOut, ino_numbers, numbers_of_file, pages_out, IsFreshAllotment, files_out}
+use Rattle.trio_desk.specs.Out.{ino_numbers, numbers_of_file, pages_out, IsFreshAllotment, files_out}
 use Rattle.trio_desk.specs.Ready.{ArePossible}
 use Rattle.trio_session.specs.Seen.{IsOn, SessionSeen, in_hand, MadeFile, body_in, has_out}
 use Rattle.trio_edit_laws.specs.Calls.{MayCall, BeginsToCall, MayBeSettled}
 use Rattle.trio_edit_laws.specs.TakingLaws.{IsListedNow, KeepsAllotment, KeepsHold, KeepsReads, KeepsWrite}
-use Rattle.trio_edit_laws.proofs.HandsIn.{hands_in, sound}
-use Rattle.trio_edit_laws.proofs.Shown.{comes_now, order_now, shown_by}
-use Rattle.trio_edit_laws.proofs.Taken.{chains_now, entries_now, held_now, made_now, shows_now}
+use Rattle.trio_edit_laws.proofs.Shown.{shown_by}
 use Rattle.std.specs.List.{flat_map, list_any}
 use Rattle.std.specs.Option.{option_map}
 use Rattle.trio_rights.specs.Row.{Row}
@@ -38,9 +36,9 @@ use Rattle.trio_lease.specs.declared.fresh.Allotted.{Allotted}
 use Rattle.trio_edit_laws.specs.EditLaws.{GrowDirShows}
 use Rattle.trio_edit_laws.specs.DirLaws.{ClearShows, FillShows, MoveShows, RetitleShows, SeesDirectory}
 use Rattle.trio_walk.specs.Needs.{Needed, serves_need}
-use Rattle.trio_calls_dir.specs.inner.Goes.{SameDesk}
+use Rattle.trio_walk.specs.Tries.{SameDesk}
 use Rattle.trio_edit_laws.proofs.TakenAllotment.{keeps_allotment as law_keeps_allotment}
-use Rattle.trio_edit_laws.proofs.Called.{begins_to_call as law_begins_to_call, may_be_settled as law_may_be_settled}
+use Rattle.trio_edit_laws.proofs.Called.{begins_to_call as law_begins_to_call, may_be_settled as law_may_be_settled, may_now as law_may_now}
 use Rattle.trio_edit_laws.proofs.directories.Cleared.{clear_shows as law_clear_shows}
 use Rattle.trio_edit_laws.proofs.directories.Moves.{move_shows as law_move_shows}
 use Rattle.trio_edit_laws.proofs.directories.Retitled.{retitle_shows as law_retitle_shows}
@@ -97,35 +95,11 @@ keeps_allotment = law_keeps_allotment
 
 -- ---- on a desk that has other things out
 
-may_out : (desk : DeskSeen) (out' : LibOut) (s : SessionSeen) → MayCall desk s → IsOn (record desk { out = out' }) s → MayCall (record desk { out = out' }) s
-may_out desk out' s may on = record {
-  edits = record {
-    on = on;
-    all = hands_in (record desk { out = out' }) s on (sound desk.out s.parcel s.reads may.edits.all);
-    given = record { holds = may.edits.given.holds; numbers = may.edits.given.numbers };
-    order = order_now desk out' (in_hand s) may.edits.order;
-    shows = shows_now desk out' s may.edits.shows;
-    alone = may.edits.alone;
-    beside = may.edits.beside;
-    chains = chains_now desk out' s may.edits.chains;
-    own = may.edits.own;
-    once = may.edits.once;
-    placed = may.edits.placed;
-    made = made_now desk out' s may.edits.made;
-    entries = entries_now desk out' s may.edits.entries;
-    held = held_now desk out' s may.edits.held;
-  };
-  comes = comes_now desk out' (in_hand s) s.calls may.comes;
-  made = may.made;
-  spent = may.spent;
-  spent_numbers = may.spent_numbers;
-}
-
 -- on another state of its desk, on which it stands, the session may go on as before
 pub may_now : (desk desk' : DeskSeen) (s : SessionSeen) → SameDesk desk desk' → MayCall desk s → IsOn desk' s → MayCall desk' s
 may_now desk desk' s same may on =
     let e = desk_same desk desk' same in
-    subst (λ (k : DeskSeen). MayCall k s) (sym e) (may_out desk desk'.out s may (subst (λ (k : DeskSeen). IsOn k s) e on))
+    subst (λ (k : DeskSeen). MayCall k s) (sym e) (law_may_now desk desk'.out s may (subst (λ (k : DeskSeen). IsOn k s) e on))
 
 -- nothing is out on a number that is allotted
 pub fresh_free : (desk : DeskSeen) (given : Allotted) → IsFreshAllotment desk.lib desk.sizes desk.out given → (n : ℕ) → In n (ino_numbers given.inodes.items) → In n (files_out desk.out) → ⊥

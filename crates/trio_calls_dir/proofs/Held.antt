@@ -36,7 +36,7 @@ use Rattle.trio_walk.specs.Walks.{InAllShown, IsListed, MayWalk, Took, Way, lent
 use Rattle.trio_walk.specs.Asks.{IsAlike, grant_ask}
 use Rattle.trio_walk.specs.declared.outcome.Outcome.{Outcome}
 use Rattle.trio_walk.specs.declared.outcome.Outcome.TheVariants.{Busy, NoMemory}
-use Rattle.trio_calls_dir.specs.declared.stops.Stop.TheVariants.{Busy as IsBusy, NoMemory as LacksMemory}
+use Rattle.trio_walk.specs.declared.outcome.Stop.TheVariants.{Busy as IsBusy, NoMemory as LacksMemory}
 use Rattle.trio_calls_dir.specs.inner.Goes.{Goes, Went}
 use Rattle.trio_calls_dir.specs.inner.Removes.{HoldBusyAt}
 use Rattle.trio_calls_dir.proofs.Ends.{stop_goes}

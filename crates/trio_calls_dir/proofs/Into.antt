@@ -20,7 +20,7 @@ use Rattle.trio_walk.specs.Walks.{InAllShown, IsStopped, MayWalk, Walked, WalksI
 use Rattle.trio_walk.specs.Asks.{IsAlike, grant_ask, took}
 use Rattle.trio_walk.specs.declared.outcome.Outcome.{Outcome}
 use Rattle.trio_calls_dir.specs.declared.replies.Replied as replied
-use Rattle.trio_calls_dir.specs.declared.stops.Stop.{Stop}
+use Rattle.trio_walk.specs.declared.outcome.Stop.{Stop}
 use Rattle.trio_calls_dir.specs.inner.Goes.{Goes, IsRefusedAs, StopsBy, Went, number_made, try_ends}
 use Rattle.trio_calls_dir.proofs.Alike.{alike_then}
 use Rattle.trio_calls_dir.proofs.Ends.{BeginsWith, stop_goes}

@@ -3,7 +3,6 @@ mod CallKinds
 mod Alike
 pub mod Then
 mod Noted
-mod Tries
 mod Walked
 mod Ends
 mod Others
@@ -36,7 +35,6 @@ mod ChmodsReads
 mod ChmodsFaults
 mod ChmodsTried
 mod ChmodsEnds
-mod ChmodsAgain
 mod MovesPaths
 mod MovesWalk
 mod MovesBusy

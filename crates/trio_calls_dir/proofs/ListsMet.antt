@@ -45,8 +45,8 @@ use Rattle.trio_walk.specs.Needs.{Needed, asked}
 use Rattle.trio_walk.specs.Walks.{HasMet, InAllShown, IsMet, MayTake, RightsAre, Took, Walked, Way, gives_met, lent_call, need_of, one_need, served_by}
 use Rattle.trio_walk.proofs.Possible.{moment_possible}
 use Rattle.trio_calls_dir.specs.declared.replies.Replied as replied
-use Rattle.trio_calls_dir.specs.declared.stops.Stop.{Stop}
-use Rattle.trio_calls_dir.specs.declared.stops.Stop.TheVariants.{Busy as IsBusy, NoMemory as LacksMemory}
+use Rattle.trio_walk.specs.declared.outcome.Stop.{Stop}
+use Rattle.trio_walk.specs.declared.outcome.Stop.TheVariants.{Busy as IsBusy, NoMemory as LacksMemory}
 use Rattle.trio_calls_dir.specs.Asks.{Target, wants_of}
 use Rattle.trio_calls_dir.specs.inner.Goes.{Goes, IsRefusal, IsRefusedAs, StopsBy, Went, number_made, try_ends}
 use Rattle.trio_calls_dir.specs.inner.Lists.{BusyAt, ComesHere, HasDir, lets_read, list_reply, listing_at, met_refusal}

@@ -31,17 +31,16 @@ use Rattle.trio_walk.specs.declared.walks.WalkEnd.TheVariants.{At, Reply as IsRe
 use Rattle.trio_walk.specs.declared.outcome.Outcome.{Outcome}
 use Rattle.trio_walk.specs.declared.outcome.Outcome.TheVariants.{Replied, Busy, NoMemory}
 use Rattle.trio_walk.specs.Asks.{grant_ask}
-use Rattle.trio_walk.specs.Needs.{Needed, asked, node_needs, reached_needs, walk_needs}
+use Rattle.trio_walk.specs.Needs.{Needed, asked, node_needs, reached_needs, walk_needs, dir_needs, listing_needs}
 use Rattle.trio_walk.specs.Walks.{InAllShown, IsMet, IsMetIn, IsStopped, MayWalk, Walked, Walks, WalksTo, Way, gives_met, lent_call, need_of, served_by, shows_root}
 use Rattle.trio_walk.proofs.Agreeing.{asked_beside-In, walk_need}
 use Rattle.trio_walk.proofs.Possible.{lib_same}
 use Rattle.trio_walk.proofs.Walking.{own_older}
 use Rattle.trio_calls_dir.specs.declared.replies.Replied as replied
-use Rattle.trio_calls_dir.specs.declared.stops.Stop.{Stop}
-use Rattle.trio_calls_dir.specs.Asks.{dir_needs, listing_needs}
-use Rattle.trio_calls_dir.specs.inner.Goes.{Goes, OthersHold, StopsBy, Went, number_made, try_ends}
+use Rattle.trio_walk.specs.declared.outcome.Stop.{Stop}
+use Rattle.trio_calls_dir.specs.inner.Goes.{Goes, StopsBy, Went, number_made, try_ends}
+use Rattle.trio_walk.specs.Tries.{OthersHold, HasNothing}
 use Rattle.trio_calls_dir.specs.inner.Lists.{BusyAt, ComesHere, listing_at}
-use Rattle.trio_calls_dir.specs.inner.Tries.{HasNothing}
 use Rattle.trio_calls_dir.proofs.Ends.{BeginsWith, stop_goes}
 use Rattle.trio_calls_dir.proofs.Others.{nothing_own}
 use Rattle.trio_calls_dir.proofs.ListsMet.{gives_known}

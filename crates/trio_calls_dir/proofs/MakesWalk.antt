@@ -19,16 +19,16 @@ use Rattle.trio_session.specs.Seen.{SessionSeen}
 use Rattle.trio_edit_laws.specs.Calls.{MayCall}
 use Rattle.trio_walk.specs.declared.walks.WalkEnd.{WalkEnd}
 use Rattle.trio_walk.specs.declared.walks.WalkEnd.TheVariants.{At}
-use Rattle.trio_walk.specs.Needs.{into_needs, reached_by}
+use Rattle.trio_walk.specs.Needs.{into_needs, reached_by, dir_needs}
 use Rattle.trio_walk.specs.Walks.{InAllShown, IsStopped, MayWalk, Walked, WalksInto, shows_root}
-use Rattle.trio_walk.specs.Asks.{IsAlike}
+use Rattle.trio_walk.specs.Asks.{IsAlike, IsNotBusy}
 use Rattle.trio_walk.specs.declared.outcome.Outcome.{Outcome}
 use Rattle.trio_walk.specs.declared.outcome.Outcome.TheVariants.{Busy}
 use Rattle.trio_calls_dir.specs.declared.replies.Replied as replied
-use Rattle.trio_calls_dir.specs.declared.stops.Stop.{Stop}
-use Rattle.trio_calls_dir.specs.declared.stops.Stop.TheVariants.{NoMemory as LacksMemory}
-use Rattle.trio_calls_dir.specs.Asks.{dir_needs}
-use Rattle.trio_calls_dir.specs.inner.Goes.{Goes, IsNeverBusy, OthersHold, StopsBy, making, number_made, try_ends}
+use Rattle.trio_walk.specs.declared.outcome.Stop.{Stop}
+use Rattle.trio_walk.specs.declared.outcome.Stop.TheVariants.{NoMemory as LacksMemory}
+use Rattle.trio_calls_dir.specs.inner.Goes.{Goes, StopsBy, making, number_made, try_ends}
+use Rattle.trio_walk.specs.Tries.{OthersHold}
 use Rattle.trio_calls_dir.proofs.Alike.{may_alike}
 use Rattle.trio_calls_dir.proofs.Ends.{refused_goes}
 use Rattle.trio_calls_dir.proofs.Entered.{IsOneName, comes_into, one_goes, one_stops}
@@ -59,7 +59,7 @@ there_refusal Directory path mode n = refl
 there_refusal Regular path mode n = refl
 
 -- a try that is never busy isn't kept so by its own library
-pub never_others : (session : SessionSeen) (end : Outcome) → IsNeverBusy end → OthersHold session.lib end
+pub never_others : (session : SessionSeen) (end : Outcome) → IsNotBusy end → OthersHold session.lib end
 never_others s (Busy holder) idle = absurd idle
 never_others s end idle = tt
 

@@ -28,7 +28,7 @@ use Rattle.trio_desk.specs.Ready.{ArePossible}
 use Rattle.trio_session.specs.Seen.{SessionSeen}
 use Rattle.trio_walk.specs.declared.walks.WalkEnd.{WalkEnd}
 use Rattle.trio_walk.specs.declared.walks.WalkEnd.TheVariants.{At, Reply as IsReply, Busy as IsBusyWalk, NoMemory as NoWalkMemory}
-use Rattle.trio_walk.specs.Needs.{Needed, asked, into_needs, kind_for, node_needs, reached_by}
+use Rattle.trio_walk.specs.Needs.{Needed, asked, into_needs, kind_for, node_needs, reached_by, moving_needs}
 use Rattle.trio_walk.specs.Walks.{IsStopped, MayWalk, Walked, WalksInto, need_of, served_by, shows_root, with_leases}
 use Rattle.trio_walk.specs.declared.outcome.Outcome.{Outcome}
 use Rattle.trio_walk.specs.declared.outcome.Outcome.TheVariants.{Busy, NoMemory, Replied}
@@ -36,11 +36,10 @@ use Rattle.trio_walk.proofs.Agreeing.{IsNeedAt, asked_beside-In, in_order, into_
 use Rattle.trio_walk.proofs.Possible.{lib_same}
 use Rattle.std.specs.Option.{option_map_or}
 use Rattle.trio_calls_dir.specs.declared.replies.Replied as replied
-use Rattle.trio_calls_dir.specs.declared.stops.Stop.{Stop}
-use Rattle.trio_calls_dir.specs.Asks.{moving_needs}
-use Rattle.trio_calls_dir.specs.inner.Goes.{OthersHold, StopsBy, try_ends}
+use Rattle.trio_walk.specs.declared.outcome.Stop.{Stop}
+use Rattle.trio_calls_dir.specs.inner.Goes.{StopsBy, try_ends}
+use Rattle.trio_walk.specs.Tries.{OthersHold, HasNothing}
 use Rattle.trio_calls_dir.specs.inner.Moves.{IsOut, IsRename, NeedsBusyAt, OwnKeepsOff, across_needs, both_dirs}
-use Rattle.trio_calls_dir.specs.inner.Tries.{HasNothing}
 use Rattle.trio_calls_dir.proofs.MovesPaths.{not_on_way}
 use Rattle.trio_calls_dir.proofs.MovesWalk.{shown_tree, still_out}
 use Rattle.trio_calls_dir.proofs.OnWay.{IsOnWay, into_alike, not_below, on_way, root_entered}

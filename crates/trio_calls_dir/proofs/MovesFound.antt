@@ -18,15 +18,14 @@ use Rattle.trio_laws.specs.session.DirCalls.{ComesAcross}
 use Rattle.trio_laws.proofs.session.DirCalls.{rename_refused_by_name}
 use Rattle.trio_session.specs.Seen.{SessionSeen, place_shown}
 use Rattle.trio_walk.specs.declared.met.Met.{Met}
-use Rattle.trio_walk.specs.Needs.{Needed, asked, node_needs}
+use Rattle.trio_walk.specs.Needs.{Needed, asked, node_needs, moving_needs}
 use Rattle.trio_walk.specs.Walks.{FindsEntry, InAllShown, IsMetIn, LooksUp, MayLookIn, served_by}
 use Rattle.trio_walk.specs.Asks.{IsAlike, grant_ask}
 use Rattle.trio_walk.specs.declared.outcome.Outcome.{Outcome}
 use Rattle.trio_walk.specs.declared.outcome.Outcome.TheVariants.{Busy, NoMemory, Replied}
 use Rattle.trio_calls_dir.specs.declared.replies.Replied as replied
-use Rattle.trio_calls_dir.specs.declared.stops.Stop.{Stop}
-use Rattle.trio_calls_dir.specs.declared.stops.Stop.TheVariants.{NoMemory as LacksMemory}
-use Rattle.trio_calls_dir.specs.Asks.{moving_needs}
+use Rattle.trio_walk.specs.declared.outcome.Stop.{Stop}
+use Rattle.trio_walk.specs.declared.outcome.Stop.TheVariants.{NoMemory as LacksMemory}
 use Rattle.trio_calls_dir.specs.inner.Goes.{Goes, Went, number_made, try_ends}
 use Rattle.trio_calls_dir.specs.inner.Moves.{IsAcross, IsFound, IsFree, NeedsBusyAt}
 use Rattle.trio_calls_dir.proofs.Alike.{alike_finds, may_alike}

@@ -21,16 +21,16 @@ use Rattle.trio_laws.specs.session.DirCalls.{ComesAcross, write_paths}
 use Rattle.trio_session.specs.Seen.{SessionSeen}
 use Rattle.trio_walk.specs.declared.met.Met.{Met}
 use Rattle.trio_walk.specs.declared.walks.WalkEnd.TheVariants.{Busy as IsBusyWalk, NoMemory as NoWalkMemory}
-use Rattle.trio_walk.specs.Needs.{Needed, node_needs}
+use Rattle.trio_walk.specs.Needs.{Needed, node_needs, moving_needs}
 use Rattle.trio_walk.specs.Walks.{InAllShown, IsListed, Took}
 use Rattle.trio_walk.specs.declared.outcome.Outcome.{Outcome}
 use Rattle.trio_walk.specs.declared.outcome.Outcome.TheVariants.{Busy, NoMemory, Replied}
 use Rattle.trio_walk.proofs.Agreeing.{in_order}
 use Rattle.trio_calls_dir.specs.declared.replies.Replied as replied
-use Rattle.trio_calls_dir.specs.declared.stops.Stop.{Stop}
-use Rattle.trio_calls_dir.specs.declared.stops.Stop.TheVariants.{NoMemory as LacksMemory}
-use Rattle.trio_calls_dir.specs.Asks.{moving_needs}
-use Rattle.trio_calls_dir.specs.inner.Goes.{Goes, IsNeverBusy, number_made, try_ends}
+use Rattle.trio_walk.specs.declared.outcome.Stop.{Stop}
+use Rattle.trio_walk.specs.declared.outcome.Stop.TheVariants.{NoMemory as LacksMemory}
+use Rattle.trio_calls_dir.specs.inner.Goes.{Goes, number_made, try_ends}
+use Rattle.trio_walk.specs.Asks.{IsNotBusy}
 use Rattle.trio_calls_dir.specs.inner.Moves.{IsAcross, IsFound, IsFree, IsRename, MayMove, NeedsBusyAt, both_dirs}
 use Rattle.trio_calls_dir.proofs.Ends.{refused_goes}
 use Rattle.trio_calls_dir.proofs.Held as holding
@@ -39,7 +39,7 @@ use Rattle.trio_calls_dir.proofs.MovesWalk.{writes_are}
 use Rattle.trio_calls_dir.proofs.OnWay.{into_at}
 
 -- a try that is never busy is kept off by nothing
-pub idle_busy : (desk : DeskSeen) (s : SessionSeen) (needs : Nodes → List Needed) (end : Outcome) → IsNeverBusy end → NeedsBusyAt desk s needs end
+pub idle_busy : (desk : DeskSeen) (s : SessionSeen) (needs : Nodes → List Needed) (end : Outcome) → IsNotBusy end → NeedsBusyAt desk s needs end
 idle_busy desk s needs (Replied reply) i = tt
 idle_busy desk s needs NoMemory i = tt
 idle_busy desk s needs (Busy holder) i = absurd i

@@ -18,13 +18,12 @@ use Rattle.trio_laws.specs.session.DirCalls.{early_refusal}
 use Rattle.trio_laws.proofs.session.DirCalls.{refused_by_path}
 use Rattle.trio_session.specs.Seen.{SessionSeen}
 use Rattle.trio_edit_laws.specs.Calls.{MayCall}
-use Rattle.trio_walk.specs.Needs.{Needed, into_needs, reached_by}
+use Rattle.trio_walk.specs.Needs.{Needed, into_needs, reached_by, dir_needs, moving_needs, rename_needs}
 use Rattle.trio_walk.specs.Walks.{shows_root}
 use Rattle.trio_walk.proofs.Agreeing.{IsAt, in_order, one_path}
 use Rattle.trio_calls_dir.specs.declared.replies.Replied as replied
-use Rattle.trio_calls_dir.specs.declared.stops.Stop.{Stop}
-use Rattle.trio_calls_dir.specs.declared.stops.Stop.TheVariants.{NoMemory as LacksMemory}
-use Rattle.trio_calls_dir.specs.Asks.{dir_needs, moving_needs, rename_needs}
+use Rattle.trio_walk.specs.declared.outcome.Stop.{Stop}
+use Rattle.trio_walk.specs.declared.outcome.Stop.TheVariants.{NoMemory as LacksMemory}
 use Rattle.trio_calls_dir.specs.inner.Goes.{Goes, IsRefusal, number_made, try_ends}
 use Rattle.trio_calls_dir.specs.inner.Moves.{IsRename, across_needs, both_dirs}
 use Rattle.trio_calls_dir.proofs.Ends.{refused_goes}

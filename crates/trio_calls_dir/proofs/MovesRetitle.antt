@@ -27,14 +27,14 @@ use Rattle.trio_edit_laws.specs.Calls.{MayCall}
 use Rattle.trio_edit_laws.specs.DirLaws.{Changes, LeavesRetitled, StaysTree}
 use Rattle.trio_edit_laws.proofs.directories.Retitled.{retitle_leaves, retitle_shows}
 use Rattle.trio_walk.specs.declared.met.Met.{Met}
-use Rattle.trio_walk.specs.Needs.{asked}
+use Rattle.trio_walk.specs.Needs.{asked, moving_needs}
 use Rattle.trio_walk.specs.Walks.{InAllShown, served_by}
 use Rattle.trio_walk.specs.Asks.{IsAlike, allot_asks, grant_ask, noted}
 use Rattle.trio_walk.specs.declared.outcome.Outcome.TheVariants.{Replied}
 use Rattle.trio_calls_dir.specs.declared.replies.Replied as replied
-use Rattle.trio_calls_dir.specs.declared.stops.Stop.{Stop}
-use Rattle.trio_calls_dir.specs.declared.stops.Stop.TheVariants.{NoMemory as LacksMemory}
-use Rattle.trio_calls_dir.specs.Asks.{ComesBy, ComesTo, Target, edited, made_by, moved, moving_needs, slot_growth, wants_of}
+use Rattle.trio_walk.specs.declared.outcome.Stop.{Stop}
+use Rattle.trio_walk.specs.declared.outcome.Stop.TheVariants.{NoMemory as LacksMemory}
+use Rattle.trio_calls_dir.specs.Asks.{ComesBy, ComesTo, Target, edited, made_by, moved, slot_growth, wants_of}
 use Rattle.trio_calls_dir.specs.inner.Goes.{Goes, number_made, try_ends}
 use Rattle.trio_calls_dir.specs.inner.Moves.{IsAcross, IsFound, IsFree, IsRename, both_dirs}
 use Rattle.trio_calls_dir.proofs.Alike.{alike_room, alike_then, may_alike}

@@ -33,8 +33,8 @@ use Rattle.trio_walk.specs.Walks.{InAllShown}
 use Rattle.trio_walk.specs.Asks.{AskedBy, IsAlike, TryEnds, allot_asks, noted, took}
 use Rattle.trio_walk.specs.declared.outcome.Outcome.{Outcome}
 use Rattle.trio_walk.specs.declared.outcome.Outcome.TheVariants.{Busy, NoMemory, Replied}
-use Rattle.trio_calls_dir.specs.declared.stops.Stop.{Stop}
-use Rattle.trio_calls_dir.specs.declared.stops.Stop.TheVariants.{Busy as IsBusy, NoMemory as LacksMemory}
+use Rattle.trio_walk.specs.declared.outcome.Stop.{Stop}
+use Rattle.trio_walk.specs.declared.outcome.Stop.TheVariants.{Busy as IsBusy, NoMemory as LacksMemory}
 use Rattle.trio_calls_dir.specs.Asks.{ComesBy, ComesTo, Target, as_lent, edited, made_by, moved, moved_shown, pages_for, slot_growth, wants_of, with_slot}
 use Rattle.trio_calls_dir.specs.inner.Goes.{AfterTry, Goes, IsNumber, LeavesHere, try_ends}
 use Rattle.trio_calls_dir.specs.inner.Moves.{IsRename, MayMove, MayPut, PutFile, both_dirs}

@@ -17,13 +17,12 @@ use Rattle.trio_session.specs.Seen.{IsOpenDir, SessionSeen}
 use Rattle.trio_edit_laws.specs.Calls.{MayCall}
 use Rattle.trio_walk.specs.declared.walks.WalkEnd.{WalkEnd}
 use Rattle.trio_walk.specs.declared.walks.WalkEnd.TheVariants.{At}
-use Rattle.trio_walk.specs.Needs.{Needed, into_needs, kind_for, reached_by}
+use Rattle.trio_walk.specs.Needs.{Needed, into_needs, kind_for, reached_by, dir_needs, moving_needs}
 use Rattle.trio_walk.specs.Walks.{InAllShown, IsHad, IsStopped, MayLookIn, MayWalk, Walked, WalksInto, shows_root}
 use Rattle.trio_walk.specs.declared.outcome.Outcome.{Outcome}
 use Rattle.trio_walk.proofs.Meeting.{look_still, open_still}
 use Rattle.trio_calls_dir.specs.declared.replies.Replied as replied
-use Rattle.trio_calls_dir.specs.declared.stops.Stop.{Stop}
-use Rattle.trio_calls_dir.specs.Asks.{dir_needs, moving_needs}
+use Rattle.trio_walk.specs.declared.outcome.Stop.{Stop}
 use Rattle.trio_calls_dir.specs.inner.Goes.{Goes, IsRefusedAs, StopsBy, number_made, try_ends}
 use Rattle.trio_calls_dir.specs.inner.Moves.{IsAcross, IsOut, IsRename, across_needs, both_dirs}
 use Rattle.trio_calls_dir.proofs.Entered.{open_had}

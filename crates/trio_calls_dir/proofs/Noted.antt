@@ -4,11 +4,11 @@ use Rattle.std.specs.Prelude.{map}
 use Rattle.std.proofs.lemmas.List.{append-nil}
 use Rattle.trio_rights.specs.Row.{Row}
 use Rattle.trio_rights.specs.declared.rights.Creds.{Creds}
-use Rattle.trio_nodes.specs.declared.call.Answer.TheVariants.{Bytes, Done as IsDone, Count, Names, Stat as IsStat}
+use Rattle.trio_nodes.specs.declared.call.Answer.TheVariants.{Bytes, Names}
 use Rattle.trio_nodes.specs.declared.call.Call.{Call}
 use Rattle.trio_nodes.specs.declared.call.Done.{Done}
 use Rattle.trio_nodes.specs.declared.call.Reply.{Reply}
-use Rattle.trio_nodes.specs.declared.call.Reply.TheVariants.{Ok as IsReplied, NotFound, Exists, NotDir, IsDir, NotEmpty, Denied, IntoItself, NoSpace, NoInodes, TooLarge}
+use Rattle.trio_nodes.specs.declared.call.Reply.TheVariants.{Ok as IsReplied}
 use Rattle.trio_nodes.specs.declared.grant.Holder.{Holder}
 use Rattle.trio_nodes.specs.Nodes.{Nodes}
 use Rattle.trio_nodes.specs.After.{batch_nodes}
@@ -17,11 +17,14 @@ use Rattle.trio_desk.specs.Ready.{ArePossible}
 use Rattle.trio_session.specs.Seen.{SessionSeen}
 use Rattle.trio_edit_laws.specs.Calls.{MayCall}
 use Rattle.trio_walk.specs.Walks.{shows_root}
-use Rattle.trio_walk.specs.Asks.{IsAlike, noted, took}
+use Rattle.trio_desk.specs.Calls as desk_calls
+use Rattle.trio_walk.specs.Asks.{IsAlike, TryEnds, noted, took}
+use Rattle.trio_walk.specs.Tries.{TakesMemory}
 use Rattle.trio_walk.specs.declared.outcome.Outcome.{Outcome}
 use Rattle.trio_walk.specs.declared.outcome.Outcome.TheVariants.{Replied, Busy, NoMemory}
-use Rattle.trio_calls_dir.specs.Asks.{DirTried, Leaves, Target, TriedIn, dir_needs, edited}
-use Rattle.trio_calls_dir.specs.inner.Goes.{Goes, IsNames, IsNumber, LeavesHere}
+use Rattle.trio_calls_dir.specs.Asks.{DirTried, Leaves, Target, TriedIn, edited}
+use Rattle.trio_walk.specs.Needs.{dir_needs}
+use Rattle.trio_calls_dir.specs.inner.Goes.{Goes, IsNames, IsNumber, IsOfDir, LeavesHere}
 
 -- ---- what is left
 
@@ -32,16 +35,25 @@ noted_alike call r n x s' e = ap (noted call r n) e
 leaves_noted : (creds : Creds) (call : Call) (t : Target) (x s' : SessionSeen) (r : Reply) (n : ℕ) → LeavesHere creds call t x (Replied r) s' → IsNumber call x (Replied r) n → Leaves creds call t (Replied r) x (noted call r n s')
 leaves_noted creds call t x s' (IsReplied answer) n h e =
     subst (λ k. IsAlike (noted call (IsReplied answer) k (edited creds call t x)) (noted call (IsReplied answer) n s')) e (noted_alike call (IsReplied answer) n (edited creds call t x) s' h)
-leaves_noted creds call t x s' NotFound n h e = subst (λ k. IsAlike (noted call NotFound k x) (noted call NotFound n s')) e (noted_alike call NotFound n x s' h)
-leaves_noted creds call t x s' Exists n h e = subst (λ k. IsAlike (noted call Exists k x) (noted call Exists n s')) e (noted_alike call Exists n x s' h)
-leaves_noted creds call t x s' NotDir n h e = subst (λ k. IsAlike (noted call NotDir k x) (noted call NotDir n s')) e (noted_alike call NotDir n x s' h)
-leaves_noted creds call t x s' IsDir n h e = subst (λ k. IsAlike (noted call IsDir k x) (noted call IsDir n s')) e (noted_alike call IsDir n x s' h)
-leaves_noted creds call t x s' NotEmpty n h e = subst (λ k. IsAlike (noted call NotEmpty k x) (noted call NotEmpty n s')) e (noted_alike call NotEmpty n x s' h)
-leaves_noted creds call t x s' Denied n h e = subst (λ k. IsAlike (noted call Denied k x) (noted call Denied n s')) e (noted_alike call Denied n x s' h)
-leaves_noted creds call t x s' IntoItself n h e = subst (λ k. IsAlike (noted call IntoItself k x) (noted call IntoItself n s')) e (noted_alike call IntoItself n x s' h)
-leaves_noted creds call t x s' (NoSpace w f) n h e = subst (λ k. IsAlike (noted call (NoSpace w f) k x) (noted call (NoSpace w f) n s')) e (noted_alike call (NoSpace w f) n x s' h)
-leaves_noted creds call t x s' (NoInodes w f) n h e = subst (λ k. IsAlike (noted call (NoInodes w f) k x) (noted call (NoInodes w f) n s')) e (noted_alike call (NoInodes w f) n x s' h)
-leaves_noted creds call t x s' TooLarge n h e = subst (λ k. IsAlike (noted call TooLarge k x) (noted call TooLarge n s')) e (noted_alike call TooLarge n x s' h)
+leaves_noted creds call t x s' refusal n h e = subst (λ k. IsAlike (noted call refusal k x) (noted call refusal n s')) e (noted_alike call refusal n x s' h)
+
+-- ---- names that can't be noted
+
+-- bytes are no reply of a call on a directory
+pub is_names : (reply : Reply) → TakesMemory reply → IsOfDir reply → IsNames reply
+is_names (IsReplied (Names n ns)) much of = tt
+is_names (IsReplied (Bytes bytes)) much of = absurd of
+is_names reply much of = absurd much
+
+unnoted_ends : (reply : Reply) (last : List desk_calls.Call) → IsNames reply → TryEnds (Replied reply) last → TryEnds NoMemory last
+unnoted_ends (IsReplied (Names n ns)) last names ends = inl ends
+unnoted_ends reply last names ends = absurd names
+
+unnoted_leaves : (creds : Creds) (call : Call) (reply : Reply) (t : Target) (x s' : SessionSeen) → IsNames reply → edited creds call t x ≡ x → LeavesHere creds call t x (Replied reply) s' → IsAlike x s'
+unnoted_leaves creds call (IsReplied (Names n ns)) t x s' names same e = subst (λ (y : SessionSeen). IsAlike y s') same e
+unnoted_leaves creds call reply t x s' names same e = absurd names
+
+-- ---- one try
 
 module _ {D : Type 0} (called : D → Ask → Told → D → Type 0) (seen : D → DeskSeen) (d d' : D) (s s' : SessionSeen) (call : Call) (may : MayCall (seen d) s) where
   -- a whole try, but for its note
@@ -85,31 +97,18 @@ module _ {D : Type 0} (called : D → Ask → Told → D → Type 0) (seen : D �
 
   -- names that can't be noted
   pub tried_unnoted : (reply : Reply) (number : ℕ) → IsNames reply → Whole (Replied reply) number → DirTried called seen call d s NoMemory d' s'
-  tried_unnoted (IsReplied (Names n ns)) number b g = (
+  tried_unnoted reply number names g = (
     g.target,
     record {
       given = g.given;
       last = g.last;
       each = g.each;
       made = g.made;
-      ends = inl g.ends;
-      leaves = subst (λ (x : SessionSeen). IsAlike x s') ((g.after.3 b).1 (seen d').creds g.target (took s (map (λ c. c.told) g.given))) g.leaves;
+      ends = unnoted_ends reply g.last names g.ends;
+      leaves =
+          unnoted_leaves (seen d').creds call reply g.target (took s (map (λ c. c.told) g.given)) s' names ((g.after.3 names).1 (seen d').creds g.target (took s (map (λ c. c.told) g.given))) g.leaves;
       shown = λ nodes rows p.
-          let v = shown_then (Replied (IsReplied (Names n ns))) number g nodes rows p in
+          let v = shown_then (Replied reply) number g nodes rows p in
           record { comes = tt; asks = ([], v.asks ∙ sym (append-nil (map (λ c. c.ask) (g.given ++ g.last)))) };
     },
   )
-  tried_unnoted (IsReplied IsDone) number b g = absurd b
-  tried_unnoted (IsReplied (Count n)) number b g = absurd b
-  tried_unnoted (IsReplied (Bytes x)) number b g = absurd b
-  tried_unnoted (IsReplied (IsStat k m u g' z)) number b g = absurd b
-  tried_unnoted NotFound number b g = absurd b
-  tried_unnoted Exists number b g = absurd b
-  tried_unnoted NotDir number b g = absurd b
-  tried_unnoted IsDir number b g = absurd b
-  tried_unnoted NotEmpty number b g = absurd b
-  tried_unnoted Denied number b g = absurd b
-  tried_unnoted IntoItself number b g = absurd b
-  tried_unnoted (NoSpace w f) number b g = absurd b
-  tried_unnoted (NoInodes w f) number b g = absurd b
-  tried_unnoted TooLarge number b g = absurd b

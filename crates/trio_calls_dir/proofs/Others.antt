@@ -14,9 +14,9 @@ use Rattle.trio_walk.specs.declared.walks.WalkEnd.TheVariants.{At, Reply as IsRe
 use Rattle.trio_walk.specs.Needs.{Needed}
 use Rattle.trio_walk.specs.Walks.{IsOwnBusy, IsStopped, Walked}
 use Rattle.trio_calls_dir.specs.declared.replies.Replied as replied
-use Rattle.trio_calls_dir.specs.declared.stops.Stop.{Stop}
-use Rattle.trio_calls_dir.specs.inner.Goes.{OthersHold, StopsBy, try_ends}
-use Rattle.trio_calls_dir.specs.inner.Tries.{HasNothing}
+use Rattle.trio_walk.specs.declared.outcome.Stop.{Stop}
+use Rattle.trio_calls_dir.specs.inner.Goes.{StopsBy, try_ends}
+use Rattle.trio_walk.specs.Tries.{OthersHold, HasNothing}
 
 pub nothing_own : (s : SessionSeen) (n : ℕ) (kind : GrantKind) → HasNothing s → IsOwnBusy s n kind → ⊥
 nothing_own s n kind none own =

@@ -20,9 +20,8 @@ use Rattle.trio_walk.specs.Asks.{IsAlike}
 use Rattle.trio_walk.specs.declared.outcome.Outcome.{Outcome}
 use Rattle.trio_walk.specs.declared.outcome.Outcome.TheVariants.{Replied, Busy, NoMemory}
 use Rattle.trio_walk.proofs.Agreeing.{asked_beside-In}
-use Rattle.trio_calls_dir.specs.inner.Goes.{OthersHold}
+use Rattle.trio_walk.specs.Tries.{OthersHold, HasNothing}
 use Rattle.trio_calls_dir.specs.inner.Removes.{HoldBusyAt, KeepsOff}
-use Rattle.trio_calls_dir.specs.inner.Tries.{HasNothing}
 use Rattle.trio_calls_dir.proofs.Others.{nothing_own}
 use Rattle.trio_calls_dir.proofs.OnWay.{not_below}
 use Rattle.trio_calls_dir.proofs.OwnBusy.{busy_by, lent_number, off_more}

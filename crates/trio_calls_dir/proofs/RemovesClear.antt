@@ -41,8 +41,8 @@ use Rattle.trio_walk.specs.Walks.{InAllShown}
 use Rattle.trio_walk.specs.Asks.{IsAlike, noted}
 use Rattle.trio_walk.specs.declared.outcome.Outcome.TheVariants.{Replied}
 use Rattle.trio_calls_dir.specs.declared.replies.Replied as replied
-use Rattle.trio_calls_dir.specs.declared.stops.Stop.{Stop}
-use Rattle.trio_calls_dir.specs.declared.stops.Stop.TheVariants.{NoMemory as LacksMemory}
+use Rattle.trio_walk.specs.declared.outcome.Stop.{Stop}
+use Rattle.trio_walk.specs.declared.outcome.Stop.TheVariants.{NoMemory as LacksMemory}
 use Rattle.trio_calls_dir.specs.Asks.{ComesBy, ComesTo, Target, edited, made_by, wants_of}
 use Rattle.trio_calls_dir.specs.inner.Goes.{Goes, IsRefusedAs, number_made, removing, try_ends}
 use Rattle.trio_calls_dir.proofs.Alike.{alike_room, alike_then, may_alike}

@@ -19,11 +19,10 @@ use Rattle.trio_session.specs.Seen.{IsOpenDir, SessionSeen, entry_shown, place_s
 use Rattle.trio_edit_laws.specs.Calls.{MayCall}
 use Rattle.trio_walk.specs.declared.met.Met.{Met}
 use Rattle.trio_walk.specs.declared.walks.WalkEnd.TheVariants.{Busy as IsBusyWalk, NoMemory as NoWalkMemory}
-use Rattle.trio_walk.specs.Needs.{Needed, node_needs}
+use Rattle.trio_walk.specs.Needs.{Needed, node_needs, named_needs, removing_needs}
 use Rattle.trio_walk.specs.Walks.{FindsEntry, HasMet, InAllShown, IsListed, MayWalk, Took}
 use Rattle.trio_walk.specs.declared.outcome.Outcome.{Outcome}
 use Rattle.trio_walk.specs.declared.outcome.Outcome.TheVariants.{Busy, NoMemory}
-use Rattle.trio_calls_dir.specs.Asks.{named_needs, removing_needs}
 use Rattle.trio_calls_dir.specs.inner.Goes.{Goes, removing}
 use Rattle.trio_calls_dir.specs.inner.Removes.{HoldBusyAt}
 use Rattle.trio_calls_dir.proofs.Held as holding

@@ -48,8 +48,8 @@ use Rattle.trio_edit_laws.proofs.SlotsShown.{block_shown-open, block_shown-read,
 use Rattle.trio_edit_laws.proofs.directories.Mades.{find-absent, number_of}
 use Rattle.trio_edit_laws.proofs.directories.Stays.{grant-none}
 use Rattle.trio_walk.specs.Asks.{IsAlike, allot_asks}
-use Rattle.trio_calls_dir.specs.declared.stops.Stop.TheVariants.{NoMemory as LacksMemory}
-use Rattle.trio_calls_dir.specs.inner.Goes.{SameDesk}
+use Rattle.trio_walk.specs.declared.outcome.Stop.TheVariants.{NoMemory as LacksMemory}
+use Rattle.trio_walk.specs.Tries.{SameDesk}
 use Rattle.trio_calls_dir.specs.inner.Rooms.{Allotted, FilesStay, IsRefused, MayGoOn, NamesStay, Wanted}
 use Rattle.trio_calls_dir.proofs.Alike.{alike_back, alike_by, alike_room, edit_alike, on_alike}
 use Rattle.trio_calls_dir.proofs.Given.{fresh_free, keeps_allotment, may_now}

@@ -27,8 +27,8 @@ use Rattle.trio_edit_laws.proofs.OpenChain.{open_chain}
 use Rattle.trio_edit_laws.proofs.Sized.{size_fits-body_of}
 use Rattle.trio_edit_laws.proofs.directories.Stays.{grant-none, no_grant}
 use Rattle.trio_walk.specs.Asks.{IsAlike, allot_asks, took}
-use Rattle.trio_calls_dir.specs.declared.stops.Stop.{Stop}
-use Rattle.trio_calls_dir.specs.declared.stops.Stop.TheVariants.{Busy as IsBusy, NoMemory as LacksMemory}
+use Rattle.trio_walk.specs.declared.outcome.Stop.{Stop}
+use Rattle.trio_walk.specs.declared.outcome.Stop.TheVariants.{Busy as IsBusy, NoMemory as LacksMemory}
 use Rattle.trio_calls_dir.specs.Asks.{slot_growth, with_slot}
 use Rattle.trio_calls_dir.specs.inner.Rooms.{AllotEnds, Allotted, FilesStay, HasNumbers, HasPlaces, MadeRoom, MayAddSlot, NamesStay, RoomEnds, Wanted}
 use Rattle.trio_calls_dir.proofs.Alike.{alike_room, alike_then, may_alike}

@@ -45,7 +45,8 @@ use Rattle.trio_walk.specs.Asks.{AskedBy, IsAlike, IsGiven, allot_asks, grant_as
 use Rattle.trio_walk.specs.declared.outcome.Outcome.{Outcome}
 use Rattle.trio_walk.specs.declared.outcome.Outcome.TheVariants.{Replied, Busy, NoMemory}
 use Rattle.trio_calls_dir.specs.Asks.{Target, as_lent, made_by, new_number, numbers_for, edited, filled_new, moved, moved_shown, new_body, pages_for, slot_growth, wants_of, with_slot}
-use Rattle.trio_calls_dir.specs.inner.Goes.{Goes, IsNumber, LeavesHere, SameDesk, Went, asks_from}
+use Rattle.trio_calls_dir.specs.inner.Goes.{Goes, IsNumber, LeavesHere, Went, asks_from}
+use Rattle.trio_walk.specs.Tries.{SameDesk}
 use Rattle.trio_calls_dir.proofs.Alike.{alike_then}
 use Rattle.trio_calls_dir.proofs.Given.{served_more}
 

@@ -24,7 +24,8 @@ use Rattle.trio_edit_laws.specs.Calls.{MayCall}
 use Rattle.trio_edit_laws.specs.TakingLaws.{TookMore}
 use Rattle.trio_walk.specs.Walks.{IsLentNow, Lends, MayWalk, Way, lent_call, with_leases}
 use Rattle.trio_walk.specs.Asks.{IsAlike, took}
-use Rattle.trio_calls_dir.specs.inner.Goes.{SameDesk, Went}
+use Rattle.trio_calls_dir.specs.inner.Goes.{Went}
+use Rattle.trio_walk.specs.Tries.{SameDesk}
 use Rattle.trio_calls_dir.proofs.Alike.{alike_back, may_alike, on_alike}
 use Rattle.trio_calls_dir.proofs.Given.{keeps_hold, keeps_reads, keeps_write, listed_now, may_now}
 use Rattle.trio_calls_dir.proofs.Then.{desk_same, given_all, possible_then, same_back, same_then, took_leases}

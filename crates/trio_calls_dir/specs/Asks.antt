@@ -1,25 +1,22 @@
 -- The calls of the desk that one call on a directory's entries makes, and how it ends: Mkdir, Create, Unlink, Rmdir, Rename and List.
-use Rattle.std.specs.Prelude.{◌≡◌, ◌≤◌, ℕ, ◌+◌, ◌==◌, Bool, IsTrue, List, [], ◌∷◌, ◌++◌, map, length, is_some, unwrap_or, Option, None, Some, Ok, if◌then◌else◌}
+use Rattle.std.specs.Prelude.{◌≡◌, ◌≤◌, ℕ, ◌+◌, ◌==◌, IsTrue, List, [], ◌∷◌, ◌++◌, map, length, is_some, unwrap_or, Option, None, Some, Ok, if◌then◌else◌}
 use Rattle.std.specs.Option.{option_map, option_map_or, option_or}
 use Rattle.trio_rights.specs.declared.kind.Kind.{Kind}
 use Rattle.trio_rights.specs.declared.kind.Kind.TheVariants.{Directory, Regular}
 use Rattle.trio_rights.specs.declared.rights.Creds.{Creds}
 use Rattle.trio_rights.specs.declared.rights.Mode.{Mode}
-use Rattle.trio_rights.specs.declared.rights.Need.TheVariants.{Read as ToRead}
 use Rattle.trio_layout.specs.Body.{body_bytes}
 use Rattle.trio_lease.specs.declared.parts.HoldParts.{HoldParts}
-use Rattle.trio_nodes.specs.declared.grant.GrantKind.TheVariants.{Hold, Read}
-use Rattle.trio_nodes.specs.declared.node.Node.{Node}
 use Rattle.trio_nodes.specs.declared.call.Call.{Call}
 use Rattle.trio_nodes.specs.declared.call.Call.TheVariants.{Mkdir, Create, Unlink, Rmdir, Rename, List as ListNames}
 use Rattle.trio_nodes.specs.declared.call.Reply.TheVariants.{Ok as IsReplied}
-use Rattle.trio_nodes.specs.Nodes.{Nodes, node_at, find_named}
-use Rattle.trio_nodes.specs.Walk.{Path, dir_of, is_above, is_directory, is_root, lacks, name_of, walk, walk_into}
+use Rattle.trio_nodes.specs.Nodes.{Nodes, find_named}
+use Rattle.trio_nodes.specs.Walk.{Path, dir_of, name_of, walk, walk_into}
 use Rattle.trio_nodes.specs.Apply.{applied, is_done}
 use Rattle.trio_desk.specs.Call.{Ask, DeskSeen, Told}
 use Rattle.trio_session.specs.Layout.{growth, size_in}
 use Rattle.trio_session.specs.Seen.{MadeFile, SessionSeen, body_in, chain_in, clear, empty_shown, fill, grown, held_file, is_allotted, lowest_from, made_body, made_file, retitle, spare_numbers}
-use Rattle.trio_walk.specs.Needs.{Needed, asked, into_needs, needs_if, node_needs, reached_by, reached_needs, walk_needs}
+use Rattle.trio_walk.specs.Needs.{asked, dir_needs}
 use Rattle.trio_walk.specs.Walks.{served_by, shows_root}
 use Rattle.trio_walk.specs.Asks.{AskedBy, Called, IsAlike, Tried, allot_asks, grant_ask, noted}
 use Rattle.trio_walk.specs.declared.outcome.Outcome.{Outcome}
@@ -36,54 +33,6 @@ IsEntryCall (Rmdir path) = Unit {0}
 IsEntryCall (Rename from to) = Unit {0}
 IsEntryCall (ListNames path from) = Unit {0}
 IsEntryCall call = ⊥
-
--- ---- what is needed
-
--- the hold on a file that is removed: a directory, or none
-abbrev pub removing_needs : Kind → ℕ → Node → List Needed
-removing_needs Directory n x = if is_directory x.kind then record { ino = n; kind = Hold } ∷ [] else []
-removing_needs Regular n x = if is_directory x.kind then [] else record { ino = n; kind = Hold } ∷ []
-
--- what is needed of the file of this name, where there is one
-abbrev pub named_needs : Nodes → ℕ → List ℕ → (ℕ → Node → List Needed) → List Needed
-named_needs nodes dir name rest = option_map_or (λ n. node_needs n (node_at nodes n) rest) (find_named nodes dir name) []
-
--- of a call that removes a file of this kind: its directory for writing, and the file held
-abbrev pub removal_needs : Nodes → Creds → Bool → Kind → Path → List Needed
-removal_needs nodes creds shown kind path =
-    into_needs nodes creds shown (dir_of path ∷ []) (dir_of path)
-    ++ reached_by (walk_into nodes creds (dir_of path ∷ []) (dir_of path)) (λ dir. named_needs nodes dir (name_of path) (removing_needs kind))
-
--- of a rename whose both directories are entered: the file held, where it moves to another and nothing has the new name there
-abbrev pub moving_needs : Nodes → Path → Path → ℕ → ℕ → List Needed
-moving_needs nodes from to dir new_dir =
-    named_needs nodes dir (name_of from) (λ n x.
-    if is_some (find_named nodes new_dir (name_of to)) then [] else (if dir == new_dir then [] else record { ino = n; kind = Hold } ∷ []))
-
--- of a rename: both directories for writing, on both walks
-abbrev pub rename_needs : Nodes → Creds → Bool → Path → Path → List Needed
-rename_needs nodes creds shown from to =
-    let writes = dir_of from ∷ dir_of to ∷ [] in
-    into_needs nodes creds shown writes (dir_of from)
-    ++ reached_by (walk_into nodes creds writes (dir_of from)) (λ dir.
-    into_needs nodes creds shown writes (dir_of to)
-    ++ reached_by (walk_into nodes creds writes (dir_of to)) (λ new_dir. moving_needs nodes from to dir new_dir))
-
--- of a list, at the file to which its walk has come
-abbrev pub listing_needs : Creds → Bool → ℕ → Node → List Needed
-listing_needs creds shown n x = if is_directory x.kind then needs_if shown n Read (lacks creds ToRead x) else []
-
--- The grants of a call on a directory, in the order in which it asks for them; none once a check has refused.
-abbrev pub dir_needs : Nodes → Creds → Bool → Call → List Needed
-dir_needs nodes creds shown (Mkdir path mode) = if is_root path then [] else into_needs nodes creds shown (dir_of path ∷ []) (dir_of path)
-dir_needs nodes creds shown (Create path mode) = if is_root path then [] else into_needs nodes creds shown (dir_of path ∷ []) (dir_of path)
-dir_needs nodes creds shown (Unlink path) = if is_root path then [] else removal_needs nodes creds shown Regular path
-dir_needs nodes creds shown (Rmdir path) = if is_root path then [] else removal_needs nodes creds shown Directory path
-dir_needs nodes creds shown (Rename from to) =
-    if is_root from then [] else (if is_root to then [] else (if is_above from to then [] else rename_needs nodes creds shown from to))
-dir_needs nodes creds shown (ListNames path from) =
-    walk_needs nodes creds shown [] path ++ reached_needs nodes (walk nodes creds [] path) (listing_needs creds shown)
-dir_needs nodes creds shown call = []
 
 -- ---- what is wanted
 

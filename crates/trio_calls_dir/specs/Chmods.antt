@@ -1,5 +1,5 @@
 -- The calls of the desk that one Chmod makes, and how it ends.
-use Rattle.std.specs.Prelude.{◌≡◌, ◌≢◌, ◌⊎◌, ℕ, Bool, IsFalse, List, [], ◌∷◌, ◌++◌, map, Option, Some, if◌then◌else◌}
+use Rattle.std.specs.Prelude.{◌≡◌, ◌≢◌, ◌⊎◌, ℕ, IsFalse, List, [], ◌∷◌, ◌++◌, map, Option, Some, if◌then◌else◌}
 use Rattle.trio_rights.specs.Row.{Row}
 use Rattle.trio_rights.specs.declared.rights.Creds.{Creds}
 use Rattle.trio_rights.specs.declared.rights.LibNo.{LibNo}
@@ -12,24 +12,18 @@ use Rattle.trio_nodes.specs.declared.call.Call.TheVariants.{Chmod}
 use Rattle.trio_nodes.specs.declared.call.Reply.{Reply}
 use Rattle.trio_nodes.specs.declared.call.Reply.TheVariants.{Ok as IsReplied, Denied}
 use Rattle.trio_nodes.specs.Nodes.{Nodes}
-use Rattle.trio_nodes.specs.Walk.{Path, dir_of, is_root}
+use Rattle.trio_nodes.specs.Walk.{Path}
 use Rattle.trio_nodes.specs.Apply.{applied, is_done, refused}
 use Rattle.trio_desk.specs.Call.{Ask, DeskSeen, SetMode, Settle, Told, ModeSet, NotModeSet, NotSettled, Settled}
 use Rattle.trio_desk.specs.Calls as desk_calls
 use Rattle.trio_desk.specs.Calls.{Calls}
 use Rattle.trio_desk.specs.Ready.{ArePossible, chmod_walk}
 use Rattle.trio_session.specs.Seen.{SessionSeen, emptied}
-use Rattle.trio_walk.specs.Needs.{Needed, asked, into_needs}
+use Rattle.trio_walk.specs.Needs.{asked, chmod_needs}
 use Rattle.trio_walk.specs.Walks.{served_by, shows_root}
 use Rattle.trio_walk.specs.Asks.{Called, IsAlike, IsGiven, IsRootDenied, IsUnsettled, Settles, TryEnds, grant_ask, took}
 use Rattle.trio_walk.specs.declared.outcome.Outcome.{Outcome}
 use Rattle.trio_walk.specs.declared.outcome.Outcome.TheVariants.{Replied, Busy, NoMemory}
-
--- ---- what is needed
-
--- The grants of a Chmod, in the order in which it asks for them: those of its walk into the directory of the path, each for reading.
-abbrev pub chmod_needs : Nodes → Creds → Bool → Path → List Needed
-chmod_needs nodes creds shown path = if is_root path then [] else into_needs nodes creds shown [] (dir_of path)
 
 -- the session with all that it was lent
 abbrev pub lent_to : SessionSeen → List desk_calls.Call → SessionSeen

@@ -1,6 +1,5 @@
 pub mod Goes
 pub mod Lists
-pub mod Tries
 pub mod Removes
 pub mod Moves
 pub mod Rooms

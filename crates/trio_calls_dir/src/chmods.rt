@@ -6,14 +6,15 @@ ghost use Rattle.trio_desk.specs.Calls.{OneCall};
 ghost use Rattle.trio_desk.specs.Ready.{IsChmod};
 ghost use Rattle.trio_session.specs.Seen.{HasReadsAlone};
 ghost use Rattle.trio_edit_laws.specs.Calls.{MayCall};
-ghost use Rattle.trio_walk.specs.Asks.{Called, IsAlike};
+ghost use Rattle.trio_edit_laws.proofs.Called.{may_be_settled, may_settled, may_unsettled};
+ghost use Rattle.trio_walk.proofs.Retrying.{nothing_left};
+ghost use Rattle.trio_walk.specs.Asks.{IsAlike};
 ghost use Rattle.trio_walk.specs.Walks.{InAllShown, Walked};
 ghost use Rattle.trio_calls_dir.specs.Chmods.{ChmodCalled, EndsHandedIn, EndsModed, LeavesBy, NamesOther, hand_in_ask, mode_ask};
-ghost use Rattle.trio_calls_dir.specs.inner.Chmods.{ComesBack, Finds, IsChmodCall, IsUnset, RefusesBy, RefusesSo, TriesAgain, TriesCall, owner_met};
-ghost use Rattle.trio_calls_dir.specs.inner.Goes.{IsRefusal, IsRefusedAs, SameDesk};
-ghost use Rattle.trio_calls_dir.specs.inner.Tries.{HasNothing, IsBack, try_end};
+ghost use Rattle.trio_calls_dir.specs.inner.Chmods.{ComesBack, Finds, IsChmodCall, IsUnset, RefusesBy, RefusesSo, TriesCall, owner_met};
+ghost use Rattle.trio_calls_dir.specs.inner.Goes.{IsRefusal, IsRefusedAs};
+ghost use Rattle.trio_walk.specs.Tries.{SameDesk, HasNothing, IsBack, try_end};
 
-use crate::calls::{TryEnd, twin};
 use crate::paths::{is_root, name_of, parent};
 use std::alloc::Global;
 use trio_desk::Desk;
@@ -22,7 +23,7 @@ use trio_nodes::{Answer, Call, Done, ModeFault, Reply};
 use trio_page::NoMemory;
 use trio_rights::{Creds, Mode};
 use trio_session::Session;
-use trio_walk::{Met, Outcome, WalkEnd, look_up, reach_into};
+use trio_walk::{Met, Outcome, Tries, TryEnd, WalkEnd, copy_reply, look_up, reach_into, retry};
 
 /// Changes the mode of a file, for its owner or uid 0.
 ///
@@ -47,97 +48,86 @@ pub(crate) fn chmod<D: Desk>(
     ensures called { ChmodCalled D.called D.seen desk.old session.old path mode result desk.new session.new }
 {
     match session.settle(desk) {
-        Ok(_) => chmod_settled(alloc, session, desk, Call::Chmod { path, mode }),
+        Ok(_) => retry(alloc, session, desk, ChmodTry(Call::Chmod { path, mode })),
         Err(NoMemory) => Outcome::NoMemory,
     }
 }
 
-// the call after the settle with which it begins
-fn chmod_settled<D: Desk>(alloc: Global, session: &mut Session, desk: &mut D, call: Call) -> Outcome
-    requires may { MayCall (D.seen desk.old) session.old }
-    requires chmod { IsChmodCall call }
-    requires empty { HasNothing session.old }
-    ensures may { MayCall (D.seen desk.new) session.new }
-    ensures called { Called D.called (TriesCall D.called D.seen call) desk.old session.old result desk.new session.new }
-{
-    match attempt(alloc, session, desk, call) {
-        TryEnd::Replied(reply) => Outcome::Replied(reply),
-        TryEnd::NoMemory => Outcome::NoMemory,
-        TryEnd::Busy(call, _) => match session.settle(desk) {
-            Ok(_) => attempt_again(alloc, session, desk, call),
-            Err(NoMemory) => Outcome::NoMemory,
-        },
-    }
-}
+/// A change of mode, to be tried by a session that has nothing.
+#[derive(Drop)]
+struct ChmodTry(Call);
 
-// one more try; after Busy it settles
-fn attempt_again<D: Desk>(alloc: Global, session: &mut Session, desk: &mut D, call: Call) -> Outcome
-    requires may { MayCall (D.seen desk.old) session.old }
-    requires chmod { IsChmodCall call }
-    requires empty { HasNothing session.old }
-    ensures may { MayCall (D.seen desk.new) session.new }
-    ensures again { TriesAgain D.called (TriesCall D.called D.seen call) desk.old session.old result desk.new session.new }
-{
-    match attempt(alloc, session, desk, call) {
-        TryEnd::Replied(reply) => Outcome::Replied(reply),
-        TryEnd::NoMemory => Outcome::NoMemory,
-        TryEnd::Busy(_, holder) => match session.settle(desk) {
-            Ok(_) => Outcome::Busy(holder),
-            Err(NoMemory) => Outcome::NoMemory,
-        },
-    }
-}
+impl Tries for ChmodTry {
+    ghost begins = { λ t desk s. IsChmodCall t.0 × MayCall desk s × HasNothing s };
 
-// one try, of a session that has nothing
-fn attempt<D: Desk>(alloc: Global, session: &mut Session, desk: &mut D, call: Call) -> TryEnd
-    requires may { MayCall (D.seen desk.old) session.old }
-    requires chmod { IsChmodCall call }
-    requires empty { HasNothing session.old }
-    ensures may { MayCall (D.seen desk.new) session.new }
-    ensures tried { TriesCall D.called D.seen call desk.old session.old (try_end result) desk.new session.new }
-    ensures back { IsBack call result }
-    ensures lib { session.new.lib ≡ session.old.lib }
-{
-    match &call {
-        Call::Chmod { path, mode } => match owned_file(alloc, session, desk, path) {
-            WalkEnd::At(ino) => {
-                let mode = *mode;
-                set(session, desk, ino, mode, call)
-            }
-            WalkEnd::Reply(reply) => hand_in(alloc, session, desk, call, reply),
-            WalkEnd::Busy(holder) => TryEnd::Busy(call, holder),
-            WalkEnd::NoMemory => TryEnd::NoMemory,
-        },
-        _ => unreachable!(),
+    ghost may = { λ t desk s. IsChmodCall t.0 × MayCall desk s };
+
+    ghost tried = { λ called seen t. TriesCall called seen t.0 };
+
+    fn attempt<D: Desk>(
+        self,
+        alloc: Global,
+        session: &mut Session,
+        desk: &mut D,
+    ) -> TryEnd<ChmodTry> {
+        match &self.0 {
+            Call::Chmod { path, mode } => match owned_file(alloc, session, desk, path) {
+                WalkEnd::At(ino) => {
+                    let mode = *mode;
+                    set(session, desk, ino, mode, self)
+                }
+                WalkEnd::Reply(reply) => hand_in(alloc, session, desk, self, reply),
+                WalkEnd::Busy(holder) => TryEnd::Busy(self, holder),
+                WalkEnd::NoMemory => TryEnd::NoMemory,
+            },
+            _ => unreachable!(),
+        }
     }
+
+    ghost begun = { λ t desk s may. (may.0, may.1) };
+
+    ghost on = { λ t desk s may. may.1.edits.on };
+
+    ghost ready = { λ t desk s may. may_be_settled desk s may.1 };
+
+    ghost settled = { λ t desk desk' s s' may all. (may.0, may_settled desk' s s' all.empty all.on, nothing_left s s' all.empty) };
+
+    ghost unsettled = { λ t desk desk' s s' may none. (may.0, may_unsettled desk desk' s s' may.1 none.seen none.same none.on) };
 }
 
 // asks for the mode, with the read leases and the call
-fn set<D: Desk>(session: &mut Session, desk: &mut D, ino: u32, mode: Mode, call: Call) -> TryEnd
+fn set<D: Desk>(
+    session: &mut Session,
+    desk: &mut D,
+    ino: u32,
+    mode: Mode,
+    what: ChmodTry,
+) -> TryEnd<ChmodTry>
     requires may { MayCall (D.seen desk.old) session.old }
     requires alone { HasReadsAlone session.old }
-    requires chmod { IsChmod (D.seen desk.old) session.old.reads ino mode.0 call }
+    requires chmod { IsChmod (D.seen desk.old) session.old.reads ino mode.0 what.0 }
     requires refuses { RefusesSo (D.seen desk.old) ino mode }
     ensures may { MayCall (D.seen desk.new) session.new }
-    ensures asked { OneCall D.called desk.old (mode_ask session.old ino mode call) desk.new
+    ensures asked { OneCall D.called desk.old (mode_ask session.old ino mode what.0) desk.new
         (λ told. EndsModed told (try_end result) × LeavesBy session.old (try_end result) session.new × NamesOther session.old.lib (try_end result)) ⊥ }
     ensures same { SameDesk (D.seen desk.old) (D.seen desk.new) }
-    ensures back { IsBack call result }
+    ensures back { IsBack what result }
 {
+    let ChmodTry(call) = what;
     match session.set_mode(desk, ino, mode.0, call) {
         Ok(()) => TryEnd::Replied(Reply::Ok(Answer::Done)),
         Err((back, fault)) => unset(back, fault),
     }
 }
 
-// how a try ends whose change of mode is refused; Busy gives the call back
-fn unset(back: Option<Call>, fault: ModeFault) -> TryEnd
+// how a try ends whose change of mode is refused; Busy gives it back
+fn unset(back: Option<Call>, fault: ModeFault) -> TryEnd<ChmodTry>
     requires { ComesBack back fault }
     ensures { IsUnset back fault result }
 {
     match fault {
         ModeFault::Busy(holder) => match back {
-            Some(call) => TryEnd::Busy(call, holder),
+            Some(call) => TryEnd::Busy(ChmodTry(call), holder),
             None => unreachable!(),
         },
         ModeFault::NoMemory => TryEnd::NoMemory,
@@ -153,25 +143,26 @@ fn hand_in<D: Desk>(
     alloc: Global,
     session: &mut Session,
     desk: &mut D,
-    call: Call,
+    what: ChmodTry,
     reply: Reply,
-) -> TryEnd
+) -> TryEnd<ChmodTry>
     requires may { MayCall (D.seen desk.old) session.old }
     requires alone { HasReadsAlone session.old }
     requires refusal { IsRefusal reply }
-    requires refused { InAllShown (D.seen desk.old) session.old (IsRefusedAs (D.seen desk.old) call reply) }
+    requires refused { InAllShown (D.seen desk.old) session.old (IsRefusedAs (D.seen desk.old) what.0 reply) }
     ensures may { MayCall (D.seen desk.new) session.new }
-    ensures handed { OneCall D.called desk.old (hand_in_ask session.old call reply) desk.new
+    ensures handed { OneCall D.called desk.old (hand_in_ask session.old what.0 reply) desk.new
         (λ told. EndsHandedIn reply told (try_end result) × LeavesBy session.old (try_end result) session.new)
         ((result ≡ TryEnd.NoMemory) × IsAlike session.old session.new) }
     ensures same { SameDesk (D.seen desk.old) (D.seen desk.new) }
 {
-    let Ok(noted) = twin(alloc, &reply) else {
+    let Ok(noted) = copy_reply(alloc, &reply) else {
         return TryEnd::NoMemory;
     };
     if session.reserve_call().is_err() {
         return TryEnd::NoMemory;
     }
+    let ChmodTry(call) = what;
     session.note(Done {
         call,
         reply: noted,

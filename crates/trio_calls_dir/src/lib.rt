@@ -15,6 +15,5 @@ mod paths;
 mod removes;
 mod replies;
 mod rooms;
-mod stops;
 
 pub use calls::dir_call;

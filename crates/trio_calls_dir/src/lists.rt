@@ -11,12 +11,11 @@ ghost use Rattle.trio_calls_dir.specs.inner.Lists.{BusyAt, ComesHere, HasDir, le
 ghost use Rattle.trio_nodes.specs.Walk.{Path as NamePath};
 ghost use Rattle.trio_desk.specs.Contents.{AreWithinLimits};
 ghost use Rattle.trio_walk.specs.Walks.{HasMet, gives_met, shows_root};
-ghost use Rattle.trio_calls_dir.specs.Asks.{dir_needs};
-ghost use Rattle.trio_calls_dir.specs.inner.Goes.{Goes, OthersHold, number_made, try_ends};
-ghost use Rattle.trio_calls_dir.specs.inner.Tries.{HasNothing};
+ghost use Rattle.trio_walk.specs.Needs.{dir_needs};
+ghost use Rattle.trio_calls_dir.specs.inner.Goes.{Goes, number_made, try_ends};
+ghost use Rattle.trio_walk.specs.Tries.{OthersHold, HasNothing};
 
 use crate::replies::{Replied, refused, stopped};
-use crate::stops::Stop;
 use std::alloc::Global;
 use trio_auxdir::Place;
 use trio_desk::Desk;
@@ -26,7 +25,7 @@ use trio_page::NoMemory;
 use trio_page::field::{u16_in, u32_in, u64_in};
 use trio_rights::{Creds, Kind, Mode, Need, may};
 use trio_session::Session;
-use trio_walk::{Met, WalkEnd, reach, take};
+use trio_walk::{Met, Stop, WalkEnd, reach, take};
 
 /// How many names one call lists at most.
 const MOST_NAMES: usize = 64;

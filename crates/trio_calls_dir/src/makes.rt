@@ -9,14 +9,15 @@ ghost use Rattle.trio_session.specs.Seen.{IsOpenDir, place_shown};
 ghost use Rattle.trio_edit_laws.specs.Calls.{MayCall};
 ghost use Rattle.trio_laws.specs.session.DirCalls.{ComesInto};
 ghost use Rattle.trio_walk.specs.Walks.{InAllShown, shows_root};
-ghost use Rattle.trio_calls_dir.specs.Asks.{dir_needs, new_body};
-ghost use Rattle.trio_calls_dir.specs.inner.Goes.{Goes, IsNeverBusy, OthersHold, making, number_made, try_ends};
-ghost use Rattle.trio_calls_dir.specs.inner.Tries.{HasNothing};
+ghost use Rattle.trio_calls_dir.specs.Asks.{new_body};
+ghost use Rattle.trio_walk.specs.Needs.{dir_needs};
+ghost use Rattle.trio_calls_dir.specs.inner.Goes.{Goes, making, number_made, try_ends};
+ghost use Rattle.trio_walk.specs.Asks.{IsNotBusy};
+ghost use Rattle.trio_walk.specs.Tries.{OthersHold, HasNothing};
 
 use crate::paths::{name_of, parent};
 use crate::replies::{Replied, refused, stopped};
 use crate::rooms::make_room;
-use crate::stops::Stop;
 use std::alloc::Global;
 use trio_desk::Desk;
 use trio_layout::Body;
@@ -24,7 +25,7 @@ use trio_names::Path;
 use trio_nodes::{Answer, Call, Reply};
 use trio_rights::{Kind, Mode};
 use trio_session::Session;
-use trio_walk::{look_up, reach_into};
+use trio_walk::{Stop, look_up, reach_into};
 
 /// Makes an empty file of this kind.
 pub(crate) fn make<D: Desk>(
@@ -75,7 +76,7 @@ fn make_in<D: Desk>(
     requires comes { InAllShown (D.seen desk.old) session.old (λ now. ComesInto now (D.seen desk.old).creds call.now path.now dir) }
     requires free { InAllShown (D.seen desk.old) session.old (λ now. find_named now dir (name_of path.now) ≡ None) }
     ensures goes { Goes D.called D.seen desk.old session.old call.now (λ now. []) (try_ends result) (number_made result) desk.new session.new }
-    ensures idle { IsNeverBusy (try_ends result) }
+    ensures idle { IsNotBusy (try_ends result) }
 {
     let creds = desk.creds();
     let body = new_body(creds.uid, creds.gid, mode);

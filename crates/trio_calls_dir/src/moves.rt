@@ -7,24 +7,23 @@ ghost use Rattle.trio_nodes.specs.Walk.{dir_of, is_root, name_of};
 ghost use Rattle.trio_session.specs.Seen.{IsOpenDir, SessionSeen, place_shown, retitle};
 ghost use Rattle.trio_edit_laws.specs.Calls.{MayCall};
 ghost use Rattle.trio_laws.specs.session.DirCalls.{early_refusal};
-ghost use Rattle.trio_walk.specs.Asks.{IsAlike};
+ghost use Rattle.trio_walk.specs.Asks.{IsAlike, IsNotBusy};
 ghost use Rattle.trio_walk.specs.Walks.{shows_root};
-ghost use Rattle.trio_calls_dir.specs.Asks.{dir_needs, moving_needs};
-ghost use Rattle.trio_calls_dir.specs.inner.Goes.{Goes, IsNeverBusy, OthersHold, number_made, try_ends};
+ghost use Rattle.trio_walk.specs.Needs.{dir_needs, moving_needs};
+ghost use Rattle.trio_calls_dir.specs.inner.Goes.{Goes, number_made, try_ends};
+ghost use Rattle.trio_walk.specs.Tries.{OthersHold, HasNothing};
 ghost use Rattle.trio_calls_dir.specs.inner.Moves.{IsAcross, IsFound, IsFree, IsOut, IsRename, MayMove, MayPut, NeedsBusyAt, PutFile, across_needs};
-ghost use Rattle.trio_calls_dir.specs.inner.Tries.{HasNothing};
 
 use crate::paths::{is_above, is_root, name_of, parent};
 use crate::replies::{Replied, refused, stopped};
 use crate::rooms::make_room;
-use crate::stops::Stop;
 use std::alloc::Global;
 use trio_desk::Desk;
 use trio_names::Path;
 use trio_nodes::{Answer, Call, GrantKind, Reply};
 use trio_page::NoMemory;
 use trio_session::Session;
-use trio_walk::{Met, WalkEnd, look_up, reach_into, take};
+use trio_walk::{Met, Stop, WalkEnd, look_up, reach_into, take};
 
 /// Gives a file another name, in its directory or in another.
 ///
@@ -239,7 +238,7 @@ fn move_held<D: Desk>(
     requires rename { IsRename call.now from.now to.now }
     requires moves { MayMove (D.seen desk.old) session.old call.now from.now to.now dir new_dir file }
     ensures goes { Goes D.called D.seen desk.old session.old call.now (λ now. []) (try_ends result) (number_made result) desk.new session.new }
-    ensures idle { IsNeverBusy (try_ends result) }
+    ensures idle { IsNotBusy (try_ends result) }
 {
     // no file is held by a number of the session's own
     if session.moving(file.ino).is_none() {

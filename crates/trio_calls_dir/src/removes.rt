@@ -8,14 +8,13 @@ ghost use Rattle.trio_walk.specs.Asks.{IsAlike};
 ghost use Rattle.trio_walk.specs.Walks.{FindsEntry, HasMet, InAllShown, shows_root};
 ghost use Rattle.trio_laws.specs.session.DirCalls.{ComesInto};
 ghost use Rattle.trio_nodes.specs.Nodes.{find_named};
-ghost use Rattle.trio_calls_dir.specs.Asks.{dir_needs, named_needs, removing_needs};
-ghost use Rattle.trio_calls_dir.specs.inner.Goes.{Goes, OthersHold, number_made, removing, try_ends};
+ghost use Rattle.trio_walk.specs.Needs.{dir_needs, named_needs, removing_needs};
+ghost use Rattle.trio_calls_dir.specs.inner.Goes.{Goes, number_made, removing, try_ends};
+ghost use Rattle.trio_walk.specs.Tries.{OthersHold, HasNothing};
 ghost use Rattle.trio_calls_dir.specs.inner.Removes.{HoldBusyAt, other_kind};
-ghost use Rattle.trio_calls_dir.specs.inner.Tries.{HasNothing};
 
 use crate::paths::{name_of, parent};
 use crate::replies::{Replied, refused, stopped};
-use crate::stops::Stop;
 use std::alloc::Global;
 use trio_desk::Desk;
 use trio_names::Path;
@@ -23,7 +22,7 @@ use trio_nodes::{Answer, Call, GrantKind, Reply};
 use trio_page::NoMemory;
 use trio_rights::Kind;
 use trio_session::Session;
-use trio_walk::{Met, WalkEnd, look_up, reach_into, take};
+use trio_walk::{Met, Stop, WalkEnd, look_up, reach_into, take};
 
 /// Removes a file of this kind; a directory has to be empty.
 pub(crate) fn remove<D: Desk>(

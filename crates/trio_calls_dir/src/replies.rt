@@ -3,23 +3,23 @@
 ghost use Rattle.std.specs.Prelude.{◌≡◌, ◌<◌, IfOk, MatchResult, length};
 ghost use Rattle.trio_edit_laws.specs.Calls.{MayCall};
 ghost use Rattle.trio_walk.specs.Walks.{IsStopped, shows_root};
-ghost use Rattle.trio_calls_dir.specs.Asks.{IsEntryCall, dir_needs};
-ghost use Rattle.trio_calls_dir.specs.inner.Goes.{Goes, OthersHold, StopsBy, number_made, try_ends};
-ghost use Rattle.trio_calls_dir.specs.inner.Tries.{HasNothing};
+ghost use Rattle.trio_calls_dir.specs.Asks.{IsEntryCall};
+ghost use Rattle.trio_walk.specs.Needs.{dir_needs};
+ghost use Rattle.trio_calls_dir.specs.inner.Goes.{Goes, StopsBy, number_made, try_ends};
+ghost use Rattle.trio_walk.specs.Tries.{OthersHold, HasNothing};
 
 use crate::lists::list;
 use crate::makes::make;
 use crate::moves::rename;
 use crate::paths::is_root;
 use crate::removes::remove;
-use crate::stops::Stop;
 use std::alloc::Global;
 use trio_desk::Desk;
 use trio_nodes::{Call, Reply};
 use trio_page::NoMemory;
 use trio_rights::Kind;
 use trio_session::Session;
-use trio_walk::WalkEnd;
+use trio_walk::{Stop, WalkEnd};
 
 /// What a call is replied, and the number of the file that it made, or 0.
 #[derive(Drop)]

@@ -11,12 +11,12 @@ ghost use Rattle.trio_calls_dir.specs.Asks.{slot_growth, with_slot};
 ghost use Rattle.trio_calls_dir.specs.inner.Lists.{HasDir};
 ghost use Rattle.trio_calls_dir.specs.inner.Rooms.{Allotted, MadeRoom, MayAddSlot};
 
-use crate::stops::Stop;
 use trio_desk::Desk;
 use trio_nodes::{AllotFault, Reply};
 use trio_page::NoMemory;
 use trio_page::field::u64_in;
 use trio_session::Session;
+use trio_walk::Stop;
 
 /// Sees to it that a directory that is taken for writing has an empty slot, and that so many inode
 /// numbers are spare.

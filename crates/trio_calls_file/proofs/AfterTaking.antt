@@ -24,7 +24,8 @@ use Rattle.trio_walk.specs.declared.outcome.Outcome.{Outcome}
 use Rattle.trio_walk.specs.declared.outcome.Outcome.TheVariants.{Replied, Busy, NoMemory}
 use Rattle.trio_walk.specs.Asks.{AskedBy, IsAlike, took}
 use Rattle.trio_calls_file.specs.Asks.{edited, new_length, sized}
-use Rattle.trio_calls_file.specs.inner.Goes.{Goes, LeavesHere, Went, SameDesk}
+use Rattle.trio_calls_file.specs.inner.Goes.{Goes, LeavesHere, Went}
+use Rattle.trio_walk.specs.Tries.{SameDesk}
 use Rattle.trio_calls_file.proofs.Shown.{alike_then, both_then, possible_then}
 
 -- ---- what was taken

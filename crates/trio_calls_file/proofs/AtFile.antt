@@ -36,8 +36,8 @@ use Rattle.trio_walk.specs.Needs.{path_of}
 use Rattle.trio_walk.specs.Walks.{InAllShown, InBoth, denies, HasMet, MayTake, gives_met}
 use Rattle.trio_walk.specs.declared.outcome.Outcome.{Outcome}
 use Rattle.trio_walk.specs.declared.outcome.Outcome.TheVariants.{Replied, NoMemory}
-use Rattle.trio_calls_file.specs.declared.files.Stop.{Stop}
-use Rattle.trio_calls_file.specs.declared.files.Stop.TheVariants.{Busy as IsBusy, NoMemory as LacksMemory}
+use Rattle.trio_walk.specs.declared.outcome.Stop.{Stop}
+use Rattle.trio_walk.specs.declared.outcome.Stop.TheVariants.{Busy as IsBusy, NoMemory as LacksMemory}
 use Rattle.trio_walk.specs.Asks.{IsAlike, allot_asks}
 use Rattle.trio_calls_file.specs.Asks.{IsFileCall, growth_of, wanted_pages, walked_growth}
 use Rattle.trio_edit_laws.specs.Calls.{MayCall}

@@ -26,8 +26,8 @@ use Rattle.trio_walk.specs.declared.met.Met.{Met}
 use Rattle.trio_walk.specs.Needs.{path_of}
 use Rattle.trio_walk.specs.Walks.{InAllShown, HasMet}
 use Rattle.trio_walk.specs.declared.outcome.Outcome.{Outcome}
-use Rattle.trio_calls_file.specs.declared.files.Stop.{Stop}
-use Rattle.trio_calls_file.specs.declared.files.Stop.TheVariants.{NoMemory as LacksMemory}
+use Rattle.trio_walk.specs.declared.outcome.Stop.{Stop}
+use Rattle.trio_walk.specs.declared.outcome.Stop.TheVariants.{NoMemory as LacksMemory}
 use Rattle.trio_calls_file.specs.Asks.{IsFileCall}
 use Rattle.trio_edit_laws.specs.Calls.{MayCall}
 use Rattle.trio_calls_file.specs.inner.Goes.{ComesHere, Goes, Unrefused, bytes_reply, checked, grant_for, size_had, stat_reply, try_ends, wants_pages_for}

@@ -42,13 +42,13 @@ use Rattle.trio_edit_laws.proofs.Resized.{length-resized}
 use Rattle.trio_edit_laws.proofs.Shown.{shown_by}
 use Rattle.trio_walk.specs.Needs.{path_of}
 use Rattle.trio_walk.specs.Walks.{InAllShown}
-use Rattle.trio_walk.specs.Asks.{IsAlike, allot_asks, noted, took}
+use Rattle.trio_walk.specs.Asks.{IsAlike, allot_asks, noted, took, IsNotBusy}
 use Rattle.trio_edit_laws.specs.Calls.{MayCall}
 use Rattle.trio_calls_file.specs.Asks.{edited, growth_of, new_length, sized, walked_growth, wanted_pages}
 use Rattle.trio_walk.specs.declared.outcome.Outcome.TheVariants.{Replied}
-use Rattle.trio_calls_file.specs.declared.files.Stop.{Stop}
-use Rattle.trio_calls_file.specs.declared.files.Stop.TheVariants.{Busy as IsBusy, NoMemory as LacksMemory}
-use Rattle.trio_calls_file.specs.inner.Goes.{Goes, IsBytes, IsNeverBusy, IsPlain, MayBeDone, Unrefused, try_ends, wants_pages_for}
+use Rattle.trio_walk.specs.declared.outcome.Stop.{Stop}
+use Rattle.trio_walk.specs.declared.outcome.Stop.TheVariants.{Busy as IsBusy, NoMemory as LacksMemory}
+use Rattle.trio_calls_file.specs.inner.Goes.{Goes, IsBytes, IsPlain, MayBeDone, Unrefused, try_ends, wants_pages_for}
 use Rattle.trio_calls_file.specs.inner.Rooms.{MadeRoom, MayGoOn, RoomEnds}
 use Rattle.trio_calls_file.proofs.AfterTaking.{edited_alike}
 use Rattle.trio_calls_file.proofs.Looked.{made_noted, may_looked}
@@ -230,11 +230,11 @@ put_at-none at (b ∷ bs) old none = absurd (let e = eqb-true (length (b ∷ bs)
 
 -- it is never busy
 pub idle_room : {D : Type 0} (called : D → Ask → Told → D → Type 0) (seen : D → DeskSeen) (d : D) (s : SessionSeen) (ino old size : ℕ) (result : Result (Option Reply) Stop) (d' : D) (s1 : SessionSeen)
-    → MadeRoom called seen d s ino old size result d' s1 → (stop : Stop) → result ≡ Err stop → IsNeverBusy (try_ends (Err stop))
+    → MadeRoom called seen d s ino old size result d' s1 → (stop : Stop) → result ≡ Err stop → IsNotBusy (try_ends (Err stop))
 idle_room called seen d s ino old size result d' s1 room stop is =
     by stop (subst (λ r. RoomEnds (seen d') ino (block_count size) (growth (block_count old) (block_count size)) room.given room.last r s1) is room.ends)
   where
-    by : (p : Stop) → RoomEnds (seen d') ino (block_count size) (growth (block_count old) (block_count size)) room.given room.last (Err p) s1 → IsNeverBusy (try_ends (Err p))
+    by : (p : Stop) → RoomEnds (seen d') ino (block_count size) (growth (block_count old) (block_count size)) room.given room.last (Err p) s1 → IsNotBusy (try_ends (Err p))
     by (IsBusy holder) x = absurd x
     by LacksMemory x = tt
 

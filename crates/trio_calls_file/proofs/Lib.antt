@@ -18,6 +18,5 @@ pub mod AtFile
 pub mod AtTaken
 pub mod OwnReads
 pub mod WholeTries
-pub mod Tries
 pub mod Ends
 pub mod Made

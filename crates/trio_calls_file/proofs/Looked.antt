@@ -23,8 +23,8 @@ use Rattle.trio_laws.proofs.session.Calls.{batch_more, reply_more}
 use Rattle.trio_session.specs.Seen.{SessionSeen}
 use Rattle.trio_walk.specs.Walks.{InAllShown}
 use Rattle.trio_walk.specs.declared.outcome.Outcome.TheVariants.{Replied, NoMemory}
-use Rattle.trio_calls_file.specs.declared.files.Stop.{Stop}
-use Rattle.trio_calls_file.specs.declared.files.Stop.TheVariants.{NoMemory as LacksMemory}
+use Rattle.trio_walk.specs.declared.outcome.Stop.{Stop}
+use Rattle.trio_walk.specs.declared.outcome.Stop.TheVariants.{NoMemory as LacksMemory}
 use Rattle.trio_walk.specs.Asks.{IsAlike, TryEnds, noted, took}
 use Rattle.trio_edit_laws.specs.Calls.{MayCall}
 use Rattle.trio_calls_file.specs.inner.Goes.{Goes, IsBytes, IsPlain, IsRead, LeavesHere, Went, try_ends}

@@ -3,12 +3,12 @@ use Rattle.std.proofs.Common.{◌≡◌, ℕ, List, [], ◌++◌, Option, sym, r
 use Rattle.std.specs.Prelude.{map}
 use Rattle.std.proofs.lemmas.List.{append-nil}
 use Rattle.trio_rights.specs.Row.{Row}
-use Rattle.trio_nodes.specs.declared.call.Answer.TheVariants.{Bytes, Done as IsDone, Count, Names, Stat as IsStat}
+use Rattle.trio_nodes.specs.declared.call.Answer.TheVariants.{Bytes, Names}
 use Rattle.trio_nodes.specs.declared.call.Call.{Call}
-use Rattle.trio_nodes.specs.declared.call.Call.TheVariants.{Mkdir, Create, Write, Read, Truncate, Unlink, Rmdir, Rename, List as ListNames, Stat, Chmod}
+use Rattle.trio_nodes.specs.declared.call.Call.TheVariants.{Read}
 use Rattle.trio_nodes.specs.declared.call.Done.{Done}
 use Rattle.trio_nodes.specs.declared.call.Reply.{Reply}
-use Rattle.trio_nodes.specs.declared.call.Reply.TheVariants.{Ok as IsReplied, NotFound, Exists, NotDir, IsDir, NotEmpty, Denied, IntoItself, NoSpace, NoInodes, TooLarge}
+use Rattle.trio_nodes.specs.declared.call.Reply.TheVariants.{Ok as IsReplied}
 use Rattle.trio_nodes.specs.declared.grant.Holder.{Holder}
 use Rattle.trio_nodes.specs.Nodes.{Nodes}
 use Rattle.trio_nodes.specs.After.{batch_nodes}
@@ -17,10 +17,12 @@ use Rattle.trio_desk.specs.Ready.{ArePossible}
 use Rattle.trio_session.specs.Seen.{SessionSeen}
 use Rattle.trio_walk.specs.declared.outcome.Outcome.{Outcome}
 use Rattle.trio_walk.specs.declared.outcome.Outcome.TheVariants.{Replied, Busy, NoMemory}
-use Rattle.trio_walk.specs.Asks.{IsAlike, noted, took}
+use Rattle.trio_desk.specs.Calls as desk_calls
+use Rattle.trio_walk.specs.Asks.{IsAlike, TryEnds, noted, took}
+use Rattle.trio_walk.specs.Tries.{TakesMemory}
 use Rattle.trio_calls_file.specs.Asks.{Leaves, FileTried, TriedIn, edited}
 use Rattle.trio_edit_laws.specs.Calls.{MayCall}
-use Rattle.trio_calls_file.specs.inner.Goes.{IsBytes, IsRead, LeavesHere, RepliesTo}
+use Rattle.trio_calls_file.specs.inner.Goes.{IsBytes, IsPlain, IsRead, LeavesHere, RepliesTo}
 
 -- ---- what is left
 
@@ -30,30 +32,30 @@ noted_alike call r x s' e = ap (λ q. noted call r 0 q) e
 -- with its note a try that is replied leaves what it should
 leaves_noted : (call : Call) (ino : ℕ) (x s' : SessionSeen) (r : Reply) → LeavesHere call ino x (Replied r) s' → Leaves call ino (Replied r) x (noted call r 0 s')
 leaves_noted call ino x s' (IsReplied answer) h = noted_alike call (IsReplied answer) (edited call ino x) s' h
-leaves_noted call ino x s' NotFound h = noted_alike call NotFound x s' h
-leaves_noted call ino x s' Exists h = noted_alike call Exists x s' h
-leaves_noted call ino x s' NotDir h = noted_alike call NotDir x s' h
-leaves_noted call ino x s' IsDir h = noted_alike call IsDir x s' h
-leaves_noted call ino x s' NotEmpty h = noted_alike call NotEmpty x s' h
-leaves_noted call ino x s' Denied h = noted_alike call Denied x s' h
-leaves_noted call ino x s' IntoItself h = noted_alike call IntoItself x s' h
-leaves_noted call ino x s' (NoSpace w f) h = noted_alike call (NoSpace w f) x s' h
-leaves_noted call ino x s' (NoInodes w f) h = noted_alike call (NoInodes w f) x s' h
-leaves_noted call ino x s' TooLarge h = noted_alike call TooLarge x s' h
+leaves_noted call ino x s' refusal h = noted_alike call refusal x s' h
 
 -- a read edits nothing
 read_edits : (call : Call) (ino : ℕ) (x : SessionSeen) → IsRead call → edited call ino x ≡ x
 read_edits (Read path at len) ino x r = refl
-read_edits (Mkdir path mode) ino x r = absurd r
-read_edits (Create path mode) ino x r = absurd r
-read_edits (Write path at bytes) ino x r = absurd r
-read_edits (Truncate path size) ino x r = absurd r
-read_edits (Unlink path) ino x r = absurd r
-read_edits (Rmdir path) ino x r = absurd r
-read_edits (Rename from to) ino x r = absurd r
-read_edits (ListNames path from) ino x r = absurd r
-read_edits (Stat path) ino x r = absurd r
-read_edits (Chmod path mode) ino x r = absurd r
+read_edits call ino x r = absurd r
+
+-- ---- bytes that can't be noted
+
+-- names are no reply of a call of a file
+pub is_bytes : (reply : Reply) → TakesMemory reply → IsPlain reply → IsBytes reply
+is_bytes (IsReplied (Bytes bytes)) much plain = tt
+is_bytes (IsReplied (Names n ns)) much plain = absurd plain
+is_bytes reply much plain = absurd much
+
+unnoted_ends : (reply : Reply) (last : List desk_calls.Call) → IsBytes reply → TryEnds (Replied reply) last → TryEnds NoMemory last
+unnoted_ends (IsReplied (Bytes bytes)) last b ends = inl ends
+unnoted_ends reply last b ends = absurd b
+
+unnoted_leaves : (call : Call) (reply : Reply) (ino : ℕ) (x s' : SessionSeen) → IsBytes reply → IsRead call → LeavesHere call ino x (Replied reply) s' → IsAlike x s'
+unnoted_leaves call (IsReplied (Bytes bytes)) ino x s' b read e = subst (λ (y : SessionSeen). IsAlike y s') (read_edits call ino x read) e
+unnoted_leaves call reply ino x s' b read e = absurd b
+
+-- ---- one try
 
 module _ {D : Type 0} (called : D → Ask → Told → D → Type 0) (seen : D → DeskSeen) (d d' : D) (s s' : SessionSeen) (call : Call) where
   -- what was shown is shown over the calls that were there before
@@ -95,33 +97,19 @@ module _ {D : Type 0} (called : D → Ask → Told → D → Type 0) (seen : D �
 
   -- so is one whose bytes can't be noted
   pub tried_unnoted : (reply : Reply) → IsBytes reply → RepliesTo called seen d s call (Replied reply) d' s' → FileTried called seen call d s NoMemory d' s'
-  tried_unnoted (IsReplied (Bytes bytes)) b t = (
+  tried_unnoted reply bytes t = (
     t.file,
     record {
       given = t.goes.given;
       last = t.goes.last;
       each = t.goes.each;
       made = t.goes.made;
-      ends = inl t.goes.ends;
-      leaves = subst (λ (x : SessionSeen). IsAlike x s') (read_edits call t.file (took s (map (λ c. c.told) t.goes.given)) (t.goes.after.3 b).1) t.goes.leaves;
+      ends = unnoted_ends reply t.goes.last bytes t.goes.ends;
+      leaves = unnoted_leaves call reply t.file (took s (map (λ c. c.told) t.goes.given)) s' bytes (t.goes.after.3 bytes).1 t.goes.leaves;
       shown = λ nodes rows p.
-          let v = shown_then (Replied (IsReplied (Bytes bytes))) t nodes rows p in record { comes = tt; asks = ([], v.asks ∙ sym (append-nil (map (λ c. c.ask) (t.goes.given ++ t.goes.last)))) };
+          let v = shown_then (Replied reply) t nodes rows p in record { comes = tt; asks = ([], v.asks ∙ sym (append-nil (map (λ c. c.ask) (t.goes.given ++ t.goes.last)))) };
     },
   )
-  tried_unnoted (IsReplied IsDone) b t = absurd b
-  tried_unnoted (IsReplied (Count n)) b t = absurd b
-  tried_unnoted (IsReplied (Names n ns)) b t = absurd b
-  tried_unnoted (IsReplied (IsStat k m u g z)) b t = absurd b
-  tried_unnoted NotFound b t = absurd b
-  tried_unnoted Exists b t = absurd b
-  tried_unnoted NotDir b t = absurd b
-  tried_unnoted IsDir b t = absurd b
-  tried_unnoted NotEmpty b t = absurd b
-  tried_unnoted Denied b t = absurd b
-  tried_unnoted IntoItself b t = absurd b
-  tried_unnoted (NoSpace w f) b t = absurd b
-  tried_unnoted (NoInodes w f) b t = absurd b
-  tried_unnoted TooLarge b t = absurd b
 
   -- one that is replied, and noted
   pub tried_noted : (reply : Reply) → RepliesTo called seen d s call (Replied reply) d' s' → FileTried called seen call d s (Replied reply) d' (noted call reply 0 s')

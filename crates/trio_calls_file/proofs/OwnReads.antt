@@ -36,8 +36,8 @@ use Rattle.trio_walk.specs.Walks.{IsMetIn, IsOwnBusy, Walked, Walks, need_of, se
 use Rattle.trio_walk.proofs.Agreeing.{asked_beside-In, in_order, walk_need}
 use Rattle.trio_walk.proofs.Possible.{lib_same}
 use Rattle.trio_nodes.specs.declared.call.Call.{Call}
-use Rattle.trio_calls_file.specs.inner.Goes.{BusyAt, IsOwnGrant, OthersHold, grant_for}
-use Rattle.trio_calls_file.specs.inner.Tries.{HasNothing}
+use Rattle.trio_calls_file.specs.inner.Goes.{BusyAt, IsOwnGrant, grant_for}
+use Rattle.trio_walk.specs.Tries.{OthersHold, HasNothing}
 use Rattle.trio_calls_file.proofs.AtFile.{not_held}
 
 -- a directory stands there

@@ -41,16 +41,17 @@ use Rattle.trio_edit_laws.proofs.Keeps.{slot_held}
 use Rattle.trio_edit_laws.proofs.MorePages.{HasPagesOf, page_in-more}
 use Rattle.trio_edit_laws.proofs.TakenAllotment.{keeps_allotment}
 use Rattle.trio_walk.specs.Asks.{IsAlike, allot_asks, took}
-use Rattle.trio_calls_file.specs.inner.Goes.{SameDesk}
+use Rattle.trio_walk.specs.Tries.{SameDesk}
 use Rattle.trio_layout.specs.Body.{block_count}
 use Rattle.trio_session.specs.Layout.{growth}
-use Rattle.trio_calls_file.specs.declared.files.Stop.{Stop}
-use Rattle.trio_calls_file.specs.declared.files.Stop.TheVariants.{Busy as IsBusy, NoMemory as LacksMemory}
+use Rattle.trio_walk.specs.declared.outcome.Stop.{Stop}
+use Rattle.trio_walk.specs.declared.outcome.Stop.TheVariants.{Busy as IsBusy, NoMemory as LacksMemory}
 use Rattle.trio_calls_file.specs.inner.Rooms.{AllotEnds, Allotted, FilesStay, HasPlaces, MadeRoom, MayGoOn, RoomEnds, Wanted}
 use Rattle.trio_calls_file.proofs.AfterTaking.{took_alike}
 use Rattle.trio_calls_file.proofs.Alike.{go_on_alike, spare_alike}
 use Rattle.trio_calls_file.proofs.Shown.{alike_room, alike_then}
-use Rattle.trio_calls_file.proofs.Still.{alike_by, comes_after, may_after, on_alike}
+use Rattle.trio_calls_file.proofs.Still.{alike_by, comes_after, on_alike}
+use Rattle.trio_edit_laws.proofs.Called.{may_after}
 
 -- ---- the desk after a call
 

@@ -19,7 +19,8 @@ use Rattle.trio_walk.proofs.Possible.{possible_before}
 use Rattle.std.specs.Prelude.{is_some, map}
 use Rattle.trio_walk.specs.Asks.{IsAlike, took}
 use Rattle.trio_edit_laws.specs.Calls.{MayCall}
-use Rattle.trio_calls_file.specs.inner.Goes.{SameDesk, Went}
+use Rattle.trio_calls_file.specs.inner.Goes.{Went}
+use Rattle.trio_walk.specs.Tries.{SameDesk}
 use Rattle.trio_calls_file.proofs.Still.{may_alike}
 
 -- ---- sessions that are alike

@@ -4,7 +4,7 @@ use Rattle.std.specs.Prelude.{◌≢◌}
 use Rattle.trio_lists.specs.Lists.{In}
 use Rattle.trio_nodes.specs.declared.call.Done.{Done}
 use Rattle.trio_desk.specs.Call.{Ask, DeskSeen, SeenAfter, Told}
-use Rattle.trio_desk.specs.Out.{LibOut, ino_numbers}
+use Rattle.trio_desk.specs.Out.{ino_numbers}
 use Rattle.trio_desk.specs.Ready.{ComesToShown}
 use Rattle.trio_laws.proofs.session.ListedPages.{taking_keeps}
 use Rattle.trio_session.specs.Asked.{SameBut}
@@ -12,9 +12,7 @@ use Rattle.trio_session.specs.Seen.{IsOn, Room, SessionSeen, in_hand, spare_numb
 use Rattle.trio_edit_laws.specs.Calls.{MayCall}
 use Rattle.trio_edit_laws.specs.TakingLaws.{TookMore}
 use Rattle.trio_edit_laws.specs.Written.{MayEdit}
-use Rattle.trio_edit_laws.proofs.HandsIn.{hands_in, sound}
-use Rattle.trio_edit_laws.proofs.Shown.{comes_now, desk_after, order_now}
-use Rattle.trio_edit_laws.proofs.Taken.{chains_now, entries_now, held_now, made_now, shows_now}
+use Rattle.trio_edit_laws.proofs.Shown.{comes_now, desk_after}
 use Rattle.trio_walk.specs.Asks.{IsAlike}
 
 -- ---- but for indexes, look-ups and room
@@ -70,35 +68,6 @@ may_alike desk x s e may =
     (λ is n r. record { edits = edit_but desk x is n r x.calls may.edits; comes = may.comes; made = may.made; spent = may.spent; spent_numbers = may.spent_numbers })
 
 -- ---- on a desk that has other things out
-
-pub may_now : (desk : DeskSeen) (out' : LibOut) (s : SessionSeen) → MayCall desk s → IsOn (record desk { out = out' }) s → MayCall (record desk { out = out' }) s
-may_now desk out' s may on = record {
-  edits = record {
-    on = on;
-    all = hands_in (record desk { out = out' }) s on (sound desk.out s.parcel s.reads may.edits.all);
-    given = record { holds = may.edits.given.holds; numbers = may.edits.given.numbers };
-    order = order_now desk out' (in_hand s) may.edits.order;
-    shows = shows_now desk out' s may.edits.shows;
-    alone = may.edits.alone;
-    beside = may.edits.beside;
-    chains = chains_now desk out' s may.edits.chains;
-    own = may.edits.own;
-    once = may.edits.once;
-    placed = may.edits.placed;
-    made = made_now desk out' s may.edits.made;
-    entries = entries_now desk out' s may.edits.entries;
-    held = held_now desk out' s may.edits.held;
-  };
-  comes = comes_now desk out' (in_hand s) s.calls may.comes;
-  made = may.made;
-  spent = may.spent;
-  spent_numbers = may.spent_numbers;
-}
-
-pub may_after : (desk desk' : DeskSeen) (ask : Ask) (told : Told) (s : SessionSeen) → SeenAfter desk ask told desk' → MayCall desk s → IsOn desk' s → MayCall desk' s
-may_after desk desk' ask told s seen may on =
-    let e = desk_after desk desk' ask told seen in
-    subst (λ (k : DeskSeen). MayCall k s) (sym e) (may_now desk desk'.out s may (subst (λ (k : DeskSeen). IsOn k s) e on))
 
 -- the calls come to what is shown
 pub comes_after : (desk desk' : DeskSeen) (ask : Ask) (told : Told) (s : SessionSeen) → SeenAfter desk ask told desk' → ComesToShown desk s.parcel s.reads s.calls → ComesToShown desk' s.parcel s.reads s.calls

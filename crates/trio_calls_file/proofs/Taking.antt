@@ -18,7 +18,7 @@ use Rattle.trio_walk.specs.Asks.{TryEnds, grant_ask}
 use Rattle.trio_walk.specs.Needs.{Needed}
 use Rattle.trio_walk.specs.Walks.{EndsBy, Took, lent_call, need_of, one_need}
 use Rattle.trio_walk.proofs.Possible.{moment_possible}
-use Rattle.trio_calls_file.specs.declared.files.Stop.TheVariants.{Busy as IsBusy, NoMemory as LacksMemory}
+use Rattle.trio_walk.specs.declared.outcome.Stop.TheVariants.{Busy as IsBusy, NoMemory as LacksMemory}
 use Rattle.trio_calls_file.specs.inner.Goes.{TookFile, one_ask}
 use Rattle.trio_calls_file.proofs.Walked.{asks_lent, walked_went}
 

@@ -37,7 +37,8 @@ use Rattle.trio_edit_laws.proofs.TakenReads.{keeps_reads}
 use Rattle.trio_edit_laws.proofs.TakenWrite.{keeps_write}
 use Rattle.trio_edit_laws.proofs.directories.Sees.{lists, open_rights, r as reads_open, sees_directory}
 use Rattle.trio_walk.specs.Walks.{IsLentNow, IsListed, Lends, MayWalk, SameSeen, pages_looked, with_leases}
-use Rattle.trio_calls_file.proofs.Still.{comes_after, may_more, may_now}
+use Rattle.trio_calls_file.proofs.Still.{comes_after, may_more}
+use Rattle.trio_edit_laws.proofs.Called.{may_now}
 
 -- ---- what is shown
 

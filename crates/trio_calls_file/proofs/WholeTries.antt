@@ -30,10 +30,10 @@ use Rattle.trio_walk.specs.Needs.{Needed, asked, asked_beside, own_needs, node_n
 use Rattle.trio_walk.specs.Walks.{EndsBy, InAllShown, IsMetIn, IsStopped, MayWalk, Walked, Walks, lent_call, need_of, served_by, shows_root}
 use Rattle.trio_walk.proofs.Agreeing.{asked_beside-append}
 use Rattle.trio_calls_file.specs.Asks.{ComesTo, walked_growth, IsFileCall, asks_of, wanted_pages}
-use Rattle.trio_calls_file.specs.declared.files.Stop.{Stop}
-use Rattle.trio_calls_file.specs.declared.files.Stop.TheVariants.{NoMemory as LacksMemory}
+use Rattle.trio_walk.specs.declared.outcome.Stop.{Stop}
+use Rattle.trio_walk.specs.declared.outcome.Stop.TheVariants.{NoMemory as LacksMemory}
 use Rattle.trio_calls_file.specs.inner.Goes.{AfterTry, ComesHere, LeavesHere, Goes, RepliesTo, Went, try_ends, asks_at, met_needs}
-use Rattle.trio_calls_file.specs.inner.Tries.{HasNothing}
+use Rattle.trio_walk.specs.Tries.{HasNothing}
 use Rattle.trio_calls_file.proofs.AfterTaking.{goes_on}
 use Rattle.trio_calls_file.proofs.Checking.{file_path_of, root_kind}
 use Rattle.trio_calls_file.proofs.Looked.{IsLook, IsRefused, may_looked, refused_look}

@@ -1,4 +1,3 @@
 pub mod Reads
 pub mod Goes
-pub mod Tries
 pub mod Rooms

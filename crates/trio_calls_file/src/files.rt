@@ -11,45 +11,23 @@ ghost use Rattle.trio_walk.specs.Needs.{path_of};
 ghost use Rattle.trio_edit_laws.specs.Calls.{MayCall};
 ghost use Rattle.trio_walk.specs.Walks.{HasMet, gives_met};
 ghost use Rattle.trio_calls_file.specs.Asks.{IsFileCall, sized};
-ghost use Rattle.trio_calls_file.specs.inner.Goes.{
-  BusyAt,
-  ComesHere,
-  Goes,
-  IsNeverBusy,
-  Unrefused,
-  asks_at,
-  bytes_refusal,
-  bytes_reply,
-  checked,
-  grant_for,
-  need_for,
-  refusal_at,
-  stat_reply,
-  try_ends,
-  wants_pages_for,
-};
+ghost use Rattle.trio_calls_file.specs.inner.Goes.{BusyAt, ComesHere, Goes, Unrefused, asks_at, bytes_refusal, bytes_reply, checked, grant_for, need_for, refusal_at, stat_reply, try_ends, wants_pages_for};
+ghost use Rattle.trio_walk.specs.Asks.{IsNotBusy};
 ghost use Rattle.trio_calls_file.specs.inner.Reads.{IsHad};
 ghost use Rattle.trio_calls_file.specs.inner.Rooms.{Allotted, MadeRoom};
 
 use crate::reads::{block_count, bytes_of, entry_count, index_count, size_of};
 use std::alloc::Global;
 use trio_desk::Desk;
-use trio_nodes::{AllotFault, Answer, Call, GrantKind, Holder, Reply};
+use trio_nodes::{AllotFault, Answer, Call, GrantKind, Reply};
 use trio_page::NoMemory;
 use trio_page::field::{u16_in, u32_in};
 use trio_rights::{Creds, Kind, Mode, Need, may};
 use trio_session::Session;
-use trio_walk::{Met, WalkEnd, take};
+use trio_walk::{Met, Stop, WalkEnd, take};
 
 /// No file may end past so many bytes.
 const LARGEST_SIZE: u64 = 33_554_432;
-
-/// Why a try of a call comes to no reply.
-#[derive(Drop)]
-pub(crate) enum Stop {
-    Busy(Holder),
-    NoMemory,
-}
 
 /// What a call is replied at the file to which its walk came. All that it takes is taken before it
 /// changes any byte, the room for the call among those done too.
@@ -120,7 +98,7 @@ fn at_taken<D: Desk>(
     requires taken { IsTrue (serves session.old met.ino (grant_for call.now)) }
     requires shown { kind_shown session.old met.ino ≡ Some met.kind }
     ensures goes { Goes D.called D.seen desk.old session.old call.now met.ino (wants_pages_for (D.seen desk.old).creds call.now) (try_ends result) desk.new session.new }
-    ensures idle { IsNeverBusy (try_ends result) }
+    ensures idle { IsNotBusy (try_ends result) }
 {
     match call {
         Call::Write { at, bytes, .. } => write(session, desk, met.ino, *at, bytes.as_slice()),
@@ -279,7 +257,7 @@ fn write<D: Desk>(
     requires within { at + length bytes.now ≤ largest_size }
     ensures goes { (path : NamePath) → Unrefused (D.seen desk.old) session.old (Call.Write path at bytes.now) ino
         → Goes D.called D.seen desk.old session.old (Call.Write path at bytes.now) ino (wants_pages_for (D.seen desk.old).creds (Call.Write path at bytes.now)) (try_ends result) desk.new session.new }
-    ensures idle { IsNeverBusy (try_ends result) }
+    ensures idle { IsNotBusy (try_ends result) }
 {
     let old = size_of(session, ino);
     let size = size_written(old, at, bytes);
@@ -321,7 +299,7 @@ fn truncate<D: Desk>(
     requires within { size ≤ largest_size }
     ensures goes { (path : NamePath) → Unrefused (D.seen desk.old) session.old (Call.Truncate path size) ino
         → Goes D.called D.seen desk.old session.old (Call.Truncate path size) ino (wants_pages_for (D.seen desk.old).creds (Call.Truncate path size)) (try_ends result) desk.new session.new }
-    ensures idle { IsNeverBusy (try_ends result) }
+    ensures idle { IsNotBusy (try_ends result) }
 {
     let old = size_of(session, ino);
     match make_room(session, desk, ino, old, size) {

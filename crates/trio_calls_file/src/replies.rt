@@ -4,16 +4,16 @@ ghost use Rattle.std.specs.Prelude.{◌≡◌};
 ghost use Rattle.trio_walk.specs.Needs.{path_of};
 ghost use Rattle.trio_edit_laws.specs.Calls.{MayCall};
 ghost use Rattle.trio_calls_file.specs.Asks.{IsFileCall};
-ghost use Rattle.trio_calls_file.specs.inner.Goes.{OthersHold, RepliesTo, try_ends};
-ghost use Rattle.trio_calls_file.specs.inner.Tries.{HasNothing};
+ghost use Rattle.trio_calls_file.specs.inner.Goes.{RepliesTo, try_ends};
+ghost use Rattle.trio_walk.specs.Tries.{OthersHold, HasNothing};
 
-use crate::files::{Stop, at_file, refused};
+use crate::files::{at_file, refused};
 use std::alloc::Global;
 use trio_desk::Desk;
 use trio_names::Path;
 use trio_nodes::{Call, Reply};
 use trio_session::Session;
-use trio_walk::{WalkEnd, reach};
+use trio_walk::{Stop, WalkEnd, reach};
 
 /// What a call is replied, at the end of its walk or at the file to which that comes.
 pub(crate) fn reply_to<D: Desk>(

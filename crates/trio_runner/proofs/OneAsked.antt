@@ -35,7 +35,7 @@ use Rattle.trio_order.specs.Order.{all_parts, back_call, parts_of}
 use Rattle.trio_session.specs.Seen.{SessionSeen, emptied}
 use Rattle.trio_edit_laws.specs.Calls.{MayCall}
 use Rattle.trio_walk.specs.Asks.{AskedBy, Called, IsAlike, IsGiven, IsNotBusy, Settles, Once, Unsettled, Again, GivesUp, LeftOut, grant_ask, took}
-use Rattle.trio_walk.specs.Needs.{asked}
+use Rattle.trio_walk.specs.Needs.{asked, dir_needs}
 use Rattle.trio_walk.specs.Walks.{served_by, shows_root}
 use Rattle.trio_walk.specs.declared.outcome.Outcome.{Outcome}
 use Rattle.trio_walk.specs.declared.outcome.Outcome.TheVariants.{Replied, Busy, NoMemory}
@@ -43,7 +43,7 @@ use Rattle.trio_calls_file.specs.Asks.{FileCalled, FileTried}
 use Rattle.trio_calls_file.specs.Asks as on_file
 use Rattle.trio_calls_file.proofs.AfterTaking.{took_alike}
 use Rattle.trio_calls_file.proofs.Alike.{alike_back}
-use Rattle.trio_calls_dir.specs.Asks.{ComesBy, DirTried, EntryCalled, as_lent, dir_needs, wants_of}
+use Rattle.trio_calls_dir.specs.Asks.{ComesBy, DirTried, EntryCalled, as_lent, wants_of}
 use Rattle.trio_calls_dir.specs.Asks as on_dir
 use Rattle.trio_calls_dir.specs.Chmods.{Begun, BreaksOff, ChmodCalled, ChmodTried, Comes, EndsAs, EndsBroken, EndsHandedIn, EndsModed, HandsIn, LeavesBy, SetsMode, Unbegun, hand_in_ask, lent_to, mode_ask}
 use Rattle.trio_calls_dir.proofs.Then.{took_more}

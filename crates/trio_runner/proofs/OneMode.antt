@@ -35,13 +35,13 @@ use Rattle.trio_ctl.proofs.DeskSteps.{happens_creds, others_see}
 use Rattle.trio_ctl.proofs.LeasesBack.{backs_kept}
 use Rattle.trio_session.specs.Seen.{SessionSeen, emptied}
 use Rattle.trio_walk.specs.Asks.{IsAlike, grant_ask}
-use Rattle.trio_walk.specs.Needs.{asked}
+use Rattle.trio_walk.specs.Needs.{asked, chmod_needs}
 use Rattle.trio_walk.specs.Walks.{served_by, shows_root}
 use Rattle.trio_walk.specs.declared.outcome.Outcome.{Outcome}
 use Rattle.trio_walk.specs.declared.outcome.Outcome.TheVariants.{Replied, Busy, NoMemory}
 use Rattle.trio_calls_file.proofs.AfterTaking.{took_alike}
 use Rattle.trio_calls_file.proofs.Shown.{possible_then}
-use Rattle.trio_calls_dir.specs.Chmods.{AsksSo, BreaksOff, ChmodCalled, ChmodTried, Begun, Unbegun, Comes, ComesSo, EndsAs, EndsBroken, EndsHandedIn, EndsModed, HandsIn, LeavesBy, Refuses, SetsMode, TriedSo, chmod_needs, hand_in_ask, lent_to, mode_ask}
+use Rattle.trio_calls_dir.specs.Chmods.{AsksSo, BreaksOff, ChmodCalled, ChmodTried, Begun, Unbegun, Comes, ComesSo, EndsAs, EndsBroken, EndsHandedIn, EndsModed, HandsIn, LeavesBy, Refuses, SetsMode, TriedSo, hand_in_ask, lent_to, mode_ask}
 use Rattle.trio_runner.specs.Honest.{Noted, Notes, sees}
 use Rattle.trio_runner.specs.Moves.{apart}
 use Rattle.trio_runner.proofs.Batches.{calls_parted, one_called}

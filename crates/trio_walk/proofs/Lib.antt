@@ -13,3 +13,4 @@ pub mod Entering
 pub mod Stepping
 pub mod Agreeing
 pub mod Walking
+pub mod Retrying

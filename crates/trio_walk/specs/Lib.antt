@@ -1,4 +1,5 @@
 pub mod Needs
 pub mod Walks
 pub mod Asks
+pub mod Tries
 pub mod inner

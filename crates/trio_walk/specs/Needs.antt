@@ -1,7 +1,10 @@
 -- The grants that a call needs, in the order in which it asks for them, and those of them that it has to ask its desk for. They are read
 -- from the nodes alone.
-use Rattle.std.specs.Prelude.{ℕ, ◌+◌, ◌==◌, nat_lt, Bool, true, false, not, ◌&&◌, ◌||◌, List, [], ◌∷◌, ◌++◌, length, Option, None, Some, Result, Ok, Err, if◌then◌else◌}
+use Rattle.std.specs.Prelude.{ℕ, ◌+◌, ◌==◌, nat_lt, Bool, true, false, not, ◌&&◌, ◌||◌, List, [], ◌∷◌, ◌++◌, length, is_some, Option, None, Some, Result, Ok, Err, if◌then◌else◌}
 use Rattle.std.specs.List.{list_any}
+use Rattle.std.specs.Option.{option_map_or}
+use Rattle.trio_rights.specs.declared.kind.Kind.{Kind}
+use Rattle.trio_rights.specs.declared.kind.Kind.TheVariants.{Directory, Regular}
 use Rattle.trio_rights.specs.declared.rights.Creds.{Creds}
 use Rattle.trio_rights.specs.declared.rights.Need.{Need}
 use Rattle.trio_rights.specs.declared.rights.Need.TheVariants.{Read as ToRead, Write as ToWrite}
@@ -9,11 +12,11 @@ use Rattle.trio_nodes.specs.declared.grant.GrantKind.{GrantKind}
 use Rattle.trio_nodes.specs.declared.grant.GrantKind.TheVariants.{Read, Write, Hold}
 use Rattle.trio_nodes.specs.declared.node.Node.{Node}
 use Rattle.trio_nodes.specs.declared.call.Call.{Call}
-use Rattle.trio_nodes.specs.declared.call.Call.TheVariants.{Write as WriteCall, Read as ReadCall, Truncate, Stat}
+use Rattle.trio_nodes.specs.declared.call.Call.TheVariants.{Mkdir, Create, Write as WriteCall, Read as ReadCall, Truncate, Unlink, Rmdir, Rename, List as ListNames, Stat}
 use Rattle.trio_nodes.specs.declared.call.Reply.{Reply}
 use Rattle.trio_nodes.specs.declared.call.Reply.TheVariants.{Denied}
 use Rattle.trio_nodes.specs.Nodes.{Nodes, node_at, find_named}
-use Rattle.trio_nodes.specs.Walk.{Path, enter, is_directory, lacks, need_at, walk}
+use Rattle.trio_nodes.specs.Walk.{Path, dir_of, enter, is_above, is_directory, is_root, lacks, name_of, need_at, walk, walk_into}
 use Rattle.trio_nodes.specs.Apply.{largest_size}
 
 -- a grant that a call needs
@@ -112,6 +115,58 @@ path_of call = []
 abbrev pub file_needs : Nodes → Creds → Bool → Call → List Needed
 file_needs nodes creds shown call =
     walk_needs nodes creds shown [] (path_of call) ++ reached_needs nodes (walk nodes creds [] (path_of call)) (own_needs creds shown call)
+
+-- ---- calls on directories
+
+-- the hold on a file that is removed: a directory, or none
+abbrev pub removing_needs : Kind → ℕ → Node → List Needed
+removing_needs Directory n x = if is_directory x.kind then record { ino = n; kind = Hold } ∷ [] else []
+removing_needs Regular n x = if is_directory x.kind then [] else record { ino = n; kind = Hold } ∷ []
+
+-- what is needed of the file of this name, where there is one
+abbrev pub named_needs : Nodes → ℕ → List ℕ → (ℕ → Node → List Needed) → List Needed
+named_needs nodes dir name rest = option_map_or (λ n. node_needs n (node_at nodes n) rest) (find_named nodes dir name) []
+
+-- of a call that removes a file of this kind: its directory for writing, and the file held
+abbrev pub removal_needs : Nodes → Creds → Bool → Kind → Path → List Needed
+removal_needs nodes creds shown kind path =
+    into_needs nodes creds shown (dir_of path ∷ []) (dir_of path)
+    ++ reached_by (walk_into nodes creds (dir_of path ∷ []) (dir_of path)) (λ dir. named_needs nodes dir (name_of path) (removing_needs kind))
+
+-- of a rename whose both directories are entered: the file held, where it moves to another and nothing has the new name there
+abbrev pub moving_needs : Nodes → Path → Path → ℕ → ℕ → List Needed
+moving_needs nodes from to dir new_dir =
+    named_needs nodes dir (name_of from) (λ n x.
+    if is_some (find_named nodes new_dir (name_of to)) then [] else (if dir == new_dir then [] else record { ino = n; kind = Hold } ∷ []))
+
+-- of a rename: both directories for writing, on both walks
+abbrev pub rename_needs : Nodes → Creds → Bool → Path → Path → List Needed
+rename_needs nodes creds shown from to =
+    let writes = dir_of from ∷ dir_of to ∷ [] in
+    into_needs nodes creds shown writes (dir_of from)
+    ++ reached_by (walk_into nodes creds writes (dir_of from)) (λ dir.
+    into_needs nodes creds shown writes (dir_of to)
+    ++ reached_by (walk_into nodes creds writes (dir_of to)) (λ new_dir. moving_needs nodes from to dir new_dir))
+
+-- of a list, at the file to which its walk has come
+abbrev pub listing_needs : Creds → Bool → ℕ → Node → List Needed
+listing_needs creds shown n x = if is_directory x.kind then needs_if shown n Read (lacks creds ToRead x) else []
+
+-- The grants of a call on a directory, in the order in which it asks for them; none once a check has refused.
+abbrev pub dir_needs : Nodes → Creds → Bool → Call → List Needed
+dir_needs nodes creds shown (Mkdir path mode) = if is_root path then [] else into_needs nodes creds shown (dir_of path ∷ []) (dir_of path)
+dir_needs nodes creds shown (Create path mode) = if is_root path then [] else into_needs nodes creds shown (dir_of path ∷ []) (dir_of path)
+dir_needs nodes creds shown (Unlink path) = if is_root path then [] else removal_needs nodes creds shown Regular path
+dir_needs nodes creds shown (Rmdir path) = if is_root path then [] else removal_needs nodes creds shown Directory path
+dir_needs nodes creds shown (Rename from to) =
+    if is_root from then [] else (if is_root to then [] else (if is_above from to then [] else rename_needs nodes creds shown from to))
+dir_needs nodes creds shown (ListNames path from) =
+    walk_needs nodes creds shown [] path ++ reached_needs nodes (walk nodes creds [] path) (listing_needs creds shown)
+dir_needs nodes creds shown call = []
+
+-- The grants of a Chmod, in the order in which it asks for them: those of its walk into the directory of the path, each for reading.
+abbrev pub chmod_needs : Nodes → Creds → Bool → Path → List Needed
+chmod_needs nodes creds shown path = if is_root path then [] else into_needs nodes creds shown [] (dir_of path)
 
 -- ---- what is asked
 

@@ -12,3 +12,10 @@ pub enum Outcome {
     /// Want of memory: the call changed no byte, and isn't among the calls.
     NoMemory,
 }
+
+/// Why a try of a call comes to no reply.
+#[derive(Drop)]
+pub enum Stop {
+    Busy(Holder),
+    NoMemory,
+}

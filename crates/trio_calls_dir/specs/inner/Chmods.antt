@@ -1,5 +1,5 @@
 -- Words of a change of mode: of its search for the file, and of its tries.
-use Rattle.std.specs.Prelude.{◌≡◌, ◌≢◌, ◌≤◌, ℕ, ◌==◌, Bool, ◌||◌, List, Option, Some}
+use Rattle.std.specs.Prelude.{◌≡◌, ◌≤◌, ℕ, ◌==◌, Bool, ◌||◌, List, Option, Some}
 use Rattle.std.specs.Option.{option_map_or}
 use Rattle.trio_rights.specs.declared.rights.Creds.{Creds}
 use Rattle.trio_rights.specs.declared.rights.Mode.{Mode}
@@ -7,24 +7,22 @@ use Rattle.trio_nodes.specs.declared.answers.ModeFault.{ModeFault}
 use Rattle.trio_nodes.specs.declared.answers.ModeFault.TheVariants.{Busy as BusyMode, NoMemory as NoModeMemory}
 use Rattle.trio_nodes.specs.declared.call.Call.{Call}
 use Rattle.trio_nodes.specs.declared.call.Call.TheVariants.{Chmod}
-use Rattle.trio_nodes.specs.declared.grant.Holder.{Holder}
 use Rattle.trio_nodes.specs.Nodes.{Nodes}
 use Rattle.trio_nodes.specs.Walk.{Path}
 use Rattle.trio_desk.specs.Call.{Ask, DeskSeen, Told}
 use Rattle.trio_desk.specs.Refusals.{HasModeCause}
 use Rattle.trio_session.specs.Seen.{SessionSeen}
 use Rattle.trio_walk.specs.declared.met.Met.{Met}
-use Rattle.trio_walk.specs.Needs.{Needed, asked}
+use Rattle.trio_walk.specs.Needs.{Needed, asked, chmod_needs}
 use Rattle.trio_walk.specs.Walks.{AreAsked, served_by, shows_root}
 use Rattle.trio_walk.specs.declared.walks.WalkEnd.{WalkEnd}
 use Rattle.trio_walk.specs.declared.walks.WalkEnd.TheVariants.{At, Reply}
-use Rattle.trio_walk.specs.Asks.{IsNotBusy, IsUnsettled, Settles}
 use Rattle.trio_walk.specs.declared.outcome.Outcome.{Outcome}
-use Rattle.trio_walk.specs.declared.outcome.Outcome.TheVariants.{Busy, NoMemory}
-use Rattle.trio_calls_dir.specs.declared.calls.TryEnd.{TryEnd}
-use Rattle.trio_calls_dir.specs.declared.calls.TryEnd.TheVariants.{Busy as IsBusyTry, NoMemory as LacksMemory}
+use Rattle.trio_calls_dir.specs.declared.chmods.ChmodTry.{ChmodTry}
+use Rattle.trio_walk.specs.declared.attempts.TryEnd.{TryEnd}
+use Rattle.trio_walk.specs.declared.attempts.TryEnd.TheVariants.{Busy as IsBusyTry, NoMemory as LacksMemory}
 use Rattle.trio_calls_dir.specs.inner.Goes.{IsRefusal}
-use Rattle.trio_calls_dir.specs.Chmods.{BreaksOff, ChmodTried, Comes, ComesSo, HandsIn, SetsMode, chmod_needs}
+use Rattle.trio_calls_dir.specs.Chmods.{BreaksOff, ChmodTried, Comes, ComesSo, HandsIn, SetsMode}
 
 -- ---- the search
 
@@ -77,19 +75,7 @@ ComesBack back NoModeMemory = Unit {0}
 ComesBack back fault = ⊥
 
 -- how a try ends by it
-abbrev pub IsUnset : Option Call → ModeFault → TryEnd → Type 0
-IsUnset (Some call) (BusyMode holder) end = end ≡ IsBusyTry call holder
+abbrev pub IsUnset : Option Call → ModeFault → TryEnd ChmodTry → Type 0
+IsUnset (Some call) (BusyMode holder) end = end ≡ IsBusyTry (record { 0 = call }) holder
 IsUnset back NoModeMemory end = end ≡ LacksMemory
 IsUnset back fault end = ⊥
-
--- ---- the second try
-
--- It comes to an end; or it is Busy by another library, and all is settled, or isn't for want of memory.
-pub data TriesAgain {D : Type 0} (called : D → Ask → Told → D → Type 0) (Try : D → SessionSeen → Outcome → D → SessionSeen → Type 0) (d : D) (s : SessionSeen) (end : Outcome) (d' : D) (s' : SessionSeen) : Type 0 where
-  Ends : IsNotBusy end → Try d s end d' s' → TriesAgain called Try d s end d' s'
-  Gives :
-      (holder : Holder) (d1 : D) (s1 : SessionSeen) → end ≡ Busy holder → holder.lib ≢ s.lib
-      → Try d s (Busy holder) d1 s1 → Settles called d1 s1 d' s' → TriesAgain called Try d s end d' s'
-  Leaves :
-      (holder : Holder) (d1 : D) (s1 : SessionSeen) → end ≡ NoMemory
-      → Try d s (Busy holder) d1 s1 → IsUnsettled called d1 s1 d' s' → TriesAgain called Try d s end d' s'

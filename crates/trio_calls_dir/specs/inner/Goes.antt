@@ -1,9 +1,8 @@
 -- Words of a try in progress: from where it begins, or has entered its directories, to how it ends.
-use Rattle.std.specs.Prelude.{◌≡◌, ◌≢◌, ◌<◌, ℕ, List, ◌++◌, map, length, Result, Ok, Err}
+use Rattle.std.specs.Prelude.{◌≡◌, ◌<◌, ℕ, List, ◌++◌, map, length, Result, Ok, Err}
 use Rattle.trio_rights.specs.declared.kind.Kind.{Kind}
 use Rattle.trio_rights.specs.declared.kind.Kind.TheVariants.{Regular, Directory}
 use Rattle.trio_rights.specs.declared.rights.Creds.{Creds}
-use Rattle.trio_rights.specs.declared.rights.LibNo.{LibNo}
 use Rattle.trio_rights.specs.declared.rights.Mode.{Mode}
 use Rattle.trio_lists.specs.Lists.{In}
 use Rattle.trio_nodes.specs.declared.call.Answer.TheVariants.{Done as IsDone, Names}
@@ -20,6 +19,7 @@ use Rattle.trio_desk.specs.Edits.{DoesCall, TakesMore}
 use Rattle.trio_session.specs.Seen.{SessionSeen, in_hand}
 use Rattle.trio_edit_laws.specs.Calls.{MayCall}
 use Rattle.trio_walk.specs.Needs.{Needed, asked}
+use Rattle.trio_walk.specs.Tries.{SameDesk}
 use Rattle.trio_walk.specs.Walks.{InAllShown, served_by}
 use Rattle.trio_walk.specs.declared.walks.WalkEnd.{WalkEnd}
 use Rattle.trio_walk.specs.declared.walks.WalkEnd.TheVariants.{At, Reply as IsReply, Busy as IsBusyWalk, NoMemory as NoWalkMemory}
@@ -27,8 +27,8 @@ use Rattle.trio_walk.specs.Asks.{AskedBy, IsAlike, IsGiven, TryEnds, grant_ask, 
 use Rattle.trio_walk.specs.declared.outcome.Outcome.{Outcome}
 use Rattle.trio_walk.specs.declared.outcome.Outcome.TheVariants.{Busy, NoMemory, Replied}
 use Rattle.trio_calls_dir.specs.declared.replies.Replied as replied
-use Rattle.trio_calls_dir.specs.declared.stops.Stop.{Stop}
-use Rattle.trio_calls_dir.specs.declared.stops.Stop.TheVariants.{Busy as IsBusy, NoMemory as LacksMemory}
+use Rattle.trio_walk.specs.declared.outcome.Stop.{Stop}
+use Rattle.trio_walk.specs.declared.outcome.Stop.TheVariants.{Busy as IsBusy, NoMemory as LacksMemory}
 use Rattle.trio_calls_dir.specs.Asks.{ComesBy, Target, as_lent, edited, made_by, wants_of}
 
 -- ---- the end
@@ -76,13 +76,6 @@ AfterTry desk call made end s' = MayCall desk s'
 
 -- ---- in progress
 
--- another state of the same desk
-pub record SameDesk (desk desk' : DeskSeen) : Type 0 where
-  pub lib : desk'.lib ≡ desk.lib
-  pub creds : desk'.creds ≡ desk.creds
-  pub sizes : desk'.sizes ≡ desk.sizes
-  pub root : desk'.root ≡ desk.root
-
 -- From a desk and a session to these, by calls that were given what they asked: nothing was written or allotted, and what was known of the
 -- nodes still is.
 pub record Went {D : Type 0} (called : D → Ask → Told → D → Type 0) (seen : D → DeskSeen) (d : D) (s : SessionSeen) (given : List desk_calls.Call) (d' : D) (s' : SessionSeen) : Type 0 where
@@ -118,16 +111,6 @@ pub record Goes {D : Type 0} (called : D → Ask → Told → D → Type 0) (see
       AskedBy end (map (λ c. c.ask) (given ++ last)) (asks_from s (needs now) now (seen d').creds call target (took s (map (λ c. c.told) given))))
   pub more : TakesMore (seen d') (in_hand s) (in_hand s')
   pub after : AfterTry (seen d') call number end s'
-
--- the try didn't end Busy
-abbrev pub IsNeverBusy : Outcome → Type 0
-IsNeverBusy (Busy holder) = ⊥
-IsNeverBusy end = Unit {0}
-
--- another library keeps a file busy
-abbrev pub OthersHold : LibNo → Outcome → Type 0
-OthersHold lib (Busy holder) = holder.lib ≢ lib
-OthersHold lib end = Unit {0}
 
 -- ---- what is known
 

@@ -24,9 +24,9 @@ use Rattle.trio_walk.specs.Asks.{IsAlike}
 use Rattle.trio_walk.specs.declared.met.Met.{Met}
 use Rattle.trio_walk.specs.declared.outcome.Outcome.{Outcome}
 use Rattle.trio_walk.specs.declared.outcome.Outcome.TheVariants.{Busy}
-use Rattle.trio_walk.specs.Needs.{Needed, into_needs, reached_by}
+use Rattle.trio_walk.specs.Needs.{Needed, into_needs, reached_by, moving_needs}
 use Rattle.trio_walk.specs.Walks.{FindsEntry, HasMet, InAllShown, IsOwnBusy, MayLookIn}
-use Rattle.trio_calls_dir.specs.Asks.{moved_shown, moving_needs}
+use Rattle.trio_calls_dir.specs.Asks.{moved_shown}
 
 -- ---- what is needed
 

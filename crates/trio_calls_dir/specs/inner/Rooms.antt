@@ -21,10 +21,10 @@ use Rattle.trio_edit_laws.specs.EditLaws.{AreSpare}
 use Rattle.trio_edit_laws.specs.Written.{MayEdit}
 use Rattle.trio_walk.specs.Asks.{IsAlike, IsGiven, TryEnds, allot_asks, took}
 use Rattle.trio_walk.specs.declared.outcome.Outcome.TheVariants.{NoMemory}
-use Rattle.trio_calls_dir.specs.declared.stops.Stop.{Stop}
-use Rattle.trio_calls_dir.specs.declared.stops.Stop.TheVariants.{Busy as IsBusy, NoMemory as LacksMemory}
+use Rattle.trio_walk.specs.declared.outcome.Stop.{Stop}
+use Rattle.trio_walk.specs.declared.outcome.Stop.TheVariants.{Busy as IsBusy, NoMemory as LacksMemory}
 use Rattle.trio_calls_dir.specs.Asks.{as_lent, slot_growth, with_slot}
-use Rattle.trio_calls_dir.specs.inner.Goes.{SameDesk}
+use Rattle.trio_walk.specs.Tries.{SameDesk}
 
 -- ---- in the course of a call
 

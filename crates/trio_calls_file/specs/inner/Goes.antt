@@ -4,7 +4,6 @@ use Rattle.trio_rights.specs.Row.{Row}
 use Rattle.trio_rights.specs.declared.kind.Kind.{Kind}
 use Rattle.trio_rights.specs.declared.kind.Kind.TheVariants.{Regular, Directory}
 use Rattle.trio_rights.specs.declared.rights.Creds.{Creds}
-use Rattle.trio_rights.specs.declared.rights.LibNo.{LibNo}
 use Rattle.trio_rights.specs.declared.rights.Need.{Need}
 use Rattle.trio_rights.specs.declared.rights.Need.TheVariants.{Read as ToRead, Write as ToWrite}
 use Rattle.trio_lists.specs.Lists.{In}
@@ -35,9 +34,10 @@ use Rattle.trio_walk.specs.declared.outcome.Outcome.{Outcome}
 use Rattle.trio_walk.specs.declared.outcome.Outcome.TheVariants.{Replied, Busy, NoMemory}
 use Rattle.trio_walk.specs.Needs.{Needed, asked, path_of}
 use Rattle.trio_walk.specs.Asks.{AskedBy, IsAlike, IsGiven, TryEnds, allot_asks, grant_ask, noted, took}
+use Rattle.trio_walk.specs.Tries.{SameDesk}
 use Rattle.trio_walk.specs.Walks.{InAllShown, IsOwnBusy, denies, gives_met, served_by}
-use Rattle.trio_calls_file.specs.declared.files.Stop.{Stop}
-use Rattle.trio_calls_file.specs.declared.files.Stop.TheVariants.{Busy as IsBusy, NoMemory as LacksMemory}
+use Rattle.trio_walk.specs.declared.outcome.Stop.{Stop}
+use Rattle.trio_walk.specs.declared.outcome.Stop.TheVariants.{Busy as IsBusy, NoMemory as LacksMemory}
 use Rattle.trio_calls_file.specs.inner.Reads.{body_had, bytes_had, entries_counted}
 use Rattle.trio_calls_file.specs.Asks.{ComesTo, asks_of, edited, wanted_pages}
 
@@ -126,13 +126,6 @@ stat_reply creds s ino kind =
     if gives creds ToRead r then IsReplied (IsStat r.kind r.mode r.uid r.gid (size_had s ino kind)) else Denied
 
 -- ---- in progress
-
--- another state of the same desk
-pub record SameDesk (desk desk' : DeskSeen) : Type 0 where
-  pub lib : desk'.lib ≡ desk.lib
-  pub creds : desk'.creds ≡ desk.creds
-  pub sizes : desk'.sizes ≡ desk.sizes
-  pub root : desk'.root ≡ desk.root
 
 -- From a desk and a session to these, by calls that were given what they asked, and then by this one. Nothing was written, and what
 -- was known of the nodes still is.
@@ -228,18 +221,8 @@ abbrev pub BusyAt : DeskSeen → SessionSeen → Met → Call → Outcome → Ty
 BusyAt desk s m call (Busy holder) = holder.lib ≡ s.lib → IsOwnGrant desk s m (grant_for call) × (grant_for call ≢ Read → m.kind ≡ Regular)
 BusyAt desk s m call end = Unit {0}
 
--- the try didn't end Busy
-abbrev pub IsNeverBusy : Outcome → Type 0
-IsNeverBusy (Busy holder) = ⊥
-IsNeverBusy end = Unit {0}
-
 -- the whole try, but for its note: it comes to this file, and what is to be asked of the desk is asked
 pub record RepliesTo {D : Type 0} (called : D → Ask → Told → D → Type 0) (seen : D → DeskSeen) (d : D) (s : SessionSeen) (call : Call) (end : Outcome) (d' : D) (s' : SessionSeen) : Type 0 where
   pub file : ℕ
   pub goes : Goes called seen d s call file (λ now. asks_of now (seen d').creds s call) end d' s'
   pub comes : InAllShown (seen d') s' (λ now. ComesTo end file now (seen d').creds call)
-
--- another library keeps a file busy
-abbrev pub OthersHold : LibNo → Outcome → Type 0
-OthersHold lib (Busy holder) = holder.lib ≢ lib
-OthersHold lib end = Unit {0}

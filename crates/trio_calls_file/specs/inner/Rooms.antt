@@ -18,10 +18,10 @@ use Rattle.trio_session.specs.Seen.{SessionSeen, body_in, in_hand, made_place, o
 use Rattle.trio_edit_laws.specs.EditLaws.{AreSpare}
 use Rattle.trio_edit_laws.specs.Written.{MayEdit}
 use Rattle.trio_walk.specs.Asks.{IsAlike, IsGiven, TryEnds, allot_asks, took}
-use Rattle.trio_calls_file.specs.inner.Goes.{SameDesk}
+use Rattle.trio_walk.specs.Tries.{SameDesk}
 use Rattle.trio_walk.specs.declared.outcome.Outcome.TheVariants.{NoMemory}
-use Rattle.trio_calls_file.specs.declared.files.Stop.{Stop}
-use Rattle.trio_calls_file.specs.declared.files.Stop.TheVariants.{Busy as IsBusy, NoMemory as LacksMemory}
+use Rattle.trio_walk.specs.declared.outcome.Stop.{Stop}
+use Rattle.trio_walk.specs.declared.outcome.Stop.TheVariants.{Busy as IsBusy, NoMemory as LacksMemory}
 
 -- A session in the course of a call: pages may be spare, and all else is as before a call.
 pub record MayGoOn (desk : DeskSeen) (s : SessionSeen) : Type 0 where

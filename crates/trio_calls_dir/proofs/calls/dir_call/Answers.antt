@@ -11,9 +11,9 @@ pub returns-in-Chmod-clause-called : goal.returns-in-Chmod-clause-called
 returns-in-Chmod-clause-called g c =
     subst (λ (k : Call). DirCalled g.D.Desk.called g.D.Desk.seen c.args.desk.now c.args.session.now k c.chmod.result c.chmod.new.desk c.chmod.new.session) (sym c.in-Chmod.is) c.chmod.ensures.called
 
-pub entry_call-requires-clause-entry : goal.entry_call-requires-clause-entry
-entry_call-requires-clause-entry g c = entry_is c.args.call c.in_default.not-Chmod c.requires.dir
+pub retry-requires : goal.retry-requires
+retry-requires g c = record { begins = (entry_is c.args.call c.in_default.not-Chmod c.requires.dir, c.requires.may) }
 
 pub returns-in_default-clause-called : goal.returns-in_default-clause-called
 returns-in_default-clause-called g c =
-    entry_called g.D.Desk.called g.D.Desk.seen c.args.desk.now c.args.session.now c.args.call c.entry_call.result c.entry_call.new.desk c.entry_call.new.session c.in_default.not-Chmod c.entry_call.ensures.called
+    entry_called g.D.Desk.called g.D.Desk.seen c.args.desk.now c.args.session.now c.args.call c.retry.result c.retry.new.desk c.retry.new.session c.in_default.not-Chmod c.retry.ensures.called

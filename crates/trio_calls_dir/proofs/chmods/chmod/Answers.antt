@@ -1,18 +1,18 @@
+use Rattle.trio_edit_laws.proofs.Called.{may_settled, settle_may}
+use Rattle.trio_walk.proofs.Retrying.{nothing_left, settled}
 use Rattle.trio_calls_dir.specs.Chmods.{Begun}
-use Rattle.trio_calls_dir.proofs.Tries.{may_settled, settled, unsettled_may}
 use Rattle.trio_calls_dir.proofs.chmods.chmod.Goals as goal
 
-pub chmod_settled-requires-clause-may : goal.chmod_settled-requires-clause-may
-chmod_settled-requires-clause-may g c =
-    let s = c.settle.ensures in
-    let t = settled g.D.Desk.called g.D.Desk.seen c.args.desk.now c.settle.new.desk c.args.session.now c.settle.new.self c.settle.result s.call c.in-Ok.field-0 c.in-Ok.is in
-    may_settled g.D.Desk.called g.D.Desk.seen c.args.desk.now c.settle.new.desk c.args.session.now c.settle.new.self c.settle.result s.call t s.on
+pub retry-requires : goal.retry-requires
+retry-requires g c =
+    let t = (settled g.D.Desk.called g.D.Desk.seen c.args.desk.now c.settle.new.desk c.args.session.now c.settle.new.self c.settle.result c.settle.ensures.call c.settle.ensures.on c.in-Ok.field-0 c.in-Ok.is).0 in
+    record { begins = (c.requires.mode, may_settled (g.D.Desk.seen c.settle.new.desk) c.args.session.now c.settle.new.self t.empty c.settle.ensures.on, nothing_left c.args.session.now c.settle.new.self t.empty) }
 
 pub returns-in-Ok-clause-called : goal.returns-in-Ok-clause-called
 returns-in-Ok-clause-called g c =
-    let t = settled g.D.Desk.called g.D.Desk.seen c.args.desk.now c.settle.new.desk c.args.session.now c.settle.new.self c.settle.result c.settle.ensures.call c.in-Ok.field-0 c.in-Ok.is in
-    Begun c.settle.new.desk c.settle.new.self t c.chmod_settled.ensures.called
+    let t = settled g.D.Desk.called g.D.Desk.seen c.args.desk.now c.settle.new.desk c.args.session.now c.settle.new.self c.settle.result c.settle.ensures.call c.settle.ensures.on c.in-Ok.field-0 c.in-Ok.is in
+    Begun c.settle.new.desk c.settle.new.self t.0 c.retry.ensures.called
 
 pub returns-in-Err-clause-may : goal.returns-in-Err-clause-may
 returns-in-Err-clause-may g c =
-    unsettled_may g.D.Desk.called g.D.Desk.seen c.args.desk.now c.settle.new.desk c.args.session.now c.settle.new.self c.settle.result c.settle.ensures.call c.in-Err.field-0 c.in-Err.is c.requires.may c.settle.ensures.on
+    settle_may g.D.Desk.called g.D.Desk.seen c.args.desk.now c.settle.new.desk c.args.session.now c.settle.new.self c.settle.result c.settle.ensures.call c.requires.may c.settle.ensures.on

@@ -1,7 +1,7 @@
 use Rattle.std.proofs.Common.{sym, subst}
 use Rattle.trio_nodes.specs.declared.call.Call.{Call}
 use Rattle.trio_walk.specs.Walks.{shows_root}
-use Rattle.trio_calls_dir.specs.Asks.{dir_needs}
+use Rattle.trio_walk.specs.Needs.{dir_needs}
 use Rattle.trio_calls_dir.specs.inner.Goes.{Goes, number_made, try_ends}
 use Rattle.trio_calls_dir.proofs.Others.{stop_others}
 use Rattle.trio_calls_dir.proofs.Given.{may_walk}

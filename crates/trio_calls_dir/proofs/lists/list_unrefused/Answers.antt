@@ -4,7 +4,7 @@ use Rattle.trio_rights.specs.declared.rights.Creds.{Creds}
 use Rattle.trio_nodes.specs.declared.call.Call.TheVariants.{List as ListNames}
 use Rattle.trio_nodes.specs.declared.grant.Holder.{Holder}
 use Rattle.trio_walk.specs.declared.outcome.Outcome.TheVariants.{Busy as IsBusyEnd}
-use Rattle.trio_calls_dir.specs.declared.stops.Stop.TheVariants.{NoMemory as LacksMemory}
+use Rattle.trio_walk.specs.declared.outcome.Stop.TheVariants.{NoMemory as LacksMemory}
 use Rattle.trio_calls_dir.specs.inner.Goes.{Goes}
 use Rattle.trio_calls_dir.specs.inner.Lists.{BusyAt, list_reply, listing_at}
 use Rattle.trio_calls_dir.proofs.Given.{may_walk}

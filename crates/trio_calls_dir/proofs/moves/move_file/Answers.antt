@@ -3,7 +3,7 @@ use Rattle.trio_nodes.specs.declared.grant.GrantKind.TheVariants.{Hold}
 use Rattle.trio_nodes.specs.declared.grant.Holder.{Holder}
 use Rattle.trio_walk.specs.declared.outcome.Outcome.TheVariants.{Busy}
 use Rattle.trio_walk.specs.Walks.{Took}
-use Rattle.trio_calls_dir.specs.Asks.{moving_needs}
+use Rattle.trio_walk.specs.Needs.{moving_needs}
 use Rattle.trio_calls_dir.specs.inner.Goes.{Goes, number_made, try_ends}
 use Rattle.trio_calls_dir.specs.inner.Moves.{NeedsBusyAt}
 use Rattle.trio_calls_dir.proofs.Given.{may_walk}

@@ -2,8 +2,8 @@ use Rattle.std.proofs.Common.{rules, ◌≡◌, ◌<◌, Some, None, true, lengt
 use Rattle.std.specs.Prelude.{MatchResult}
 use Rattle.std.proofs.lemmas.Bool.{false≢true}
 use Rattle.trio_session.specs.Seen.{SessionSeen}
-use Rattle.trio_calls_dir.specs.declared.stops.Stop.TheVariants.{NoMemory as LacksMemory}
-use Rattle.trio_calls_dir.specs.Asks.{named_needs, removing_needs}
+use Rattle.trio_walk.specs.declared.outcome.Stop.TheVariants.{NoMemory as LacksMemory}
+use Rattle.trio_walk.specs.Needs.{named_needs, removing_needs}
 use Rattle.trio_nodes.specs.Nodes.{find_named}
 use Rattle.trio_nodes.specs.Walk.{name_of}
 use Rattle.trio_page.specs.Home.{raised}

@@ -1,8 +1,8 @@
-use Rattle.trio_calls_file.proofs.Tries.{may_settle, settle_may}
+use Rattle.trio_edit_laws.proofs.Called.{may_be_settled, settle_may}
 use Rattle.trio_runner.proofs.honest.play_settle.Goals as goal
 
 pub settle-requires-clause-ready : goal.settle-requires-clause-ready
-settle-requires-clause-ready g c = may_settle (g.D.Desk.seen c.args.desk.now) c.args.session.now c.requires.may
+settle-requires-clause-ready g c = may_be_settled (g.D.Desk.seen c.args.desk.now) c.args.session.now c.requires.may
 
 pub returns-clause-may : goal.returns-clause-may
 returns-clause-may g c =

@@ -1,0 +1,65 @@
+-- Words of one try of a call, and of the settle between two.
+use Rattle.std.specs.Prelude.{◌≡◌, ◌≢◌, []}
+use Rattle.trio_rights.specs.declared.rights.LibNo.{LibNo}
+use Rattle.trio_nodes.specs.declared.call.Answer.TheVariants.{Bytes, Names}
+use Rattle.trio_nodes.specs.declared.call.Reply.{Reply}
+use Rattle.trio_nodes.specs.declared.call.Reply.TheVariants.{Ok as Succeeds}
+use Rattle.trio_desk.specs.Call.{DeskSeen, SeenAfter, Settle, Settled, NotSettled}
+use Rattle.trio_desk.specs.Edits.{nothing}
+use Rattle.trio_session.specs.Seen.{IsOn, SessionSeen, emptied}
+use Rattle.trio_walk.specs.declared.outcome.Outcome.{Outcome}
+use Rattle.trio_walk.specs.declared.outcome.Outcome.TheVariants.{Replied as IsReplied, Busy as IsBusy, NoMemory as HasNoMemory}
+use Rattle.trio_walk.specs.declared.attempts.TryEnd.{TryEnd}
+use Rattle.trio_walk.specs.declared.attempts.TryEnd.TheVariants.{Replied, Busy, NoMemory}
+
+-- ---- one try
+
+-- how a try ends, without what comes back
+abbrev pub try_end : {T : Type 0} → TryEnd T → Outcome
+try_end (Replied answer) = IsReplied answer
+try_end (Busy back holder) = IsBusy holder
+try_end NoMemory = HasNoMemory
+
+-- what comes back is what was tried
+abbrev pub IsBack : {T : Type 0} → T → TryEnd T → Type 0
+IsBack what (Busy back holder) = back ≡ what
+IsBack what end = Unit {0}
+
+-- nothing was taken or made, and no call done
+pub record HasNothing (s : SessionSeen) : Type 0 where
+  pub parcel : s.parcel ≡ nothing
+  pub reads : s.reads ≡ []
+  pub made : s.made ≡ []
+  pub calls : s.calls ≡ []
+
+-- another library keeps a file busy
+abbrev pub OthersHold : LibNo → Outcome → Type 0
+OthersHold lib (IsBusy holder) = holder.lib ≢ lib
+OthersHold lib end = Unit {0}
+
+-- an answer of bytes or names
+abbrev pub TakesMemory : Reply → Type 0
+TakesMemory (Succeeds (Bytes bytes)) = Unit {0}
+TakesMemory (Succeeds (Names count names)) = Unit {0}
+TakesMemory reply = ⊥
+
+-- another state of the same desk
+pub record SameDesk (desk desk' : DeskSeen) : Type 0 where
+  pub lib : desk'.lib ≡ desk.lib
+  pub creds : desk'.creds ≡ desk.creds
+  pub sizes : desk'.sizes ≡ desk.sizes
+  pub root : desk'.root ≡ desk.root
+
+-- ---- the settle between two
+
+-- All is settled, as the desk is seen: the session is empty, and stands on it.
+pub record IsSettledAt (desk : DeskSeen) (s : SessionSeen) (desk' : DeskSeen) (s' : SessionSeen) : Type 0 where
+  pub seen : SeenAfter desk (Settle s.parcel s.reads s.calls) Settled desk'
+  pub empty : s' ≡ record (emptied s) { room = s'.room }
+  pub on : IsOn desk' s'
+
+-- There was no memory for it, and all is as before.
+pub record IsUnsettledAt (desk : DeskSeen) (s : SessionSeen) (desk' : DeskSeen) (s' : SessionSeen) : Type 0 where
+  pub seen : SeenAfter desk (Settle s.parcel s.reads s.calls) NotSettled desk'
+  pub same : s' ≡ s
+  pub on : IsOn desk' s'
