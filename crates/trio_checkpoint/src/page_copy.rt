@@ -45,8 +45,6 @@ impl PageCopy {
         ensures home { home.new.pages ≡ home.old.pages }
         ensures floor { home.old.looked ≤ home.new.looked }
     {
-        // a count of 64 bits, which stops at its end
-        let _looked = home.looked();
         let Some(page) = home.page(PageNo(number), reads) else {
             unreachable!()
         };

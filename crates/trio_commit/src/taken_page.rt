@@ -24,8 +24,6 @@ impl TakenPage {
         ensures floor { home.old.looked ≤ home.new.looked }
         ensures reads { reads.new ≡ raised reads.old }
     {
-        // a count of 64 bits, which stops at its end
-        let _looked = home.looked();
         let page = home.take(no, reads);
         TakenPage { no, page }
     }

@@ -1,5 +1,5 @@
 -- What an allotment gives, by what the controller keeps.
-use Rattle.std.proofs.Common.{◌≡◌, ℕ, zero, suc, ◌+◌, ◌-◌, ◌*◌, ◌^◌, ◌<◌, ◌≤◌, true, false, ◌==◌, ◌&&◌, List, ◌++◌, length, map, take, drop, Option, Some, None, IsSome, refl, sym, ap, subst, ◌∙◌, ◌⊎◌, inl, inr, arith}
+use Rattle.std.proofs.Common.{◌≡◌, ℕ, zero, suc, ◌+◌, ◌-◌, ◌*◌, ◌<◌, ◌≤◌, true, false, ◌==◌, ◌&&◌, List, ◌++◌, length, map, take, drop, Option, Some, None, IsSome, refl, sym, ap, subst, ◌∙◌, ◌⊎◌, inl, inr, arith}
 use Rattle.std.specs.Prelude.{IsTrue, not, slice_get, slice_index, slice_index_or}
 use Rattle.std.proofs.lemmas.Bool.{and_parts, eqb-true, false≢true, le-leb, le-ltb, lt-ltb, not-true}
 use Rattle.std.proofs.lemmas.List.{take-append-drop}
@@ -259,10 +259,6 @@ module _ (s : Store) (first : ℕ) (table : List Keyed) (files : List Opened) (c
               omega (arith, low)
 
 -- a count that was raised so often hasn't fallen
-pub raised_by_above : (k n : ℕ) → n < 2 ^ 64 → (n ≤ raised_by k n) × (raised_by k n < 2 ^ 64)
-raised_by_above zero n few = (omega arith, few)
-raised_by_above (suc k) n few =
-    let so_far = raised_by_above k n few in
-    let above = so_far.0 in
-    let below = so_far.1 in
-    (omega (arith, above, below), omega arith)
+pub raised_by_above : (k n : ℕ) → n ≤ raised_by k n
+raised_by_above zero n = omega arith
+raised_by_above (suc k) n = omega (arith, raised_by_above k n)

@@ -33,8 +33,6 @@ impl Registry {
         ensures promised { self.new.promised ≡ self.old.promised }
         ensures floor { self.old.looked ≤ self.new.looked }
     {
-        // a count of 64 bits, which stops at its end
-        let _looked = self.looked();
         let Ok(()) = self.history.make_room(entry, 1) else {
             return Err(AllotFault::NoMemory);
         };

@@ -128,8 +128,6 @@ fn put_mode(store: &mut Store, ino: u32, row: &Row, mode: u16)
     ensures pages { store.new.home.pages ≡ with_mode_at row.now.page row.now.slot mode store.old.home.pages }
     ensures rest { store.new ≡ record store.old { home = store.new.home; rows = slice_set store.old.rows ino (Some (with_row_mode mode (as_row row.now))) } }
 {
-    // a count of 64 bits, which stops at its end
-    let _looked = store.home.looked();
     let no = PageNo(row.page);
     let Some(mut page) = store.home.take(no, &mut Reads::new()) else {
         unreachable!()

@@ -31,8 +31,6 @@ fn standing_body(store: &mut Store, row: &Row) -> [u8; 64]
     ensures floor { store.old.home.looked ≤ store.new.home.looked }
     ensures rest { store.new ≡ record store.old { home = store.new.home } }
 {
-    // a count of 64 bits, which stops at its end
-    let _looked = store.home.looked();
     let no = PageNo(row.page);
     if let Some(Some(checkpoint)) = store.checkpoints.get(row.parent as usize) {
         return *checkpoint.body_at(no, row.slot).unwrap();

@@ -90,8 +90,6 @@ fn filling_at(
     ensures floor { home.old.looked ≤ home.new.looked }
     ensures filling { IfOk result (λ page. page ≡ filling (slice_index_or home.old.pages no None)) }
 {
-    // a count of 64 bits, which stops at its end
-    let _looked = home.looked();
     match home.page(PageNo(no), reads) {
         Some(_) => Ok(None),
         None => Ok(Some(Page::zero(alloc)?)),
@@ -115,8 +113,6 @@ fn move_core_pages(
 {
     let mut reads = Reads::new();
     for at in 0..count {
-        // a count of 64 bits, which stops at its end
-        let _looked = home.looked();
         if let Some(page) = home.take(PageNo(first + at), &mut reads) {
             pages[front + at as usize] = Some(page);
         }
@@ -155,8 +151,6 @@ fn copy_or_zero(
     ensures floor { home.old.looked ≤ home.new.looked }
     ensures copy { IfOk result (λ copy. Some copy ≡ or_zero (slice_index_or home.old.pages no None)) }
 {
-    // a count of 64 bits, which stops at its end
-    let _looked = home.looked();
     match home.page(PageNo(no), reads) {
         Some(page) => page.copy(alloc),
         None => Page::zero(alloc),

@@ -144,8 +144,6 @@ fn taken(home: &mut Home, number: u32, reads: &mut Reads) -> LentPage
     ensures number { result ≡ record { no = record { 0 = number }; page = result.page; touched = false } }
     ensures floor { home.old.looked ≤ home.new.looked }
 {
-    // a count of 64 bits, which stops at its end
-    let _looked = home.looked();
     let no = PageNo(number);
     let Some(page) = home.take(no, reads) else {
         unreachable!()

@@ -98,8 +98,6 @@ fn copied(
     ensures copy { IfOk result (λ copy. slice_index_or home.old.pages number None ≡ Some copy.page) }
     ensures number { IfOk result (λ copy. copy ≡ record { no = record { 0 = number }; page = copy.page; touched = false }) }
 {
-    // a count of 64 bits, which stops at its end
-    let _looked = home.looked();
     let no = PageNo(number);
     let Some(page) = home.page(no, reads) else {
         unreachable!()

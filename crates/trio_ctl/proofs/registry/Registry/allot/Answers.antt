@@ -1,4 +1,4 @@
-use Rattle.std.proofs.Common.{◌∙◌, ◌^◌, ◌<◌, map, refl, take, ap, subst, sym, inr, arith}
+use Rattle.std.proofs.Common.{◌∙◌, map, refl, take, ap, subst, sym, inr, arith}
 use Rattle.trio_page.specs.Home.{Pages}
 use Rattle.trio_tables.specs.Free.{free_pages}
 use Rattle.trio_ctl.specs.Answers.{allot_fault_answer}
@@ -50,9 +50,7 @@ returns-in-Ok-given c =
       floor =
           (let old = ap (λ (x : Registered). x.looked) c.self.view_is in
           let new = ap (λ (h : Pages). h.looked) c.in-Ok-given.ensures.home in
-          let few : c.self.inside.store.home.looked < 2 ^ 64 = omega (arith, old) in
-          let more = (raised_by_above c.args.pages c.self.inside.store.home.looked few).0 in
-          omega (arith, old, new, more));
+          omega (arith, old, new, raised_by_above c.args.pages c.self.inside.store.home.looked));
     }
 
 pub invariant_of-self-in-NoPages : goal.invariant_of-self-in-NoPages
