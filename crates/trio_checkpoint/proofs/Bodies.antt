@@ -76,10 +76,10 @@ put_renewed pages page slot body bytes =
           rw (set-set, set_past pages page _ ge, set_past pages page _ ge) refl
     ]
 
-pub renewing_settles : (page slot : ℕ) (body : List ℕ) (xs : List Sheet) (pages : List (Option (List ℕ))) → IsTrue (is_among page (sheet_numbers xs)) → with_pages (with_body page slot body xs) pages ≡ with_body_at page slot body (with_pages xs pages)
-renewing_settles page slot body [] pages h = absurd (false≢true h)
-renewing_settles page slot body (x ∷ xs) pages h =
-    by (renewing_settles page slot body xs) (is_among page (sheet_numbers xs)) refl (eqb x.page page) refl h
+pub with_pages-with_body : (page slot : ℕ) (body : List ℕ) (xs : List Sheet) (pages : List (Option (List ℕ))) → IsTrue (is_among page (sheet_numbers xs)) → with_pages (with_body page slot body xs) pages ≡ with_body_at page slot body (with_pages xs pages)
+with_pages-with_body page slot body [] pages h = absurd (false≢true h)
+with_pages-with_body page slot body (x ∷ xs) pages h =
+    by (with_pages-with_body page slot body xs) (is_among page (sheet_numbers xs)) refl (eqb x.page page) refl h
   where
     by : ((pages : List (Option (List ℕ))) → IsTrue (is_among page (sheet_numbers xs)) → with_pages (with_body page slot body xs) pages ≡ with_body_at page slot body (with_pages xs pages))
         → (later : Bool) → is_among page (sheet_numbers xs) ≡ later → (t : Bool) → eqb x.page page ≡ t → IsTrue (is_among page (sheet_numbers (x ∷ xs)))

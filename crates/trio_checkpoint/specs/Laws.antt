@@ -15,8 +15,8 @@ RestoringKeeps =
     → with_pages (covered_of kind (sheets_of core index) (sheets_of core blocks)) core.pages ≡ core.pages
 
 -- Covered pages with a body renewed, put in place, are those pages put in place with the body renewed there.
-abbrev pub RenewingSettles : Type 0
-RenewingSettles =
+abbrev pub RenewedBodyIsRestored : Type 0
+RenewedBodyIsRestored =
     (page slot : ℕ) (body : List ℕ) (sheets : List Sheet) (pages : List (Option (List ℕ)))
     → IsTrue (is_among page (sheet_numbers sheets))
     → with_pages (with_body page slot body sheets) pages ≡ with_body_at page slot body (with_pages sheets pages)

@@ -81,7 +81,7 @@ impl Owners {
         ensures free { result ≡ free_count self.now }
         ensures few { result ≤ length self.now }
     {
-        free_pages(&self.owners) as u32
+        free_count(&self.owners) as u32
     }
 
     /// How many pages the stored table has.
@@ -160,7 +160,7 @@ impl Owners {
     }
 }
 
-fn free_pages(owners: &[u32]) -> usize
+fn free_count(owners: &[u32]) -> usize
     ensures { result ≡ free_count owners.now }
 {
     owners.iter().filter(|owner| **owner == 0).count()
