@@ -5,6 +5,7 @@ use std::fs::File;
 use std::rt::Files as Host;
 use trio_image::{LoadFault, load};
 use trio_io::{RealFiles, StdoutSink};
+use trio_layout::Rule;
 
 /// Says which call of the host failed last, on what and why, where one did.
 pub(crate) fn say_faults<R: Host<File = File> + Print + Eprint>(
@@ -43,10 +44,11 @@ pub(crate) fn say_broken_rule<R: Host<File = File> + Eprint + AllocGlobal>(
         },
     ) = load(rt.alloc(), files, name)
     {
-        let _ = match (rule, ino) {
-            (5, 0) => eprintln!(rt; "trio: {name}: the stored owner of page {page} is wrong"),
-            (5, _) => eprintln!(rt; "trio: {name}: the stored row of inode {ino} is wrong"),
-            _ => {
+        let of_tables = rule == Rule::Tables.number();
+        let _ = match (of_tables, ino) {
+            (true, 0) => eprintln!(rt; "trio: {name}: the stored owner of page {page} is wrong"),
+            (true, _) => eprintln!(rt; "trio: {name}: the stored row of inode {ino} is wrong"),
+            (false, _) => {
                 eprintln!(rt;
                     "trio: {name}: I{rule} fails at inode {ino}, page {page}, slot {slot}"
                 )

@@ -10,15 +10,14 @@ use Rattle.std.proofs.Math.Seq.{drop-append_seam}
 use Rattle.trio_layout.specs.declared.range.CoreRange.{CoreRange}
 use Rattle.trio_lists.specs.Lists.{In}
 use Rattle.trio_lists.proofs.Members.{In-cases}
-use Rattle.trio_layout.specs.Core.{page_of}
+use Rattle.trio_layout.specs.Core.{page_of, Location}
 use Rattle.trio_layout.specs.Entries.{Listed, entries_on}
 use Rattle.trio_layout.specs.Case.{bundle_core}
 use Rattle.trio_case.specs.Cases.{CaseShown, case_in}
 use Rattle.trio_case.specs.Places.{bytes_at}
 use Rattle.trio_case.specs.Order.{place_of}
-use Rattle.trio_case.specs.Reading.{listed_seen, place_seen, AreNamed}
+use Rattle.trio_case.specs.Reading.{listed_seen, AreNamed}
 use Rattle.trio_case.specs.declared.entries.DirEntry.{DirEntry}
-use Rattle.trio_case.specs.declared.entries.FaultPlace.{FaultPlace}
 use Rattle.trio_case.specs.declared.kept.KeptPages.{KeptPages}
 use Rattle.trio_case.specs.declared.kept.KeptPage.{KeptPage}
 use Rattle.trio_case.specs.declared.kept.KeptIndex.{KeptIndex}
@@ -106,7 +105,7 @@ entries_grown inodes page names new es more bytes s h = record {
   says = h.says ∙ ap Ok (sym (names_grown names new (part s es) h.named) ∙ ap (map (listed_seen (names ++ new))) (sym (part-grown s es more h.within)));
 }
 
-block_grown : (inodes page : ℕ) (names new : List (List ℕ)) (es more : List DirEntry) (bytes : List ℕ) (r : Result Span FaultPlace) → SaysBlock inodes page names es bytes r → SaysBlock inodes page (names ++ new) (es ++ more) bytes r
+block_grown : (inodes page : ℕ) (names new : List (List ℕ)) (es more : List DirEntry) (bytes : List ℕ) (r : Result Span Location) → SaysBlock inodes page names es bytes r → SaysBlock inodes page (names ++ new) (es ++ more) bytes r
 block_grown inodes page names new es more bytes (Ok s) h = entries_grown inodes page names new es more bytes s h
 block_grown inodes page names new es more bytes (Err p) h = h
 
@@ -119,7 +118,7 @@ pub record Grows (old new : KeptPages) : Type 0 where
   pub numbers : new.numbers.items ≡ old.numbers.items ++ more_numbers
   pub names : new.names.names ≡ old.names.names ++ more_names
 
-entries_still : (inodes page : ℕ) (names new : List (List ℕ)) (es more : List DirEntry) (bytes : List ℕ) (o : Option (Result Span FaultPlace)) → MatchOption o ⊤ (SaysBlock inodes page names es bytes) → MatchOption o ⊤ (SaysBlock inodes page (names ++ new) (es ++ more) bytes)
+entries_still : (inodes page : ℕ) (names new : List (List ℕ)) (es more : List DirEntry) (bytes : List ℕ) (o : Option (Result Span Location)) → MatchOption o ⊤ (SaysBlock inodes page names es bytes) → MatchOption o ⊤ (SaysBlock inodes page (names ++ new) (es ++ more) bytes)
 entries_still inodes page names new es more bytes None h = h
 entries_still inodes page names new es more bytes (Some r) h = block_grown inodes page names new es more bytes r h
 
@@ -144,17 +143,17 @@ kept_at k kept page at p h s = rw s.page at (h.each at)
 pub number_is : (k : CaseShown) (kept : KeptPages) (page at : ℕ) (p : KeptPage) → KeepsPages k kept → StandsAt kept page at p → p.no ≡ page
 number_is k kept page at p h s = rw (s.listed, s.page) at (h.numbered page)
 
-says_under : (inodes n page : ℕ) (names : List (List ℕ)) (es : List DirEntry) (bytes : List ℕ) (o : Option (Result Span FaultPlace)) (r : Result Span FaultPlace) → o ≡ Some r → n ≡ page → MatchOption o ⊤ (SaysBlock inodes n names es bytes) → SaysBlock inodes page names es bytes r
+says_under : (inodes n page : ℕ) (names : List (List ℕ)) (es : List DirEntry) (bytes : List ℕ) (o : Option (Result Span Location)) (r : Result Span Location) → o ≡ Some r → n ≡ page → MatchOption o ⊤ (SaysBlock inodes n names es bytes) → SaysBlock inodes page names es bytes r
 says_under inodes n page names es bytes o r e f h = rw (e, f) at h
 
 done_from : (k : CaseShown) (kept : KeptPages) (page at : ℕ) (p : KeptPage) (s : Span) (bytes : List ℕ) → page_of (bundle_core (case_in k)) page ≡ Some bytes → place_of page kept.order.items ≡ Some at → slice_get kept.pages.items at ≡ Some p → p.entries ≡ Some (Ok s) → SaysEntries k.inodes page kept.names.names kept.entries.items bytes s → IsDone k kept page
 done_from k kept page at p s bytes here listed stands read says = rw (here, listed, stands, read) says.says
 
-bad_from : (k : CaseShown) (kept : KeptPages) (page : ℕ) (place : FaultPlace) (bytes : List ℕ) → page_of (bundle_core (case_in k)) page ≡ Some bytes → entries_on k.inodes page bytes ≡ Err (place_seen place) → BlockAnswer {X = Span} k kept page (Err place)
+bad_from : (k : CaseShown) (kept : KeptPages) (page : ℕ) (place : Location) (bytes : List ℕ) → page_of (bundle_core (case_in k)) page ≡ Some bytes → entries_on k.inodes page bytes ≡ Err place → BlockAnswer {X = Span} k kept page (Err place)
 bad_from k kept page place bytes here says = rw here says
 
 -- a block that was read
-pub answer_kept : (k : CaseShown) (kept : KeptPages) (page at : ℕ) (p : KeptPage) (r : Result Span FaultPlace) → KeepsPages k kept → StandsAt kept page at p → p.entries ≡ Some r → BlockAnswer k kept page r
+pub answer_kept : (k : CaseShown) (kept : KeptPages) (page at : ℕ) (p : KeptPage) (r : Result Span Location) → KeepsPages k kept → StandsAt kept page at p → p.entries ≡ Some r → BlockAnswer k kept page r
 answer_kept k kept page at p r h stands read =
     let own = kept_at k kept page at p h stands in
     let number = number_is k kept page at p h stands in
@@ -162,7 +161,7 @@ answer_kept k kept page at p r h stands read =
     let says = says_under k.inodes p.no page kept.names.names kept.entries.items own.bytes p.entries r read number own.entries in
     answer r bytes says read
   where
-    answer : {bytes : List ℕ} (r : Result Span FaultPlace) → page_of (bundle_core (case_in k)) page ≡ Some bytes → SaysBlock k.inodes page kept.names.names kept.entries.items bytes r → p.entries ≡ Some r → BlockAnswer k kept page r
+    answer : {bytes : List ℕ} (r : Result Span Location) → page_of (bundle_core (case_in k)) page ≡ Some bytes → SaysBlock k.inodes page kept.names.names kept.entries.items bytes r → p.entries ≡ Some r → BlockAnswer k kept page r
     answer {bytes} (Ok s) here says read = done_from k kept page at p s bytes here stands.listed stands.page read says
     answer {bytes} (Err place) here says read = bad_from k kept page place bytes here says
 
@@ -203,13 +202,13 @@ module _ (k : CaseShown) (old new : KeptPages) (at : ℕ) (p q : KeptPage) (keep
     each = each_at;
   }
 
-  said_same : (bytes : List ℕ) (page : ℕ) (r : Result Span FaultPlace) → SaysBlock k.inodes page old.names.names old.entries.items bytes r → entries_said new.names.names new.entries.items r ≡ entries_said old.names.names old.entries.items r
+  said_same : (bytes : List ℕ) (page : ℕ) (r : Result Span Location) → SaysBlock k.inodes page old.names.names old.entries.items bytes r → entries_said new.names.names new.entries.items r ≡ entries_said old.names.names old.entries.items r
   said_same bytes page (Ok s) h =
       rw (grows.entries, grows.names)
       (ap (map (listed_seen (old.names.names ++ grows.more_names))) (part-grown s old.entries.items grows.more_entries h.within) ∙ names_grown old.names.names grows.more_names (part s old.entries.items) h.named)
   said_same bytes page (Err place) h = refl
 
-  span_same : (o : Option (Result Span FaultPlace)) (bytes : List ℕ) (page : ℕ) → MatchOption o ⊤ (SaysBlock k.inodes page old.names.names old.entries.items bytes) → option_map_or (entries_said new.names.names new.entries.items) o [] ≡ option_map_or (entries_said old.names.names old.entries.items) o []
+  span_same : (o : Option (Result Span Location)) (bytes : List ℕ) (page : ℕ) → MatchOption o ⊤ (SaysBlock k.inodes page old.names.names old.entries.items bytes) → option_map_or (entries_said new.names.names new.entries.items) o [] ≡ option_map_or (entries_said old.names.names old.entries.items) o []
   span_same None bytes page h = refl
   span_same (Some r) bytes page h = said_same bytes page r h
 
@@ -218,11 +217,11 @@ module _ (k : CaseShown) (old new : KeptPages) (at : ℕ) (p q : KeptPage) (keep
   page_same (Some x) h = span_same x.entries h.bytes x.no h.entries
 
   -- the page that was just read, which lists nothing where it is bad
-  done_here : (r : Result Span FaultPlace) → q.entries ≡ Some r → p.entries ≡ None → (page : ℕ) → place_of page old.order.items ≡ Some at → IsDone k old page → IsDone k new page
+  done_here : (r : Result Span Location) → q.entries ≡ Some r → p.entries ≡ None → (page : ℕ) → place_of page old.order.items ≡ Some at → IsDone k old page → IsDone k new page
   done_here (Ok s) read none page e h = answer_kept k new page at q (Ok s) keeps_set (record { listed = rw order e; page = here }) read
   done_here (Err place) read none page e h = rw (order, e, here, read) (rw (e, stands.page, none) at h)
 
-  done_at : (r : Result Span FaultPlace) → q.entries ≡ Some r → p.entries ≡ None → (page : ℕ) (o : Option ℕ) → place_of page old.order.items ≡ o → IsDone k old page → IsDone k new page
+  done_at : (r : Result Span Location) → q.entries ≡ Some r → p.entries ≡ None → (page : ℕ) (o : Option ℕ) → place_of page old.order.items ≡ o → IsDone k old page → IsDone k new page
   done_at r read none page None e h = rw (order, e) (rw e at h)
   done_at r read none page (Some j) e h =
       elim (cases_eq j at) [
@@ -230,7 +229,7 @@ module _ (k : CaseShown) (old new : KeptPages) (at : ℕ) (p q : KeptPage) (keep
         | inr differ ↦ rw (order, e, there j differ, page_same (slice_get old.pages.items j) (keeps.each j)) (rw e at h)
       ]
 
-  pub done_still : (r : Result Span FaultPlace) → q.entries ≡ Some r → p.entries ≡ None → (page : ℕ) → IsDone k old page → IsDone k new page
+  pub done_still : (r : Result Span Location) → q.entries ≡ Some r → p.entries ≡ None → (page : ℕ) → IsDone k old page → IsDone k new page
   done_still r read none page h = done_at r read none page (place_of page old.order.items) refl h
 
 -- the entries of a block that was read have names
@@ -287,7 +286,7 @@ front_trans first now next h g =
     ap (take (length first)) whole ∙ take-append-le (length first) first (drop (length first) now ++ drop (length now) next) (omega arith) ∙ take_all (length first) first (omega arith)
 
 -- a block that was just read: what is kept, what was done, and what is left
-module _ (k : CaseShown) (old new : KeptPages) (page at : ℕ) (p q : KeptPage) (r : Result Span FaultPlace) (keeps : KeepsPages k old) (stands : StandsAt old page at p) (order : new.order ≡ old.order) (pages : new.pages.items ≡ set old.pages.items at q) (same : q ≡ record p { entries = Some r }) (unread : p.entries ≡ None) (grows : Grows old new) (says : (bytes : List ℕ) → bytes_at k.bundle p.place ≡ Some bytes → SaysBlock k.inodes p.no new.names.names new.entries.items bytes r) where
+module _ (k : CaseShown) (old new : KeptPages) (page at : ℕ) (p q : KeptPage) (r : Result Span Location) (keeps : KeepsPages k old) (stands : StandsAt old page at p) (order : new.order ≡ old.order) (pages : new.pages.items ≡ set old.pages.items at q) (same : q ≡ record p { entries = Some r }) (unread : p.entries ≡ None) (grows : Grows old new) (says : (bytes : List ℕ) → bytes_at k.bundle p.place ≡ Some bytes → SaysBlock k.inodes p.no new.names.names new.entries.items bytes r) where
   was : IsKept k old p
   was = kept_at k old page at p keeps stands
 

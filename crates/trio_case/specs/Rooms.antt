@@ -11,7 +11,7 @@ use Rattle.trio_lease.specs.Views.{bundle_in}
 use Rattle.trio_layout.specs.declared.body.Body.{Body}
 use Rattle.trio_layout.specs.declared.range.CoreRange.{CoreRange}
 use Rattle.trio_layout.specs.Range.{core_count}
-use Rattle.trio_layout.specs.Core.{page_of}
+use Rattle.trio_layout.specs.Core.{page_of, Location}
 use Rattle.trio_layout.specs.Chain.{index_count}
 use Rattle.trio_layout.specs.Index.{index_of, IsIndexPage}
 use Rattle.trio_layout.specs.Entries.{Listed, entries_on}
@@ -20,12 +20,11 @@ use Rattle.trio_layout.specs.Case.{bundle_core}
 use Rattle.trio_case.specs.Cases.{CaseShown, case_in}
 use Rattle.trio_case.specs.Places.{bytes_at, number_at}
 use Rattle.trio_case.specs.Order.{in_order, place_of, AreRising}
-use Rattle.trio_case.specs.Reading.{listed_seen, place_seen, AreNamed}
+use Rattle.trio_case.specs.Reading.{listed_seen, AreNamed}
 use Rattle.trio_case.specs.Memory.{size_of, writes_directory, IsWithin}
 use Rattle.trio_case.specs.declared.size.BundleSize.{BundleSize}
 use Rattle.trio_case.specs.declared.room.PageRoom.{PageRoom}
 use Rattle.trio_case.specs.declared.entries.DirEntry.{DirEntry}
-use Rattle.trio_case.specs.declared.entries.FaultPlace.{FaultPlace}
 use Rattle.trio_case.specs.declared.kept.KeptPages.{KeptPages}
 use Rattle.trio_case.specs.declared.kept.KeptPage.{KeptPage}
 use Rattle.trio_case.specs.declared.kept.KeptIndex.{KeptIndex}
@@ -40,7 +39,7 @@ abbrev pub kept_page : KeptPages → ℕ → Option KeptPage
 kept_page kept page = option_and_then (λ at. slice_get kept.pages.items at) (place_of page kept.order.items)
 
 -- the entries of a directory block that was read; a bad one has none
-abbrev pub entries_said : List (List ℕ) → List DirEntry → Result Span FaultPlace → List Listed
+abbrev pub entries_said : List (List ℕ) → List DirEntry → Result Span Location → List Listed
 entries_said names entries (Ok s) = map (listed_seen names) (part s entries)
 entries_said names entries (Err place) = []
 
@@ -110,9 +109,9 @@ pub record SaysEntries (inodes no : ℕ) (names : List (List ℕ)) (entries : Li
   pub says : entries_on inodes no bytes ≡ Ok (map (listed_seen names) (part s entries))
 
 -- what is kept of a directory block is what its bytes list: its entries, or its first bad slot
-abbrev pub SaysBlock : ℕ → ℕ → List (List ℕ) → List DirEntry → List ℕ → Result Span FaultPlace → Type 0
+abbrev pub SaysBlock : ℕ → ℕ → List (List ℕ) → List DirEntry → List ℕ → Result Span Location → Type 0
 SaysBlock inodes page names entries bytes read =
-    MatchResult read (SaysEntries inodes page names entries bytes) (λ place. entries_on inodes page bytes ≡ Err (place_seen place))
+    MatchResult read (SaysEntries inodes page names entries bytes) (λ place. entries_on inodes page bytes ≡ Err place)
 
 -- what is kept of an index page is what its bytes spell
 pub record SaysIndex (range : CoreRange) (numbers : List ℕ) (bytes : List ℕ) (i : KeptIndex) : Type 0 where

@@ -2,14 +2,14 @@
 
 ghost use Rattle.std.specs.Prelude.{◌≡◌, ◌++◌, ◌∷◌, [], ◌+◌, ◌*◌, ◌<◌, ◌≤◌, ℕ, List, None, Some, IsSome, Ok, Err, OnOk, OnErr, length, map, take, drop, if◌then◌else◌, true, vec_len, vec_capacity};
 ghost use Rattle.std.specs.List.{flat_map};
-ghost use Rattle.trio_lists.specs.Lists.{gathered};
+ghost use Rattle.trio_lists.specs.Lists.{gathered, result_map};
 ghost use Rattle.trio_layout.specs.Case.{bundle_core};
 ghost use Rattle.trio_layout.specs.Core.{page_of};
 ghost use Rattle.trio_layout.specs.Entries.{listed_at, slot_bytes, entries_on};
 ghost use Rattle.trio_layout.specs.Slot.{slot_of};
 ghost use Rattle.trio_layout.specs.Within.{entries_where};
 ghost use Rattle.trio_case.specs.Cases.{case_in};
-ghost use Rattle.trio_case.specs.Reading.{listed_seen, result_seen, AreNamed};
+ghost use Rattle.trio_case.specs.Reading.{listed_seen, AreNamed};
 ghost use Rattle.trio_case.specs.Places.{bytes_at};
 ghost use Rattle.trio_case.specs.Rooms.{entries_kept, unread_blocks, unread_index, HasPlaces, KeepsPages, SaysBlock};
 ghost use Rattle.trio_case.specs.inner.Steps.{BlockAnswer, IsDone, IsFront, StandsAt};
@@ -18,7 +18,7 @@ ghost use Rattle.trio_page.specs.Home.{raised};
 use crate::case::Case;
 use crate::kept::{KeptPage, KeptPages, Span};
 use crate::places::look;
-use trio_layout::{Slot, SlotRead};
+use trio_layout::{Location, Slot, SlotRead};
 use trio_lease::Bundle;
 use trio_nameset::NameSet;
 use trio_page::{Page, Reads};
@@ -36,13 +36,6 @@ pub struct DirEntry {
     pub body: [u8; 64],
 }
 
-/// Where a file leaves the grammar: a page and a slot, 0 where there is none to name.
-#[derive(Clone, Copy)]
-pub struct FaultPlace {
-    pub page: u32,
-    pub slot: u16,
-}
-
 /// Reads the entries of these blocks, or finds the first bad slot. A block that isn't the bundle's
 /// has none.
 pub(crate) fn read_entries(
@@ -50,11 +43,11 @@ pub(crate) fn read_entries(
     kept: &mut KeptPages,
     blocks: &[u32],
     reads: &mut Reads,
-) -> Result<(), FaultPlace>
+) -> Result<(), Location>
     requires keeps { KeepsPages case.now kept.old }
     requires places { HasPlaces true kept.old }
     ensures entries { let core = bundle_core (case_in case.now) in
-        result_seen (λ _. flat_map (entries_kept kept.new) blocks.now) result ≡ gathered (λ page. entries_where case.now.inodes page (page_of core page)) blocks.now }
+        result_map (λ _. flat_map (entries_kept kept.new) blocks.now) result ≡ gathered (λ page. entries_where case.now.inodes page (page_of core page)) blocks.now }
     ensures keeps { KeepsPages case.now kept.new }
     ensures places { HasPlaces true kept.new }
     ensures most { length kept.new.names.names + 16 * unread_blocks kept.new ≤ length kept.old.names.names + 16 * unread_blocks kept.old }
@@ -72,12 +65,7 @@ pub(crate) fn read_entries(
 
 /// Reads the entries of a block where they aren't kept, or finds its first bad slot. What was kept
 /// stays so.
-fn keep_block(
-    case: &Case,
-    kept: &mut KeptPages,
-    no: u32,
-    reads: &mut Reads,
-) -> Result<(), FaultPlace>
+fn keep_block(case: &Case, kept: &mut KeptPages, no: u32, reads: &mut Reads) -> Result<(), Location>
     requires keeps { KeepsPages case.now kept.old }
     requires places { HasPlaces true kept.old }
     ensures here { BlockAnswer case.now kept.new no result }
@@ -109,7 +97,7 @@ fn keep_entries(
     at: usize,
     page: KeptPage,
     reads: &mut Reads,
-) -> Result<Span, FaultPlace>
+) -> Result<Span, Location>
     requires page { StandsAt kept.old page.no at page }
     requires unread { page.entries ≡ None }
     requires keeps { KeepsPages case.now kept.old }
@@ -146,7 +134,7 @@ fn read_page(
     entries: &mut Vec<DirEntry>,
     names: &mut NameSet,
     reads: &mut Reads,
-) -> Result<Span, FaultPlace>
+) -> Result<Span, Location>
     requires room { vec_len entries.old + 16 ≤ vec_capacity entries.old }
     requires space { length names.old.names + 16 ≤ names.old.room }
     requires there { IsSome (bytes_at bundle.now page.now.place) }
@@ -181,11 +169,11 @@ fn add_page_entries(
     inodes: u32,
     entries: &mut Vec<DirEntry>,
     names: &mut NameSet,
-) -> Result<(), FaultPlace>
+) -> Result<(), Location>
     requires room { vec_len entries.old + 16 ≤ vec_capacity entries.old }
     requires space { length names.old.names + 16 ≤ names.old.room }
     ensures entries { entries_on inodes no page.now
-        ≡ result_seen (λ _. map (listed_seen names.new.names) (drop (vec_len entries.old) entries.new.items)) result }
+        ≡ result_map (λ _. map (listed_seen names.new.names) (drop (vec_len entries.old) entries.new.items)) result }
     ensures named { AreNamed names.new.names (drop (vec_len entries.old) entries.new.items) }
     ensures before { take (vec_len entries.old) entries.new.items ≡ entries.old.items }
     ensures grown { vec_len entries.old ≤ vec_len entries.new }
@@ -198,7 +186,7 @@ fn add_page_entries(
     let bytes = page.bytes();
     for slot in 0..16u16 {
         if !add_slot_entry(slot_bytes(bytes, slot), no, slot, inodes, entries, names) {
-            return Err(FaultPlace { page: no, slot });
+            return Err(Location { page: no, slot });
         }
     }
     Ok(())

@@ -6,15 +6,15 @@ ghost use Rattle.trio_layout.specs.Case.{file_in};
 ghost use Rattle.trio_layout.specs.Survey.{Met};
 ghost use Rattle.trio_case.specs.Cases.{case_in};
 ghost use Rattle.trio_case.specs.Memory.{writes_directory};
-ghost use Rattle.trio_case.specs.Reading.{result_seen};
 ghost use Rattle.trio_case.specs.Rooms.{file_in_room, looks_left, Keeps};
+ghost use Rattle.trio_lists.specs.Lists.{result_map};
 
 use crate::case::Case;
 use crate::chain::read_chain;
-use crate::entries::{FaultPlace, read_entries};
+use crate::entries::read_entries;
 use crate::names::repeated_name;
 use crate::room::PageRoom;
-use trio_layout::Body;
+use trio_layout::{Body, Location};
 use trio_page::Reads;
 use trio_rights::Kind;
 
@@ -33,20 +33,20 @@ pub fn read_file(
     kind: Kind,
     body: &[u8; 64],
     reads: &mut Reads,
-) -> Result<Body, FaultPlace>
+) -> Result<Body, Location>
     requires room { Keeps case.now room.old }
     requires lists { kind ≡ Directory → writes_directory case.now.bundle ≡ true }
     ensures file { (m : Met) → m.kind ≡ kind → m.body ≡ body.now
-        → result_seen (file_in_room room.new kind) result ≡ file_in (case_in case.now) m }
+        → result_map (file_in_room room.new kind) result ≡ file_in (case_in case.now) m }
     ensures room { Keeps case.now room.new }
     ensures looks { OnOk result (reads.new + looks_left room.new ≤ reads.old + looks_left room.old) }
     ensures last { reads.new ≤ reads.old + looks_left room.old }
 {
     let Some(body) = Body::read(body, kind, case.range()) else {
-        return Err(FaultPlace { page: 0, slot: 0 });
+        return Err(Location { page: 0, slot: 0 });
     };
     if let Err(page) = read_chain(case, room, &body, reads) {
-        return Err(FaultPlace { page, slot: 0 });
+        return Err(Location { page, slot: 0 });
     }
     if kind == Kind::Directory {
         if let Err(place) = read_entries(case, &mut room.kept, &room.blocks, reads) {

@@ -12,11 +12,12 @@ ghost use Rattle.trio_case.specs.Rooms.{entries_kept, kept_page, AreCountedIn, H
 ghost use Rattle.trio_case.specs.inner.Steps.{StandsAt};
 
 use crate::case::Case;
-use crate::entries::{DirEntry, FaultPlace};
+use crate::entries::DirEntry;
 use crate::listing::push;
 use crate::places::PagePlace;
 use crate::size::BundleSize;
 use std::alloc::Global;
+use trio_layout::Location;
 use trio_lease::{Bundle, FreshPage, WriteLease};
 use trio_nameset::{NAME_BYTES, NameSet};
 use trio_page::{NoMemory, PageNo};
@@ -50,7 +51,7 @@ pub(crate) struct KeptPage {
     pub no: u32,
     pub place: PagePlace,
     /// As a directory block: its entries among those that are kept, or its first bad slot.
-    pub entries: Option<Result<Span, FaultPlace>>,
+    pub entries: Option<Result<Span, Location>>,
     pub index: Option<KeptIndex>,
     /// Where it stands among all pages of the bundle, in the order of the bundle.
     pub nth: usize,

@@ -29,7 +29,7 @@ mod size;
 
 pub use case::Case;
 pub use chain::read_chain;
-pub use entries::{DirEntry, FaultPlace};
+pub use entries::DirEntry;
 pub use file::read_file;
 pub use index::{INDEXED_PAGE_BYTES, PageIndex};
 pub use listing::{

@@ -2,6 +2,8 @@
 use Rattle.std.specs.Prelude.{ℕ, ◌==◌, ◌++◌, List, codes, if◌then◌else◌}
 use Rattle.std.specs.Fmt.{decimal}
 use Rattle.trio_names.specs.Escaped.{escaped_of}
+use Rattle.trio_layout.specs.declared.refusal.Rule.TheVariants.{Tables}
+use Rattle.trio_layout.specs.Rule.{rule_number}
 use Rattle.trio_report.specs.Report.{counts_text}
 use Rattle.trio_report.specs.declared.report.Counts.{Counts}
 
@@ -30,9 +32,9 @@ length_line count = codes "length " ++ decimal count ++ codes "\n"
 abbrev pub bad_superblock_line : List ℕ
 bad_superblock_line = codes "bad superblock\n"
 
--- this rule fails: 1 or 2, or 5, the stored tables
+-- the rule of this number fails: I1 or I2, or that of the stored tables
 abbrev pub invalid_line : ℕ → List ℕ
-invalid_line rule = if rule == 5 then codes "invalid tables\n" else codes "invalid I" ++ decimal rule ++ codes "\n"
+invalid_line rule = if rule == rule_number Tables then codes "invalid tables\n" else codes "invalid I" ++ decimal rule ++ codes "\n"
 
 -- a file couldn't be read
 abbrev pub read_fault_line : List ℕ → List ℕ

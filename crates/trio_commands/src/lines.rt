@@ -5,6 +5,7 @@ ghost use Rattle.trio_names.specs.Escaped.{escaped_of};
 ghost use Rattle.trio_commands.specs.Lines.{invalid_line, length_line, made_line, script_line, valid_line};
 
 use std::alloc::Global;
+use trio_layout::Rule;
 use trio_names::escaped;
 use trio_page::NoMemory;
 use trio_report::{Counts, put_counts};
@@ -40,7 +41,7 @@ pub fn length_line(alloc: Global, count: u64) -> Result<Vec<u8>, NoMemory>
 pub fn invalid_line(alloc: Global, rule: u8) -> Result<Vec<u8>, NoMemory>
     ensures { IfOk result (λ line. line.items ≡ invalid_line rule) }
 {
-    if rule == 5 {
+    if rule == Rule::Tables.number() {
         return b"invalid tables\n".to_vec(alloc);
     }
     let line = format!(in alloc; "invalid I{rule}\n")?;

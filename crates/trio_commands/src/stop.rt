@@ -20,7 +20,7 @@ pub enum Stop {
     Length(u64),
     /// The first page isn't a superblock.
     BadSuper,
-    /// This rule of an image fails: 1 or 2, or 5, the stored tables.
+    /// The rule of this number fails: I1 or I2, or that of the stored tables.
     Invalid(u8),
     /// The line of this number, counted from 1, is outside the grammar of scripts.
     BadLine(u32),

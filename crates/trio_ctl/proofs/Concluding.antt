@@ -1,6 +1,6 @@
 -- A bundle that is put in place or rolled back: the end of a release is the step that the definitions say.
 use Rattle.std.proofs.Common.{◌≡◌, ℕ, suc, ◌+◌, ◌<◌, ◌≤◌, Bool, true, false, ◌==◌, ◌&&◌, ◌||◌, List, [], ◌∷◌, length, map, Option, Some, None, is_some, IsTrue, refl, sym, ap, subst, ◌∙◌, ◌⊎◌, inl, inr, arith}
-use Rattle.std.specs.Prelude.{IsFalse, MatchOption, if◌then◌else◌, not}
+use Rattle.std.specs.Prelude.{IsFalse, if◌then◌else◌, not}
 use Rattle.std.specs.List.{filter}
 use Rattle.std.specs.Option.{IsSomeAnd}
 use Rattle.std.proofs.lemmas.List.{length-map}
@@ -29,7 +29,6 @@ use Rattle.trio_layout.specs.Core.{Location}
 use Rattle.trio_layout.specs.Listing.{Listing, listing}
 use Rattle.trio_layout.specs.Copied.{with_copied}
 use Rattle.trio_layout.specs.Rules.{meets_grammar, meets_owning, meets_rights, meets_rules}
-use Rattle.trio_case.specs.Listed.{Listed}
 use Rattle.trio_judge.specs.Verdicts.{meets_three}
 use Rattle.trio_judge.specs.declared.verdict.Verdict.{Verdict}
 use Rattle.trio_judge.specs.declared.verdict.Verdict.TheVariants.{Broken, Sound}
@@ -80,10 +79,6 @@ verdict_told s lib b j v h = by v h
         ∙ ap (λ x. meets_grammar (case_in s lib b) && x && meets_rights (with_copied (case_in s lib b))) same.1
         ∙ ap (λ x. meets_grammar (case_in s lib b) && meets_owning (case_in s lib b) && x) same.2
 
-    listed : (rule : ℕ) (o : Option Listed) → MatchOption o (rule ≡ 4 → ⊥) (λ x. (rule ≡ 4) × (x.listing ≡ listing (with_copied (case_in s lib b)))) → MatchOption o (rule ≡ 4 → ⊥) (λ x. (rule ≡ 4) × (x.listing ≡ listing (case_in s lib b)))
-    listed rule None l = l
-    listed rule (Some x) l = (l.0, l.1 ∙ same.3)
-
     by : (v : Verdict) → IsVerdict (with_copied (case_in s lib b)) v → IsVerdict (case_in s lib b) v
     by (Sound l) h = record { sound = h.sound ∙ three; lowest = h.lowest; listed = h.listed ∙ same.3 }
     by (Broken rule ino page slot l) h = record {
@@ -95,7 +90,7 @@ verdict_told s lib b j v h = by v h
           | inr a ↦ inr (inr (a.0, sym same.0 ∙ a.1, sym same.1 ∙ a.2, rights_told s lib b j ino (record { page = page; slot = slot }) a.3))
         ]
       ];
-      listed = listed rule l h.listed;
+      listed = rw same.3 at h.listed;
     }
 
 -- a number that wasn't out isn't once others are back

@@ -1,6 +1,8 @@
 //! What comes of a bundle that was judged.
 
 ghost use Rattle.std.specs.Prelude.{◌≡◌};
+ghost use Rattle.trio_layout.specs.declared.refusal.Rule.TheVariants.{Edges};
+ghost use Rattle.trio_layout.specs.Rule.{rule_number};
 ghost use Rattle.trio_layout.specs.Case.{Case};
 ghost use Rattle.trio_layout.specs.Listing.{listing};
 ghost use Rattle.trio_judge.specs.Verdicts.{HasFewEntries};
@@ -11,6 +13,7 @@ ghost use Rattle.trio_ctl.specs.inner.Outcomes.{HasFew, IsOutcome};
 use trio_case::Listing;
 use trio_edges::edges;
 use trio_judge::Verdict;
+use trio_layout::Rule;
 use trio_tables::Shadow;
 
 /// What comes of a bundle.
@@ -18,7 +21,7 @@ use trio_tables::Shadow;
 pub(crate) enum Outcome {
     /// It meets the four rules, and this is what it lists.
     Accepted(Listing),
-    /// The lowest rule that fails, and where it does.
+    /// The number of the lowest rule that fails, and where it does.
     Refused {
         rule: u8,
         ino: u32,
@@ -61,12 +64,12 @@ pub(crate) fn outcome_of(verdict: Verdict, rows: &Shadow) -> Outcome
 }
 
 impl Outcome {
-    // rule I3 fails, at this number
+    // the edges fail, at this number
     fn at_number(ino: u32) -> Outcome
-        ensures { result ≡ Outcome.Refused 3 ino 0 0 }
+        ensures { result ≡ Outcome.Refused (rule_number Edges) ino 0 0 }
     {
         Outcome::Refused {
-            rule: 3,
+            rule: Rule::Edges.number(),
             ino,
             page: 0,
             slot: 0,

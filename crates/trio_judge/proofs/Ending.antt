@@ -17,9 +17,9 @@ use Rattle.trio_layout.specs.Listing.{Listing, entry_listed, listing}
 use Rattle.trio_layout.specs.Rules.{entry_in_grammar, entry_is_own, entry_keeps_rights, file_keeps_rights, meets_grammar, meets_owning, meets_rights}
 use Rattle.trio_layout.specs.Broken.{BreaksGrammar, BreaksOwning, BreaksRights, judged_listings}
 use Rattle.trio_layout.proofs.Walks.{passed_are_fronts}
-use Rattle.trio_judge.specs.declared.walk.FaultAt.{FaultAt}
+use Rattle.trio_layout.specs.declared.refusal.FaultAt.{FaultAt}
 use Rattle.trio_judge.specs.declared.walk.Walk.{Walk}
-use Rattle.trio_judge.specs.inner.Walk.{HasEnded, IsPassed, IsQueued, IsReady, KeepRights, Lists, OwningFails, RightsFail, Stands, fault_place, file_met, files_of}
+use Rattle.trio_judge.specs.inner.Walk.{HasEnded, IsPassed, IsQueued, IsReady, KeepRights, Lists, OwningFails, RightsFail, Stands, file_met, files_of}
 use Rattle.trio_judge.proofs.Faults.{pages-listed}
 use Rattle.trio_judge.proofs.Listings.{entries_few, pages_few}
 use Rattle.trio_judge.proofs.Noting.{so_far}
@@ -101,7 +101,7 @@ module _ (c : Case) (w : Walk) (e : HasEnded c w) (p : IsPassed c (length w.file
   pub grammar_met : meets_grammar c ≡ true
   grammar_met = and_from _ _ whole.read whole.grammar
 
-  pub owning_fails : (o : FaultAt) → w.owning ≡ Some o → BreaksOwning c o.ino (fault_place o)
+  pub owning_fails : (o : FaultAt) → w.owning ≡ Some o → BreaksOwning c o.ino o.place
   owning_fails o is =
       let f : OwningFails c (judged_files c) (judged_entries c) o = subst (λ x. MatchOption x (Lists c (judged_files c) (judged_entries c) w) (OwningFails c (judged_files c) (judged_entries c))) is whole.listed in
       f [] [] (sym (append-nil (judged_files c))) (sym (append-nil (judged_entries c)))
@@ -126,7 +126,7 @@ module _ (c : Case) (w : Walk) (e : HasEnded c w) (p : IsPassed c (length w.file
       let listed = ap (λ (x : Listing). length x.entries) l.listing ∙ length-map (judged_entries c) (entry_listed c) in
       omega (arith, pages, entries, listed)
 
-  pub rights_fail : (o : FaultAt) → w.owning ≡ None → w.rights ≡ Some o → BreaksRights c o.ino (fault_place o)
+  pub rights_fail : (o : FaultAt) → w.owning ≡ None → w.rights ≡ Some o → BreaksRights c o.ino o.place
   rights_fail o none is =
       let f : RightsFail c (judged_files c) (judged_entries c) o = subst (λ x. MatchOption x (KeepRights c (judged_files c) (judged_entries c)) (RightsFail c (judged_files c) (judged_entries c))) is (lists none).rights in
       f [] [] (sym (append-nil (judged_files c))) (sym (append-nil (judged_entries c)))

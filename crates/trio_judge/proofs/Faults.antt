@@ -12,12 +12,13 @@ use Rattle.trio_layout.specs.Case.{Case, file_in}
 use Rattle.trio_layout.specs.JudgedFiles.{judged_files, judged_entries, pages_within}
 use Rattle.trio_layout.specs.Rules.{entry_is_own, entry_keeps_rights, file_keeps_rights}
 use Rattle.trio_layout.specs.Broken.{judged_listings}
-use Rattle.trio_judge.specs.declared.walk.FaultAt.{FaultAt}
+use Rattle.trio_layout.specs.declared.refusal.FaultAt.{FaultAt}
 use Rattle.trio_judge.specs.inner.Walk.{IsForeign, OwningFails, RightsFail}
+use Rattle.trio_layout.specs.Core.{nowhere, at_page}
 
 -- the place of an entry
 abbrev pub entry_fault : Met → FaultAt
-entry_fault e = record { ino = e.parent; page = e.page; slot = e.slot }
+entry_fault e = record { ino = e.parent; place = record { page = e.page; slot = e.slot } }
 
 pub in_middle : {X : Type 0} (xs : List X) (x : X) (ys zs : List X) → zs ≡ (xs ++ x ∷ []) ++ ys → In x zs
 in_middle xs x ys zs e = subst (λ l. In x l) (sym e) (In-left x (xs ++ x ∷ []) ys (In-right x xs (x ∷ []) (inl refl)))
@@ -38,7 +39,7 @@ entry_denied c done es e h = λ rest more a b.
 
 -- ---- files
 
-pub file_denied : (c : Case) (done es : List Met) (m : Met) → file_keeps_rights c m (file_in c m) ≡ false → RightsFail c (done ++ m ∷ []) es (record { ino = m.ino; page = 0; slot = 0 })
+pub file_denied : (c : Case) (done es : List Met) (m : Met) → file_keeps_rights c m (file_in c m) ≡ false → RightsFail c (done ++ m ∷ []) es (record { ino = m.ino; place = nowhere })
 file_denied c done es m h = λ rest more a b.
     inr (m, record { among = in_middle done m rest (judged_files c) a; number = refl }, h, refl)
 
@@ -51,7 +52,7 @@ pages-listed c [] = refl
 pages-listed c (m ∷ ms) =
     map-append (λ (l : PageListing). l.page) (map (λ p. record { ino = m.ino; page = p }) (pages_within c m)) _ ∙ rw (map-page m.ino (pages_within c m), pages-listed c ms) refl
 
-pub page_fails : (c : Case) (done es : List Met) (m : Met) (page : ℕ) → IsForeign (bundle_pages c.bundle) (flat_map (pages_within c) done) (pages_within c m) page → OwningFails c (done ++ m ∷ []) es (record { ino = m.ino; page = page; slot = 0 })
+pub page_fails : (c : Case) (done es : List Met) (m : Met) (page : ℕ) → IsForeign (bundle_pages c.bundle) (flat_map (pages_within c) done) (pages_within c m) page → OwningFails c (done ++ m ∷ []) es (record { ino = m.ino; place = at_page page })
 page_fails c done es m page f = λ rest more a b.
     elim f.fault [
       | inl foreign ↦

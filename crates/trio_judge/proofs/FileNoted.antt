@@ -18,6 +18,7 @@ use Rattle.trio_case.proofs.Parts.{all-push}
 use Rattle.trio_judge.proofs.Noting.{files_still, foreign_block, foreign_index, listed-file, own_both, owns_file, rights_file}
 use Rattle.trio_case.proofs.Listings.{listed_pages}
 use Rattle.trio_judge.proofs.Listings.{listed_files, pages_few}
+use Rattle.trio_layout.specs.Core.{nowhere}
 
 -- the first foreign page, of the index pages and then the blocks
 pub first_of_both : (own before index blocks : List ℕ) (marks marks' : List Bool) (a b : Option ℕ) → FirstForeign own before index marks a → ((seen : List ℕ) → AreMarked own marks seen → FirstForeign own seen blocks marks' b) → FirstForeign own before (index ++ blocks) marks' (option_or a b)
@@ -39,7 +40,7 @@ module _ (c : Case) (done es : List Met) (m : Met) (f : FileRead) (w : Walk) (e 
       owns_file c done es m l.owns (rw pages own.own_all) (rw pages own.new)
 
   -- it is listed
-  pub lists_file : (w' : Walk) (keeps : Bool) → keeps ≡ body_keeps_rights c m.ino f.body → w'.rights ≡ option_or w.rights (cond keeps None (Some (record { ino = m.ino; page = 0; slot = 0 }))) → w'.listing.listing ≡ record { held = w.listing.listing.held; files = w.listing.listing.files ++ file_listed m (Ok f); entries = w.listing.listing.entries } → w'.pages.items ≡ marks → Lists c (done ++ m ∷ []) es w'
+  pub lists_file : (w' : Walk) (keeps : Bool) → keeps ≡ body_keeps_rights c m.ino f.body → w'.rights ≡ option_or w.rights (cond keeps None (Some (record { ino = m.ino; place = nowhere }))) → w'.listing.listing ≡ record { held = w.listing.listing.held; files = w.listing.listing.files ++ file_listed m (Ok f); entries = w.listing.listing.entries } → w'.pages.items ≡ marks → Lists c (done ++ m ∷ []) es w'
   lists_file w' keeps k r li pa =
       let pages : flat_map (pages_within c) (done ++ m ∷ []) ≡ flat_map (pages_within c) done ++ (f.chain.index ++ f.chain.blocks) =
       flat_map-append (pages_within c) done (m ∷ []) ∙ ap (λ l. flat_map (pages_within c) done ++ l) (append-nil (pages_within c m) ∙ ap pages_in e) in

@@ -23,7 +23,7 @@ use Rattle.trio_layout.specs.Case.{Case, file_in}
 use Rattle.trio_layout.specs.JudgedFiles.{pages_within}
 use Rattle.trio_layout.specs.Listing.{Listing, ListedEntry, entry_listed, file_listed}
 use Rattle.trio_layout.specs.Rules.{entry_in_grammar, entry_is_own, entry_keeps_rights, file_keeps_rights}
-use Rattle.trio_judge.specs.declared.walk.FaultAt.{FaultAt}
+use Rattle.trio_layout.specs.declared.refusal.FaultAt.{FaultAt}
 use Rattle.trio_judge.specs.declared.walk.Walk.{Walk}
 use Rattle.trio_judge.specs.inner.Walk.{AreOwn, IsForeign, KeepRights, Lists, IsListed, OwningFails, Owns, RightsFail, listing_of, AreFound, IsReady, SameFindings, SameQueue, BadEntry, Noted, PlacesLeft, files_of, file_met, is_new, own_numbers, listed_met, writes_directory}
 use Rattle.trio_case.specs.Order.{place_of}
@@ -31,6 +31,7 @@ use Rattle.trio_case.proofs.Counted.{place_some, place_within}
 use Rattle.trio_case.proofs.Ordered.{mark_more}
 use Rattle.trio_case.proofs.Parts.{all-push}
 use Rattle.trio_judge.proofs.Faults.{entry_denied, entry_fault, file_denied}
+use Rattle.trio_layout.specs.Core.{nowhere}
 
 -- ---- entries
 
@@ -63,7 +64,7 @@ owns_file c done es m o own new =
       entries_once = o.entries_once;
     }
 
-pub rights_file : (c : Case) (done es : List Met) (m : Met) (rights : Option FaultAt) (keeps : Bool) → keeps ≡ file_keeps_rights c m (file_in c m) → RightsSo c done es rights → RightsSo c (done ++ m ∷ []) es (option_or rights (cond keeps None (Some (record { ino = m.ino; page = 0; slot = 0 }))))
+pub rights_file : (c : Case) (done es : List Met) (m : Met) (rights : Option FaultAt) (keeps : Bool) → keeps ≡ file_keeps_rights c m (file_in c m) → RightsSo c done es rights → RightsSo c (done ++ m ∷ []) es (option_or rights (cond keeps None (Some (record { ino = m.ino; place = nowhere }))))
 rights_file c done es m None true k r = record { files = all-push (λ m. file_keeps_rights c m (file_in c m)) done m r.files (sym k); entries = r.entries }
 rights_file c done es m None false k r = file_denied c done es m (sym k)
 rights_file c done es m (Some p) keeps k r = λ rest more a b. r (m ∷ rest) more (a ∙ append_assoc done (m ∷ []) rest) b

@@ -17,9 +17,9 @@ use Rattle.trio_layout.specs.Listing.{Listing, entry_listed}
 use Rattle.trio_layout.specs.Broken.{BreaksGrammar}
 use Rattle.trio_layout.proofs.QueueLaws.{pass_many}
 use Rattle.trio_layout.proofs.Walks.{pass_many-more, pigeons, waiting_in_fronts}
-use Rattle.trio_judge.specs.declared.walk.FaultAt.{FaultAt}
+use Rattle.trio_layout.specs.declared.refusal.FaultAt.{FaultAt}
 use Rattle.trio_judge.specs.declared.walk.Walk.{Walk}
-use Rattle.trio_judge.specs.inner.Walk.{BadEntry, IsOnWay, IsPassed, IsQueued, IsReady, Noted, PlacesLeft, SameQueue, Stands, fault_place, files_of, is_new, own_numbers, writes_directory}
+use Rattle.trio_judge.specs.inner.Walk.{BadEntry, IsOnWay, IsPassed, IsQueued, IsReady, Noted, PlacesLeft, SameQueue, Stands, files_of, is_new, own_numbers, writes_directory}
 use Rattle.trio_judge.proofs.Listings.{entries_few, pages_few}
 use Rattle.trio_case.proofs.Distinct.{no_more}
 use Rattle.trio_judge.proofs.Noting.{files_same, so_far}
@@ -51,7 +51,7 @@ pub file_breaks : (c : Case) (m : Met) (place : Location) → In m (judged_files
 file_breaks c m place i e = inl (m, record { among = i; number = refl }, e)
 
 -- an entry with a body that does
-pub entry_breaks : (c : Case) (m : Met) (p : FaultAt) → In m (judged_files c) → BadEntry c (entries_in c m) p → BreaksGrammar c p.ino (fault_place p)
+pub entry_breaks : (c : Case) (m : Met) (p : FaultAt) → In m (judged_files c) → BadEntry c (entries_in c m) p → BreaksGrammar c p.ino p.place
 entry_breaks c m p i b =
     inr (b.0, record { among = In-flat (entries_in c) m b.0 (judged_files c) i b.1; directory = b.2; page = b.3; slot = b.4 }, b.5)
 

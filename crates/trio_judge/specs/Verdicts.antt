@@ -1,6 +1,8 @@
 -- What a verdict says of a case.
 use Rattle.std.specs.Prelude.{◌≡◌, ◌*◌, ◌≤◌, ◌⊎◌, ⊤, Bool, true, false, ◌&&◌, length, IsTrue, MatchOption}
 use Rattle.trio_rights.specs.Bundle.{bundle_pages}
+use Rattle.trio_layout.specs.declared.refusal.Rule.TheVariants.{Grammar, Owning, Rights}
+use Rattle.trio_layout.specs.Rule.{rule_number}
 use Rattle.trio_layout.specs.Core.{Location}
 use Rattle.trio_layout.specs.Case.{Case}
 use Rattle.trio_layout.specs.Listing.{listing}
@@ -23,14 +25,14 @@ abbrev pub IsLowest : Case → Verdict → Type 0
 IsLowest c (Sound l) = ⊤
 IsLowest c (Broken rule ino page slot l) =
     let place : Location = record { page = page; slot = slot } in
-    ((rule ≡ 1) × BreaksGrammar c ino place)
-    ⊎ (((rule ≡ 2) × IsTrue (meets_grammar c) × BreaksOwning c ino place)
-    ⊎ ((rule ≡ 4) × IsTrue (meets_grammar c) × IsTrue (meets_owning c) × BreaksRights c ino place))
+    ((rule ≡ rule_number Grammar) × BreaksGrammar c ino place)
+    ⊎ (((rule ≡ rule_number Owning) × IsTrue (meets_grammar c) × BreaksOwning c ino place)
+    ⊎ ((rule ≡ rule_number Rights) × IsTrue (meets_grammar c) × IsTrue (meets_owning c) × BreaksRights c ino place))
 
 -- a verdict that the three are met, or that I4 alone of them fails, has the listing of the case, and no other has one
 abbrev pub HasListing : Case → Verdict → Type 0
 HasListing c (Sound l) = l.listing ≡ listing c
-HasListing c (Broken rule ino page slot l) = MatchOption l (rule ≡ 4 → ⊥) (λ x. (rule ≡ 4) × (x.listing ≡ listing c))
+HasListing c (Broken rule ino page slot l) = MatchOption l (rule ≡ rule_number Rights → ⊥) (λ x. (rule ≡ rule_number Rights) × (x.listing ≡ listing c))
 
 -- the listing of a verdict, if it has one, has at most 16 entries for each page of the bundle
 abbrev pub HasFewEntries : Case → Verdict → Type 0

@@ -8,15 +8,14 @@ ghost use Rattle.trio_layout.specs.Body.{body_of};
 ghost use Rattle.trio_layout.specs.Case.{file_in};
 ghost use Rattle.trio_layout.specs.JudgedFiles.{entries_in};
 ghost use Rattle.trio_case.specs.Cases.{case_in};
-ghost use Rattle.trio_case.specs.Reading.{place_seen};
 ghost use Rattle.trio_case.specs.Rooms.{entries_kept, file_in_room, looks_left, Keeps};
 ghost use Rattle.trio_judge.specs.inner.Again.{has_body, AreAllFound, AreFoundHeads, IsListedBefore};
 ghost use Rattle.trio_judge.specs.inner.Walk.{file_met};
 
 use crate::pages::{is_marked, mark};
 use crate::walk::JudgedFile;
-use trio_case::{Case, DirEntry, FaultPlace, PageRoom, read_chain};
-use trio_layout::{Body, CoreRange};
+use trio_case::{Case, DirEntry, PageRoom, read_chain};
+use trio_layout::{Body, CoreRange, Location};
 use trio_page::Reads;
 use trio_rights::Kind;
 
@@ -29,17 +28,17 @@ pub(crate) fn is_listed_before(
     heads: &[bool],
     file: &JudgedFile,
     reads: &mut Reads,
-) -> Result<bool, FaultPlace>
+) -> Result<bool, Location>
     requires keeps { Keeps case.now room.old }
     requires places { length heads.now ≡ length (bundle_pages (bundle_in case.now.bundle)) }
     ensures before { IfOk result (λ before. IsTrue before → IsListedBefore (case_in case.now) heads.now (file_met file.now)) }
-    ensures bad { IfErr result (λ p. file_in (case_in case.now) (file_met file.now) ≡ Err (place_seen p)) }
+    ensures bad { IfErr result (λ p. file_in (case_in case.now) (file_met file.now) ≡ Err p) }
     ensures keeps { Keeps case.now room.new }
     ensures looks { OnOk result (reads.new + looks_left room.new ≤ reads.old + looks_left room.old) }
     ensures last { reads.new ≤ reads.old + looks_left room.old }
 {
     let Some(body) = Body::read(&file.body, file.kind, case.range()) else {
-        return Err(FaultPlace { page: 0, slot: 0 });
+        return Err(Location { page: 0, slot: 0 });
     };
     let regular = file.kind == Kind::Regular;
     if regular || body.blocks() == 0 || !is_marked(case, room, heads, body.head) {
@@ -47,7 +46,7 @@ pub(crate) fn is_listed_before(
     }
     match read_chain(case, room, &body, reads) {
         Ok(()) => Ok(true),
-        Err(page) => Err(FaultPlace { page, slot: 0 }),
+        Err(page) => Err(Location { page, slot: 0 }),
     }
 }
 

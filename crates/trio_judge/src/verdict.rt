@@ -2,6 +2,7 @@
 
 ghost use Rattle.std.specs.Prelude.{◌≡◌, ◌+◌, ◌*◌, ◌≤◌, IfOk, length};
 ghost use Rattle.trio_rights.specs.Bundle.{bundle_pages};
+ghost use Rattle.trio_layout.specs.Rule.{rule_number};
 ghost use Rattle.trio_lease.specs.Views.{bundle_in};
 ghost use Rattle.trio_case.specs.Cases.{case_in};
 ghost use Rattle.trio_judge.specs.Verdicts.{meets_three, HasFewEntries, HasListing, IsLowest, is_sound};
@@ -10,9 +11,10 @@ ghost use Rattle.trio_judge.specs.Memory.{HasRoomMemory, IsRoomMemory};
 ghost use Rattle.trio_judge.specs.inner.Walk.{HasEnded, IsPassed};
 
 use crate::start::{WALK_BYTES, WalkMemory, add_marks};
-use crate::walk::{FaultAt, Walk};
+use crate::walk::Walk;
 use std::alloc::Global;
 use trio_case::{BundleSize, BytesEach, Case, Listing, PageRoom, READ_PAGE_BYTES, table_size};
+use trio_layout::{FaultAt, Rule};
 use trio_page::{NoMemory, Reads};
 
 /// What the judge says of a bundle.
@@ -20,7 +22,7 @@ use trio_page::{NoMemory, Reads};
 pub enum Verdict {
     /// The rules I1, I2 and I4 hold, and this is what the bundle lists.
     Sound(Listing),
-    /// The lowest of these rules that fails, and where.
+    /// The number of the lowest of these rules that fails, and where.
     ///
     /// - Of an entry, `ino` is the directory that has it, and `page` and `slot` are its place.
     /// - Of a page that a file lists, `ino` is that file, `page` the page, and `slot` is 0.
@@ -30,20 +32,20 @@ pub enum Verdict {
         ino: u32,
         page: u32,
         slot: u16,
-        /// What the bundle lists; it is there exactly where the rule is 4.
+        /// What the bundle lists; it is there exactly where the rule is [`Rule::Rights`].
         listing: Option<Listing>,
     },
 }
 
 impl Verdict {
-    fn broken(rule: u8, place: FaultAt, listing: Option<Listing>) -> Verdict
-        ensures { result ≡ Verdict.Broken rule place.ino place.page place.slot listing }
+    fn broken(rule: Rule, at: FaultAt, listing: Option<Listing>) -> Verdict
+        ensures { result ≡ Verdict.Broken (rule_number rule) at.ino at.place.page at.place.slot listing }
     {
         Verdict::Broken {
-            rule,
-            ino: place.ino,
-            page: place.page,
-            slot: place.slot,
+            rule: rule.number(),
+            ino: at.ino,
+            page: at.place.page,
+            slot: at.place.slot,
             listing,
         }
     }
@@ -156,8 +158,8 @@ pub fn judge(case: &Case, room: Room, reads: &mut Reads) -> Verdict
     pages.new_room_keeps(case);
     let mut at = 0;
     while at < walk.files.len() {
-        if let Err(place) = walk.visit(case, &mut pages, &mut heads, at, reads) {
-            return Verdict::broken(1, place, None);
+        if let Err(fault) = walk.visit(case, &mut pages, &mut heads, at, reads) {
+            return Verdict::broken(Rule::Grammar, fault, None);
         }
         at += 1;
     }
@@ -174,11 +176,11 @@ fn conclude(case: &Case, walk: Walk) -> Verdict
     ensures few { HasFewEntries (case_in case.now) result }
 {
     let _case = case;
-    if let Some(place) = walk.owning {
-        return Verdict::broken(2, place, None);
+    if let Some(fault) = walk.owning {
+        return Verdict::broken(Rule::Owning, fault, None);
     }
     match walk.rights {
-        Some(place) => Verdict::broken(4, place, Some(walk.listing)),
+        Some(fault) => Verdict::broken(Rule::Rights, fault, Some(walk.listing)),
         None => Verdict::Sound(walk.listing),
     }
 }

@@ -13,13 +13,13 @@ ghost use Rattle.trio_tables.specs.Row.{as_row};
 ghost use Rattle.trio_case.specs.Cases.{case_in};
 ghost use Rattle.trio_case.specs.Rooms.{entries_in_room, entries_kept, file_in_room, looks_left, Keeps};
 ghost use Rattle.trio_judge.specs.inner.Again.{AreFoundHeads};
-ghost use Rattle.trio_judge.specs.inner.Walk.{fault_place, file_met, files_of, listed_met, BadEntry, IsListed, IsOnWay, IsQueued, IsReady, IsPassed, Noted, PlacesLeft, SameFindings, SameQueue, Stands, is_new, writes_directory};
+ghost use Rattle.trio_judge.specs.inner.Walk.{file_met, files_of, listed_met, BadEntry, IsListed, IsOnWay, IsQueued, IsReady, IsPassed, Noted, PlacesLeft, SameFindings, SameQueue, Stands, is_new, writes_directory};
 
 use crate::again::{is_listed_before, mark_head};
 use crate::pages::mark_own;
 use crate::rules::{entry_keeps_rights, file_keeps_rights, is_in_grammar, is_kept, is_own};
-use trio_case::{Case, DirEntry, FaultPlace, ListedEntry, Listing, PageRoom, read_file};
-use trio_layout::Body;
+use trio_case::{Case, DirEntry, ListedEntry, Listing, PageRoom, read_file};
+use trio_layout::{Body, FaultAt, Location};
 use trio_page::Reads;
 use trio_rights::Kind;
 use trio_tables::Row;
@@ -53,12 +53,14 @@ impl JudgedFile {
 
     /// The place of an entry.
     fn fault(&self) -> FaultAt
-        ensures { result ≡ record { ino = self.now.parent; page = self.now.page; slot = self.now.slot } }
+        ensures { result ≡ record { ino = self.now.parent; place = record { page = self.now.page; slot = self.now.slot } } }
     {
         FaultAt {
             ino: self.parent,
-            page: self.page,
-            slot: self.slot,
+            place: Location {
+                page: self.page,
+                slot: self.slot,
+            },
         }
     }
 
@@ -76,14 +78,6 @@ impl JudgedFile {
             slot: self.slot,
         }
     }
-}
-
-/// Where a rule fails: a file, and a page and a slot, 0 where there is none to name.
-#[derive(Clone, Copy)]
-pub(crate) struct FaultAt {
-    pub ino: u32,
-    pub page: u32,
-    pub slot: u16,
 }
 
 /// A walk on its way: the files found so far, those passed at the front, and what was found of these.
@@ -128,7 +122,7 @@ impl Walk {
         ensures passed { OnOk result (IsPassed (case_in case.now) (at + 1) self.new) }
         ensures ready { OnOk result (IsReady (case_in case.now) self.new) }
         ensures heads { OnOk result (AreFoundHeads (case_in case.now) (numbers (files_of self.new)) heads.new.items) }
-        ensures fault { IfErr result (λ p. BreaksGrammar (case_in case.now) p.ino (fault_place p)) }
+        ensures fault { IfErr result (λ p. BreaksGrammar (case_in case.now) p.ino p.place) }
         ensures looks { OnOk result (reads.new + looks_left room.new ≤ reads.old + looks_left room.old) }
         ensures last { reads.new ≤ reads.old + looks_left room.old }
     {
@@ -139,10 +133,9 @@ impl Walk {
         match is_listed_before(case, room, heads, &file, reads) {
             Ok(true) => Ok(()),
             Ok(false) => self.go_over_marked(case, room, heads, &file, at, reads),
-            Err(FaultPlace { page, slot }) => Err(FaultAt {
+            Err(place) => Err(FaultAt {
                 ino: file.ino,
-                page,
-                slot,
+                place,
             }),
         }
     }
@@ -169,7 +162,7 @@ impl Walk {
         ensures passed { OnOk result (IsPassed (case_in case.now) (at + 1) self.new) }
         ensures ready { OnOk result (IsReady (case_in case.now) self.new) }
         ensures heads { OnOk result (AreFoundHeads (case_in case.now) (numbers (files_of self.new)) heads.new.items) }
-        ensures fault { IfErr result (λ p. BreaksGrammar (case_in case.now) p.ino (fault_place p)) }
+        ensures fault { IfErr result (λ p. BreaksGrammar (case_in case.now) p.ino p.place) }
         ensures looks { OnOk result (reads.new + looks_left room.new ≤ reads.old + looks_left room.old) }
         ensures last { reads.new ≤ reads.old + looks_left room.old }
     {
@@ -199,17 +192,16 @@ impl Walk {
         ensures ready { OnOk result (IsReady (case_in case.now) self.new) }
         ensures grows { OnOk result (files_of self.new ≡ files_of self.old ++ first_listed (numbers (files_of self.old)) (filter (is_new (case_in case.now)) (entries_in (case_in case.now) (file_met file.now)))) }
         ensures read { OnOk result ((body : Body) → body_of file.now.kind case.now.range file.now.body ≡ Some body → file_in (case_in case.now) (file_met file.now) ≡ Ok (file_in_room room.new file.now.kind body)) }
-        ensures fault { IfErr result (λ p. BreaksGrammar (case_in case.now) p.ino (fault_place p)) }
+        ensures fault { IfErr result (λ p. BreaksGrammar (case_in case.now) p.ino p.place) }
         ensures looks { OnOk result (reads.new + looks_left room.new ≤ reads.old + looks_left room.old) }
         ensures last { reads.new ≤ reads.old + looks_left room.old }
     {
         let body = match read_file(case, room, file.kind, &file.body, reads) {
             Ok(body) => body,
-            Err(FaultPlace { page, slot }) => {
+            Err(place) => {
                 return Err(FaultAt {
                     ino: file.ino,
-                    page,
-                    slot,
+                    place,
                 });
             }
         };
@@ -237,15 +229,13 @@ impl Walk {
         if let Some(page) = index.or(block) {
             self.owning = Some(FaultAt {
                 ino: file.ino,
-                page,
-                slot: 0,
+                place: Location { page, slot: 0 },
             });
             return;
         }
         let denied = FaultAt {
             ino: file.ino,
-            page: 0,
-            slot: 0,
+            place: Location { page: 0, slot: 0 },
         };
         self.rights = first_denied(self.rights, file_keeps_rights(case, file.ino, body), denied);
         self.listing

@@ -5,6 +5,8 @@ use Rattle.std.specs.Prelude.{◌≡◌, ◌<◌, ℕ, ◌⊎◌, List, ◌∷�
 use Rattle.std.specs.List.{flat_map}
 use Rattle.trio_rights.specs.Row.{Row, row_in}
 use Rattle.trio_lists.specs.Lists.{In, is_among}
+use Rattle.trio_layout.specs.declared.refusal.Rule.TheVariants.{Grammar, Owning, Edges, Rights}
+use Rattle.trio_layout.specs.Rule.{rule_number}
 use Rattle.trio_layout.specs.Core.{Location, at_page, nowhere}
 use Rattle.trio_layout.specs.Survey.{Met, numbers}
 use Rattle.trio_layout.specs.Sound.{PageListing}
@@ -83,9 +85,9 @@ BreaksRights c ino place =
 -- the lowest rule that the bundle breaks, with a file and a place at which it does
 abbrev pub Breaks : Case → ℕ → ℕ → Location → Type 0
 Breaks c rule ino place =
-    ((rule ≡ 1) × BreaksGrammar c ino place)
-    ⊎ (((rule ≡ 2) × IsTrue (meets_grammar c) × BreaksOwning c ino place)
-    ⊎ (((rule ≡ 3) × IsTrue (meets_grammar c) × IsTrue (meets_owning c)
+    ((rule ≡ rule_number Grammar) × BreaksGrammar c ino place)
+    ⊎ (((rule ≡ rule_number Owning) × IsTrue (meets_grammar c) × BreaksOwning c ino place)
+    ⊎ (((rule ≡ rule_number Edges) × IsTrue (meets_grammar c) × IsTrue (meets_owning c)
     × BreaksEdges (listing c) c.rows ino × (place ≡ nowhere))
-    ⊎ ((rule ≡ 4) × IsTrue (meets_grammar c) × IsTrue (meets_owning c) × IsTrue (meets_edges (listing c) c.rows)
+    ⊎ ((rule ≡ rule_number Rights) × IsTrue (meets_grammar c) × IsTrue (meets_owning c) × IsTrue (meets_edges (listing c) c.rows)
     × BreaksRights c ino place)))

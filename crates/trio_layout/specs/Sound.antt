@@ -3,6 +3,8 @@ use Rattle.std.specs.Prelude.{ℕ, ◌≡◌, ◌+◌, nat_lt, Bool, ◌&&◌, �
 use Rattle.std.specs.List.{flat_map, list_all}
 use Rattle.trio_rights.specs.Row.{Row}
 use Rattle.trio_lists.specs.Lists.{In, is_among, are_new, tabulated}
+use Rattle.trio_layout.specs.declared.refusal.Rule.TheVariants.{Grammar, Owning}
+use Rattle.trio_layout.specs.Rule.{rule_number}
 use Rattle.trio_layout.specs.Core.{Core, Location, at_page}
 use Rattle.trio_layout.specs.Survey.{Met, Pick, file_of, survey, children, numbers, pages_of, row_of, owner_of}
 
@@ -77,8 +79,8 @@ pub record ListsPageAgain (core : Core) (files : List Met) (ino : ℕ) (place : 
 abbrev pub FailsAt : Core → Pick → ℕ → ℕ → Location → Type 0
 FailsAt core pick rule ino place =
     let files = survey core pick in
-    ((rule ≡ 1) × LeavesGrammar core files ino place)
-    ⊎ ((rule ≡ 2) × IsTrue (are_in_grammar core files)
+    ((rule ≡ rule_number Grammar) × LeavesGrammar core files ino place)
+    ⊎ ((rule ≡ rule_number Owning) × IsTrue (are_in_grammar core files)
     × (ListsNumberAgain core pick files ino place ⊎ ListsPageAgain core files ino place))
 
 -- ---- the tables of a survey

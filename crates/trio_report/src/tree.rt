@@ -9,10 +9,10 @@ ghost use Rattle.trio_report.specs.inner.Nodes.{node_seen, children_of, Visited}
 
 use crate::line::{TreeLine, TreeName};
 use std::alloc::Global;
-use trio_layout::{CoreRange, Superblock};
+use trio_layout::{CoreRange, Location, Superblock};
 use trio_page::{Home, NoMemory, Reads};
 use trio_rights::Kind;
-use trio_survey::file::{EntryRead, FaultPlace, FileParts, MetFile, read_file};
+use trio_survey::file::{EntryRead, FileParts, MetFile, read_file};
 
 /// A file whose line is still to come.
 #[derive(Clone, Copy)]
@@ -76,7 +76,7 @@ impl Unprinted {
     fn visit(
         &self,
         alloc: Global,
-        read: Result<FileParts, FaultPlace>,
+        read: Result<FileParts, Location>,
         last: u32,
         pending: &mut Vec<Unprinted>,
         lines: &mut Vec<TreeLine>,

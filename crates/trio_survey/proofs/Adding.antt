@@ -13,13 +13,12 @@ use Rattle.trio_layout.specs.Entries.{Listed, place_of}
 use Rattle.trio_layout.specs.Survey.{Met, Pick, numbers, first_listed, met_in}
 use Rattle.trio_layout.proofs.QueueLaws.{first_listed-append, among-first_listed}
 use Rattle.trio_lists.proofs.Marked.{MarksJust-set, below_at}
-use Rattle.trio_survey.specs.declared.file.FaultPlace.{FaultPlace}
 use Rattle.trio_survey.specs.declared.blocks.DirEntry.{DirEntry}
-use Rattle.trio_survey.specs.Seen.{place_seen}
 use Rattle.trio_survey.specs.inner.Blocks.{entry_seen}
 use Rattle.trio_survey.specs.inner.Walk.{are_marked, AreMarked, Grows}
 use Rattle.trio_survey.proofs.Naming.{blocks_left}
 use Rattle.trio_survey.proofs.Repeats.{numbers_of, numbers_met, entry_marked, entry_unmarked}
+use Rattle.trio_layout.specs.Core.{Location}
 
 listed_push : (old now ms : List Met) (m : Met) (b : Bool) → now ≡ old ++ first_listed (numbers old) ms → is_among m.ino (numbers now) ≡ b → now ++ cond b [] (m ∷ []) ≡ old ++ first_listed (numbers old) (ms ++ m ∷ [])
 listed_push old now ms m b e among =
@@ -57,7 +56,7 @@ AreMarked-add files marks m h e a =
     }
 
 -- an entry whose number was met
-pub grows_again : (pick : Pick) (d : ℕ) (old now : List Met) (marks : List Bool) (first : Option FaultPlace) (es : List Listed) (e : Listed) (p : FaultPlace) → place_of e ≡ place_seen p → e.entry.ino < length marks → get_or marks e.entry.ino false ≡ true → Grows pick d old now marks first es → Grows pick d old now marks (option_or first (Some p)) (es ++ e ∷ [])
+pub grows_again : (pick : Pick) (d : ℕ) (old now : List Met) (marks : List Bool) (first : Option Location) (es : List Listed) (e : Listed) (p : Location) → place_of e ≡ p → e.entry.ino < length marks → get_or marks e.entry.ino false ≡ true → Grows pick d old now marks first es → Grows pick d old now marks (option_or first (Some p)) (es ++ e ∷ [])
 grows_again pick d old now marks first es e p place l t g =
     let ms : List Met = map (met_in pick d) es in
     let m : Met = met_in pick d e in
@@ -70,7 +69,7 @@ grows_again pick d old now marks first es e p place l t g =
     }
 
 -- and one whose number is new
-pub grows_first : (pick : Pick) (d : ℕ) (old now : List Met) (marks : List Bool) (first : Option FaultPlace) (es : List Listed) (e : Listed) → e.entry.ino < length marks → get_or marks e.entry.ino false ≡ false → Grows pick d old now marks first es → Grows pick d old (now ++ met_in pick d e ∷ []) (set marks e.entry.ino true) first (es ++ e ∷ [])
+pub grows_first : (pick : Pick) (d : ℕ) (old now : List Met) (marks : List Bool) (first : Option Location) (es : List Listed) (e : Listed) → e.entry.ino < length marks → get_or marks e.entry.ino false ≡ false → Grows pick d old now marks first es → Grows pick d old (now ++ met_in pick d e ∷ []) (set marks e.entry.ino true) first (es ++ e ∷ [])
 grows_first pick d old now marks first es e l t g =
     let ms : List Met = map (met_in pick d) es in
     let m : Met = met_in pick d e in
@@ -99,15 +98,15 @@ rest_marked marks es i l h at m =
     let step : drop i es ≡ l ∷ rest = drop-cons es i l h ∙ ap (λ x. x ∷ rest) (sym at) in
     rw s (ap (are_marked marks) step ∙ ap (λ b. b && are_marked marks rest) m)
 
-or_twice : (first : Option FaultPlace) (p q : FaultPlace) → option_or (option_or first (Some p)) (Some q) ≡ option_or first (Some p)
+or_twice : (first : Option Location) (p q : Location) → option_or (option_or first (Some p)) (Some q) ≡ option_or first (Some p)
 or_twice None p q = refl
 or_twice (Some r) p q = refl
 
 -- entries whose numbers were all met, behind one that lists a number again
-grows_rest : (pick : Pick) (d : ℕ) (old now : List Met) (marks : List Bool) (first : Option FaultPlace) (p : FaultPlace) (names : List (List ℕ)) (es : List Listed) (ls : List DirEntry) → all_below (length marks) (map (λ (l : DirEntry). l.ino) ls) ≡ true → are_marked marks ls ≡ true → Grows pick d old now marks (option_or first (Some p)) es → Grows pick d old now marks (option_or first (Some p)) (es ++ map (entry_seen names) ls)
+grows_rest : (pick : Pick) (d : ℕ) (old now : List Met) (marks : List Bool) (first : Option Location) (p : Location) (names : List (List ℕ)) (es : List Listed) (ls : List DirEntry) → all_below (length marks) (map (λ (l : DirEntry). l.ino) ls) ≡ true → are_marked marks ls ≡ true → Grows pick d old now marks (option_or first (Some p)) es → Grows pick d old now marks (option_or first (Some p)) (es ++ map (entry_seen names) ls)
 grows_rest pick d old now marks first p names es [] fit met g = subst (λ xs. Grows pick d old now marks (option_or first (Some p)) xs) (sym (append-nil es)) g
 grows_rest pick d old now marks first p names es (l ∷ ls) fit met g =
-    let q : FaultPlace = record { page = l.page; slot = l.slot } in
+    let q : Location = record { page = l.page; slot = l.slot } in
     let e : Listed = entry_seen names l in
     let here : l.ino < length marks = entry_below (length marks) (l ∷ ls) 0 l (omega arith) refl fit in
     let marked = and_parts (get_or marks l.ino false) (are_marked marks ls) met in
@@ -116,13 +115,13 @@ grows_rest pick d old now marks first p names es (l ∷ ls) fit met g =
     (grows_rest pick d old now marks first p names (es ++ e ∷ []) ls (below_rest (length marks) l ls fit) marked.1 (subst (λ o. Grows pick d old now marks o (es ++ e ∷ [])) (or_twice first p q) more))
 
 -- entries whose numbers were all met
-pub grows_known : (pick : Pick) (d : ℕ) (old now : List Met) (marks : List Bool) (first : Option FaultPlace) (names : List (List ℕ)) (es : List Listed) (ls : List DirEntry) (l : DirEntry) → 0 < length ls → l ≡ get_or ls 0 l → all_below (length marks) (map (λ (x : DirEntry). x.ino) ls) ≡ true → are_marked marks ls ≡ true → Grows pick d old now marks first es → Grows pick d old now marks (option_or first (Some (record { page = l.page; slot = l.slot }))) (es ++ map (entry_seen names) ls)
+pub grows_known : (pick : Pick) (d : ℕ) (old now : List Met) (marks : List Bool) (first : Option Location) (names : List (List ℕ)) (es : List Listed) (ls : List DirEntry) (l : DirEntry) → 0 < length ls → l ≡ get_or ls 0 l → all_below (length marks) (map (λ (x : DirEntry). x.ino) ls) ≡ true → are_marked marks ls ≡ true → Grows pick d old now marks first es → Grows pick d old now marks (option_or first (Some (record { page = l.page; slot = l.slot }))) (es ++ map (entry_seen names) ls)
 grows_known pick d old now marks first names es [] l some at fit met g = absurd (none some)
   where
     none : 0 < 0 → ⊥
     none h = omega arith
 grows_known pick d old now marks first names es (x ∷ xs) l some at fit met g =
-    let p : DirEntry → FaultPlace = λ y. record { page = y.page; slot = y.slot } in
+    let p : DirEntry → Location = λ y. record { page = y.page; slot = y.slot } in
     let e : Listed = entry_seen names x in
     let here : x.ino < length marks = entry_below (length marks) (x ∷ xs) 0 x (omega arith) refl fit in
     let marked = and_parts (get_or marks x.ino false) (are_marked marks xs) met in

@@ -8,16 +8,16 @@ use Rattle.std.proofs.lemmas.List.{get_or-set_same, get_or-set_other, length-set
 use Rattle.trio_layout.specs.declared.range.CoreRange.{CoreRange}
 use Rattle.trio_layout.specs.Range.{core_count, is_core}
 use Rattle.trio_layout.specs.Entries.{page_entries}
-use Rattle.trio_survey.specs.Seen.{core_with, place_seen}
-use Rattle.trio_survey.specs.declared.file.FaultPlace.{FaultPlace}
+use Rattle.trio_survey.specs.Seen.{core_with}
 use Rattle.trio_survey.specs.declared.blocks.DirEntry.{DirEntry}
 use Rattle.trio_survey.specs.declared.blocks.KeptBlocks.{KeptBlocks}
 use Rattle.trio_survey.specs.declared.blocks.Span.{Span}
 use Rattle.trio_survey.specs.inner.Blocks.{block_kept, entries_kept, GoesOn, HasParts, IsGood, IsPart, SaysBlock, SaysBlocks, StaysRead}
 use Rattle.trio_survey.proofs.KeptLists.{behind, part_seen, part_stays}
+use Rattle.trio_layout.specs.Core.{Location}
 
 abbrev Read : Type 0
-Read = Result Span FaultPlace
+Read = Result Span Location
 
 abbrev Pages : Type 0
 Pages = List (Option (List ℕ))
@@ -186,5 +186,5 @@ good_lists pages range inodes kept page h good =
     good_entries pages range inodes kept page (block_kept range kept.read.items page) good.0 refl good.1 (h page)
 
 -- a block that was read and is bad
-pub bad_says : (pages : Pages) (range : CoreRange) (inodes : ℕ) (kept : KeptBlocks) (page : ℕ) (p : FaultPlace) → SaysBlocks pages range inodes kept → block_kept range kept.read.items page ≡ Some (Err p) → page_entries (core_with pages range inodes) page ≡ Err (place_seen p)
+pub bad_says : (pages : Pages) (range : CoreRange) (inodes : ℕ) (kept : KeptBlocks) (page : ℕ) (p : Location) → SaysBlocks pages range inodes kept → block_kept range kept.read.items page ≡ Some (Err p) → page_entries (core_with pages range inodes) page ≡ Err p
 bad_says pages range inodes kept page p h e = rw e at (h page)

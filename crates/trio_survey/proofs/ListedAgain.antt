@@ -20,13 +20,13 @@ use Rattle.trio_layout.specs.Entries.{Listed, entries_of_kind}
 use Rattle.trio_layout.specs.Survey.{Met, FileRead, Pick, children, children_in, file_of, file_with, first_listed, met_in, numbers, pages_in, pages_of, root_of, row_by}
 use Rattle.trio_layout.specs.Sound.{listed_numbers, listed_pages}
 use Rattle.trio_survey.specs.declared.again.Heads.{Heads}
-use Rattle.trio_survey.specs.declared.walk.Repeated.{Repeated}
 use Rattle.trio_survey.specs.inner.Again.{heads_after, heads_of, IsListedBefore, KnowsAllHeads, KnowsHeads, WasPassed}
 use Rattle.trio_survey.specs.inner.Walk.{Stands, Tabled}
 use Rattle.trio_survey.proofs.Fits.{file_within}
 use Rattle.trio_survey.proofs.Repeats.{numbers_met, numbers_of, repeat_not_new, repeats_keep}
 use Rattle.trio_survey.proofs.Standing.{stands_more}
 use Rattle.trio_survey.proofs.Tables.{next_is_new, tabled_by}
+use Rattle.trio_layout.specs.declared.refusal.FaultAt.{FaultAt}
 
 -- ---- where the chains of passed files begin
 
@@ -147,7 +147,7 @@ or_known true b h = refl
 or_known false true h = h refl
 or_known false false h = refl
 
-module _ (core : Core) (pick : Pick) (i : ℕ) (files : List Met) (marks used : List Bool) (r : Repeated) (heads : List ℕ) (m : Met) (b : Body) (inside : i < length files) (at : get_or files i m ≡ m) (s : Stands core pick i files marks used (Some r)) (knows : KnowsHeads core (take i files) m.kind heads) (listed : IsListedBefore core.range heads m b) where
+module _ (core : Core) (pick : Pick) (i : ℕ) (files : List Met) (marks used : List Bool) (r : FaultAt) (heads : List ℕ) (m : Met) (b : Body) (inside : i < length files) (at : get_or files i m ≡ m) (s : Stands core pick i files marks used (Some r)) (knows : KnowsHeads core (take i files) m.kind heads) (listed : IsListedBefore core.range heads m b) where
   abbrev done : List Met
   done = take i files
 
@@ -198,7 +198,7 @@ module _ (core : Core) (pick : Pick) (i : ℕ) (files : List Met) (marks used : 
       let within = file_within core m f read in
       stands_more core pick i files files marks marks used used (Some r) (Some r) m f inside at read refl refl
       (record { pages = pages_marked; added = none_added; marked = s.marked; fit = within.numbers_below; some = within.numbers_some })
-      (repeats_keep core pick done (m ∷ []) r.ino (record { page = r.page; slot = r.slot }) s.once) s
+      (repeats_keep core pick done (m ∷ []) r.ino r.place s.once) s
 
   -- a page comes twice
   not_new : are_new [] (listed_pages core (done ++ m ∷ [])) ≡ false

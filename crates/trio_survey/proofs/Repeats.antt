@@ -11,10 +11,8 @@ use Rattle.trio_layout.specs.Entries.{Listed, place_of}
 use Rattle.trio_layout.specs.Survey.{Met, FileRead, Pick, file_of, children, children_in, met_in, numbers, pages_of, pages_in, survey}
 use Rattle.trio_layout.specs.Sound.{are_in_grammar, are_listed_once, is_sound, listings, listed_numbers, listed_pages, page_listings, PageListing, FailsAt, ListsNumberAgain, ListsPageAgain}
 use Rattle.trio_lists.proofs.Marked.{is_among-append, are_new-append, are_new-push, and-false}
-use Rattle.trio_survey.specs.declared.file.FaultPlace.{FaultPlace}
-use Rattle.trio_survey.specs.declared.walk.Repeated.{Repeated}
-use Rattle.trio_survey.specs.Seen.{place_seen}
 use Rattle.trio_survey.specs.inner.Walk.{Repeats, RepeatsEntry, FirstRepeat, FirstEntry, RepeatsAt, IsFirstRepeat, file_repeat}
+use Rattle.trio_layout.specs.declared.refusal.FaultAt.{FaultAt}
 
 -- ---- numbers
 
@@ -73,18 +71,18 @@ entry_more before es e place r = record {
   seen = r.seen;
 }
 
-pub entry_marked : (before : List ℕ) (es : List Listed) (e : Listed) (p : FaultPlace) (first : Option FaultPlace) → place_of e ≡ place_seen p → is_among e.entry.ino (before ++ numbers_of es) ≡ true → FirstEntry before es first → FirstEntry before (es ++ e ∷ []) (option_or first (Some p))
+pub entry_marked : (before : List ℕ) (es : List Listed) (e : Listed) (p : Location) (first : Option Location) → place_of e ≡ p → is_among e.entry.ino (before ++ numbers_of es) ≡ true → FirstEntry before es first → FirstEntry before (es ++ e ∷ []) (option_or first (Some p))
 entry_marked before es e p None at a h =
     record { earlier = es; again = e; later = []; order = refl; place_is = at; seen = a }
-entry_marked before es e p (Some q) at a h = entry_more before es e (place_seen q) h
+entry_marked before es e p (Some q) at a h = entry_more before es e q h
 
-pub entry_unmarked : (before : List ℕ) (es : List Listed) (e : Listed) (first : Option FaultPlace) → is_among e.entry.ino (before ++ numbers_of es) ≡ false → FirstEntry before es first → FirstEntry before (es ++ e ∷ []) first
+pub entry_unmarked : (before : List ℕ) (es : List Listed) (e : Listed) (first : Option Location) → is_among e.entry.ino (before ++ numbers_of es) ≡ false → FirstEntry before es first → FirstEntry before (es ++ e ∷ []) first
 entry_unmarked before es e None a h =
     ap (are_new before) (map-append (λ (l : Listed). l.entry.ino) es (e ∷ []))
     ∙ are_new-push before (numbers_of es) e.entry.ino
     ∙ ap (λ b. are_new before (numbers_of es) && not b) a
     ∙ ap (λ b. b && true) h
-entry_unmarked before es e (Some q) a h = entry_more before es e (place_seen q) h
+entry_unmarked before es e (Some q) a h = entry_more before es e q h
 
 -- ---- files
 
@@ -194,9 +192,9 @@ entry_repeats core pick done m f before place read same r =
     }
 
 -- the first repeat of a file more
-pub first_repeat : (core : Core) (pick : Pick) (done : List Met) (m : Met) (f : FileRead) (before : List ℕ) (twice : Option Repeated) (a b : Option ℕ) (c : Option FaultPlace) → file_of core m ≡ Ok f → ((n : ℕ) → is_among n before ≡ is_among n (1 ∷ listed_numbers core pick done)) → FirstRepeat (listed_pages core done) f.chain.index a → FirstRepeat (listed_pages core done ++ f.chain.index) f.chain.blocks b → FirstEntry before f.entries c → IsFirstRepeat core pick done twice → IsFirstRepeat core pick (done ++ m ∷ []) (option_or twice (file_repeat m.ino a b c))
+pub first_repeat : (core : Core) (pick : Pick) (done : List Met) (m : Met) (f : FileRead) (before : List ℕ) (twice : Option FaultAt) (a b : Option ℕ) (c : Option Location) → file_of core m ≡ Ok f → ((n : ℕ) → is_among n before ≡ is_among n (1 ∷ listed_numbers core pick done)) → FirstRepeat (listed_pages core done) f.chain.index a → FirstRepeat (listed_pages core done ++ f.chain.index) f.chain.blocks b → FirstEntry before f.entries c → IsFirstRepeat core pick done twice → IsFirstRepeat core pick (done ++ m ∷ []) (option_or twice (file_repeat m.ino a b c))
 first_repeat core pick done m f before (Some r) a b c read same x y z once =
-    repeats_keep core pick done (m ∷ []) r.ino (record { page = r.page; slot = r.slot }) once
+    repeats_keep core pick done (m ∷ []) r.ino r.place once
 first_repeat core pick done m f before None (Some n) b c read same x y z once =
     let pages_are : pages_of core m ≡ f.chain.index ++ f.chain.blocks = ap pages_in read in
     inr (page_repeats core done m n (rw pages_are (repeats_more (listed_pages core done) f.chain.index n f.chain.blocks x)))
@@ -204,7 +202,7 @@ first_repeat core pick done m f before None None (Some n) c read same x y z once
     let pages_are : pages_of core m ≡ f.chain.index ++ f.chain.blocks = ap pages_in read in
     inr (page_repeats core done m n (rw pages_are (repeats_behind (listed_pages core done) f.chain.index f.chain.blocks n y)))
 first_repeat core pick done m f before None None None (Some p) read same x y z once =
-    inl (entry_repeats core pick done m f before (place_seen p) read same z)
+    inl (entry_repeats core pick done m f before p read same z)
 first_repeat core pick done m f before None None None None read same x y z once =
     let L : List ℕ = listed_numbers core pick done in
     let P : List ℕ = listed_pages core done in

@@ -15,8 +15,6 @@ use Rattle.trio_layout.specs.Survey.{Met, FileRead, file_of, first_listed, numbe
 use Rattle.trio_layout.specs.Sound.{IsSound, are_in_grammar, are_listed_once, listed_numbers, listed_pages, rows_table, owners_table, FailsAt}
 use Rattle.trio_layout.proofs.QueueLaws.{files_are_levels, waiting_is_met, among-first_listed}
 use Rattle.trio_lists.proofs.Marked.{is_among-append}
-use Rattle.trio_survey.specs.declared.file.FaultPlace.{FaultPlace}
-use Rattle.trio_survey.specs.declared.walk.Repeated.{Repeated}
 use Rattle.trio_survey.specs.declared.fault.SurveyFault.{SurveyFault}
 use Rattle.trio_survey.specs.declared.fault.SurveyFault.TheVariants.{Fails, NoMemory}
 use Rattle.trio_survey.specs.Answer.{IsRefused}
@@ -24,13 +22,16 @@ use Rattle.trio_survey.specs.Within.{all_some}
 use Rattle.trio_survey.specs.inner.Walk.{AreMarked, FirstRepeat, FirstEntry, IsFault, IsFirstRepeat, Stands, Tabled, file_repeat}
 use Rattle.trio_survey.proofs.Repeats.{fails_unsound, first_repeat, numbers_of, numbers_met}
 use Rattle.trio_survey.proofs.Tables.{all_first, owners_are, rows_are}
+use Rattle.trio_layout.specs.declared.refusal.FaultAt.{FaultAt}
+use Rattle.trio_layout.specs.declared.refusal.Rule.TheVariants.{Grammar, Owning}
+use Rattle.trio_layout.specs.Rule.{rule_number}
 
-few_files : (core : Core) (pick : Pick) (i : ℕ) (files : List Met) (marks used : List Bool) (twice : Option Repeated) → Stands core pick i files marks used twice → length files ≤ core.inodes + 1
+few_files : (core : Core) (pick : Pick) (i : ℕ) (files : List Met) (marks used : List Bool) (twice : Option FaultAt) → Stands core pick i files marks used twice → length files ≤ core.inodes + 1
 few_files core pick i files marks used twice s =
     omega (arith, s.marked.counted, s.many_marks, count_by-le-length (λ (b : Bool). b) marks)
 
 -- a walk that passes a file further is nearer to its end
-pub walk_ends : (core : Core) (pick : Pick) (i : ℕ) (files : List Met) (marks used : List Bool) (twice : Option Repeated) → Stands core pick i files marks used twice → i ≤ core.inodes + 1
+pub walk_ends : (core : Core) (pick : Pick) (i : ℕ) (files : List Met) (marks used : List Bool) (twice : Option FaultAt) → Stands core pick i files marks used twice → i ≤ core.inodes + 1
 walk_ends core pick i files marks used twice s = omega (arith, few_files core pick i files marks used twice s, s.inside)
 
 in_at : {X : Type 0} (xs : List X) (i : ℕ) (x : X) → i < length xs → get_or xs i x ≡ x → In x xs
@@ -39,7 +40,7 @@ in_at (y ∷ ys) zero x h e = inl (sym e)
 in_at (y ∷ ys) (suc i) x h e = inr (in_at ys i x (omega arith) e)
 
 -- a file that can't be read
-pub file_fails : (core : Core) (pick : Pick) (i : ℕ) (files : List Met) (marks used : List Bool) (twice : Option Repeated) (m : Met) (place : Location) → Stands core pick i files marks used twice → i < length files → get_or files i m ≡ m → file_of core m ≡ Err place → FailsAt core pick 1 m.ino place
+pub file_fails : (core : Core) (pick : Pick) (i : ℕ) (files : List Met) (marks used : List Bool) (twice : Option FaultAt) (m : Met) (place : Location) → Stands core pick i files marks used twice → i < length files → get_or files i m ≡ m → file_of core m ≡ Err place → FailsAt core pick (rule_number Grammar) m.ino place
 unfolding survey
 file_fails core pick i files marks used twice m place s h at bad =
     let few : length files ≤ suc core.inodes = omega (arith, few_files core pick i files marks used twice s) in
@@ -47,7 +48,7 @@ file_fails core pick i files marks used twice m place s h at bad =
     inl (refl, record { met = m; among = in_at (survey core pick) i m met.0 (met.1 m ∙ at); number = refl; fault = bad })
 
 -- when no file is left
-survey_is : (core : Core) (pick : Pick) (i : ℕ) (files : List Met) (marks used : List Bool) (twice : Option Repeated) → Stands core pick i files marks used twice → length files ≤ i → survey core pick ≡ files
+survey_is : (core : Core) (pick : Pick) (i : ℕ) (files : List Met) (marks used : List Bool) (twice : Option FaultAt) → Stands core pick i files marks used twice → length files ≤ i → survey core pick ≡ files
 unfolding survey
 survey_is core pick i files marks used twice s h =
     let few : i ≤ suc core.inodes = omega (arith, walk_ends core pick i files marks used twice s) in
@@ -62,7 +63,7 @@ pub record Visited (core : Core) (pick : Pick) (m : Met) (f : FileRead) (files f
   pub fit : all_below (core.inodes + 1) (numbers_of f.entries) ≡ true
   pub some : all_some (numbers_of f.entries) ≡ true
 
-pub stands_more : (core : Core) (pick : Pick) (i : ℕ) (files files' : List Met) (marks marks' used used' : List Bool) (twice twice' : Option Repeated) (m : Met) (f : FileRead) → i < length files → get_or files i m ≡ m → file_of core m ≡ Ok f → length marks' ≡ length marks → length used' ≡ length used → Visited core pick m f files files' marks' used used' → IsFirstRepeat core pick (take i files ++ m ∷ []) twice' → Stands core pick i files marks used twice → Stands core pick (i + 1) files' marks' used' twice'
+pub stands_more : (core : Core) (pick : Pick) (i : ℕ) (files files' : List Met) (marks marks' used used' : List Bool) (twice twice' : Option FaultAt) (m : Met) (f : FileRead) → i < length files → get_or files i m ≡ m → file_of core m ≡ Ok f → length marks' ≡ length marks → length used' ≡ length used → Visited core pick m f files files' marks' used used' → IsFirstRepeat core pick (take i files ++ m ∷ []) twice' → Stands core pick i files marks used twice → Stands core pick (i + 1) files' marks' used' twice'
 stands_more core pick i files files' marks marks' used used' twice twice' m f h at read lm lu v again s =
     let done : List Met = take i files in
     let left : List Met = drop (i + 1) files in
@@ -122,26 +123,23 @@ stands_more core pick i files files' marks marks' used used' twice twice' m f h 
     }
 
 -- what a file lists again for the first time
-pub repeat_more : (core : Core) (pick : Pick) (i : ℕ) (files : List Met) (marks used : List Bool) (twice : Option Repeated) (m : Met) (f : FileRead) (a b : Option ℕ) (c : Option FaultPlace) → file_of core m ≡ Ok f → ((before : List ℕ) → MarksJust used before → FirstRepeat before f.chain.index a) → ((before : List ℕ) → MarksJust used before → FirstRepeat (before ++ f.chain.index) f.chain.blocks b) → FirstEntry (numbers files) f.entries c → Stands core pick i files marks used twice → IsFirstRepeat core pick (take i files ++ m ∷ []) (option_or twice (file_repeat m.ino a b c))
+pub repeat_more : (core : Core) (pick : Pick) (i : ℕ) (files : List Met) (marks used : List Bool) (twice : Option FaultAt) (m : Met) (f : FileRead) (a b : Option ℕ) (c : Option Location) → file_of core m ≡ Ok f → ((before : List ℕ) → MarksJust used before → FirstRepeat before f.chain.index a) → ((before : List ℕ) → MarksJust used before → FirstRepeat (before ++ f.chain.index) f.chain.blocks b) → FirstEntry (numbers files) f.entries c → Stands core pick i files marks used twice → IsFirstRepeat core pick (take i files ++ m ∷ []) (option_or twice (file_repeat m.ino a b c))
 repeat_more core pick i files marks used twice m f a b c read index block entry s =
     let P : List ℕ = listed_pages core (take i files) in
     first_repeat core pick (take i files) m f (numbers files) twice a b c read s.same (index P s.pages) (block P s.pages) entry s.once
 
 -- when no file is left, the files passed are all files of the survey
-all_passed : (core : Core) (pick : Pick) (i : ℕ) (files : List Met) (marks used : List Bool) (twice : Option Repeated) → Stands core pick i files marks used twice → length files ≤ i → take i files ≡ survey core pick
+all_passed : (core : Core) (pick : Pick) (i : ℕ) (files : List Met) (marks used : List Bool) (twice : Option FaultAt) → Stands core pick i files marks used twice → length files ≤ i → take i files ≡ survey core pick
 all_passed core pick i files marks used twice s h = take_all i files h ∙ sym (survey_is core pick i files marks used twice s h)
-
-pub fails_second : (core : Core) (pick : Pick) (i : ℕ) (files : List Met) (marks used : List Bool) (r : Repeated) → Stands core pick i files marks used (Some r) → length files ≤ i → FailsAt core pick 2 r.ino (record { page = r.page; slot = r.slot })
-fails_second core pick i files marks used r s h =
-    let all = all_passed core pick i files marks used (Some r) s h in
-    inr (refl, ap (are_in_grammar core) (sym all) ∙ s.good, rw all at s.once)
 
 pub refused : (core : Core) (pick : Pick) (e : SurveyFault) → IsFault core pick e → IsRefused core pick e
 refused core pick (Fails rule ino page slot) f = (fails_unsound core pick rule ino (record { page = page; slot = slot }) f, f)
 refused core pick NoMemory f = tt
 
-pub second_refused : (core : Core) (pick : Pick) (r : Repeated) → FailsAt core pick 2 r.ino (record { page = r.page; slot = r.slot }) → IsRefused core pick (Fails 2 r.ino r.page r.slot)
-second_refused core pick r f = refused core pick (Fails 2 r.ino r.page r.slot) f
+pub second_refused : (core : Core) (pick : Pick) (i : ℕ) (files : List Met) (marks used : List Bool) (r : FaultAt) → Stands core pick i files marks used (Some r) → length files ≤ i → IsRefused core pick (Fails (rule_number Owning) r.ino r.place.page r.place.slot)
+second_refused core pick i files marks used r s h =
+    let all = all_passed core pick i files marks used (Some r) s h in
+    refused core pick (Fails (rule_number Owning) r.ino r.place.page r.place.slot) (inr (refl, ap (are_in_grammar core) (sym all) ∙ s.good, rw all at s.once))
 
 -- the survey is sound, and the tables are those of its files
 pub record IsWhole (core : Core) (pick : Pick) (owners : List ℕ) (rows : List (Option Row)) : Type 0 where

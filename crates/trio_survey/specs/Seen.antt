@@ -1,5 +1,6 @@
 -- How what the code holds is seen by the definitions of a survey.
-use Rattle.std.specs.Prelude.{ℕ, List, [], map, Option, Result, Ok, Err}
+use Rattle.std.specs.Prelude.{ℕ, List, [], map, Option, Result}
+use Rattle.trio_lists.specs.Lists.{result_map}
 use Rattle.trio_layout.specs.declared.range.CoreRange.{CoreRange}
 use Rattle.trio_layout.specs.Core.{Core, Location}
 use Rattle.trio_layout.specs.Chain.{Chain}
@@ -8,7 +9,6 @@ use Rattle.trio_layout.specs.Survey.{Met, FileRead}
 use Rattle.trio_survey.specs.declared.chain.ChainParts.{ChainParts}
 use Rattle.trio_survey.specs.declared.file.MetFile.{MetFile}
 use Rattle.trio_survey.specs.declared.file.EntryRead.{EntryRead}
-use Rattle.trio_survey.specs.declared.file.FaultPlace.{FaultPlace}
 use Rattle.trio_survey.specs.declared.file.FileParts.{FileParts}
 
 -- A core of these pages. Of the root, whose body a file that is met brings along, it says nothing.
@@ -23,10 +23,6 @@ met_seen m = record { ino = m.ino; kind = m.kind; parent = m.parent; page = m.pa
 abbrev pub listed_seen : EntryRead → Listed
 listed_seen l = record { entry = l.entry; page = l.page; slot = l.slot; body = l.body }
 
--- a place
-abbrev pub place_seen : FaultPlace → Location
-place_seen p = record { page = p.page; slot = p.slot }
-
 -- what a file says
 abbrev pub file_seen : FileParts → FileRead
 file_seen f = record {
@@ -39,11 +35,6 @@ file_seen f = record {
 abbrev pub chain_seen : ChainParts → Chain
 chain_seen c = record { index = c.index.items; blocks = c.blocks.items }
 
--- an answer, with what it holds as it is seen, or the place of the fault
-abbrev pub result_seen : {X Y : Type 0} → (X → Y) → Result X FaultPlace → Result Y Location
-result_seen f (Ok x) = Ok (f x)
-result_seen f (Err p) = Err (place_seen p)
-
 -- what reading a file answers
-abbrev pub read_seen : Result FileParts FaultPlace → Result FileRead Location
-read_seen r = result_seen file_seen r
+abbrev pub read_seen : Result FileParts Location → Result FileRead Location
+read_seen r = result_map file_seen r

@@ -2,7 +2,9 @@
 use Rattle.std.specs.Prelude.{◌≡◌, ◌≢◌, ℕ, ◌+◌, ◌<◌, ◌⊎◌, List, Option, None, MatchOption, slice_index_or, ⊤}
 use Rattle.std.specs.Option.{option_and_then}
 use Rattle.trio_rights.specs.Row.{Row}
+use Rattle.trio_layout.specs.declared.refusal.Rule.TheVariants.{Tables}
 use Rattle.trio_layout.specs.declared.superblock.Superblock.{Superblock}
+use Rattle.trio_layout.specs.Rule.{rule_number}
 use Rattle.trio_layout.specs.Superblock.{superblock_of}
 use Rattle.trio_layout.specs.Core.{Location, nowhere}
 use Rattle.trio_layout.specs.Survey.{plain}
@@ -54,11 +56,11 @@ TablesFailAt s pages rows owners ino place =
     ⊎ ((ino ≡ 0) × (place.slot ≡ 0) × OwnerStoredOtherwise s pages owners place.page)
     ⊎ ((ino ≡ 0) × (place ≡ nowhere) × (ShadowPageFails s pages rows ⊎ OwnerPageFails s pages owners))
 
--- The lowest rule that fails of an image, and where: 1 or 2 of its survey, or 5, the stored tables of a sound one.
+-- The lowest rule that fails of an image, and where: I1 or I2 of its survey, or the stored tables of a sound one.
 abbrev pub ImageFailsAt : Superblock → List (Option (List ℕ)) → ℕ → ℕ → Location → Type 0
 ImageFailsAt s pages rule ino place =
     FailsAt (core_in s pages) plain rule ino place
-    ⊎ ((rule ≡ 5) × IsSound (core_in s pages) plain
+    ⊎ ((rule ≡ rule_number Tables) × IsSound (core_in s pages) plain
     × TablesFailAt s pages (image_in s pages).rows (image_in s pages).owners ino place)
 
 -- The pages don't verify: the rule is the lowest that fails, and fails at this file and place. Want of memory says nothing.

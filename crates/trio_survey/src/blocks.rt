@@ -9,11 +9,11 @@ ghost use Rattle.trio_survey.specs.Seen.{core_with, listed_seen};
 ghost use Rattle.trio_survey.specs.inner.Blocks.{block_kept, entries_kept, entry_seen, part, AreNamed, BlockAnswer, GoesOn, HasNumbers, HasParts, IsPart, SaysBlocks, StaysRead};
 
 use crate::entries::add_page_entries;
-use crate::file::{EntryRead, FaultPlace};
+use crate::file::EntryRead;
 use crate::names::KeptNames;
 use std::alloc::Global;
 use std::marker::Model;
-use trio_layout::{CoreRange, EntryPart};
+use trio_layout::{CoreRange, EntryPart, Location};
 use trio_page::{NoMemory, Page};
 use trio_rights::Kind;
 
@@ -22,7 +22,7 @@ use trio_rights::Kind;
 pub(crate) struct KeptBlocks {
     /// By the place of a page among the core pages, its entries among those that are kept, or its
     /// first bad slot. `None`: it wasn't read as a directory block.
-    pub read: Vec<Option<Result<Span, FaultPlace>>>,
+    pub read: Vec<Option<Result<Span, Location>>>,
     pub entries: Vec<DirEntry>,
     pub names: KeptNames,
 }
@@ -93,7 +93,7 @@ impl KeptBlocks {
 
     /// What a page says as a directory block. `None` where it wasn't read as one, or isn't a core
     /// page.
-    pub fn find(&self, range: CoreRange, page: u32) -> Option<Result<Span, FaultPlace>>
+    pub fn find(&self, range: CoreRange, page: u32) -> Option<Result<Span, Location>>
         ensures { result ≡ block_kept range self.now.read.items page }
     {
         if !range.has(u64::from(page)) {
@@ -124,7 +124,7 @@ impl KeptBlocks {
         inodes: u32,
         no: u32,
         page: &Page,
-    ) -> Result<Result<(), FaultPlace>, NoMemory>
+    ) -> Result<Result<(), Location>, NoMemory>
         requires core { is_core range no ≡ true }
         requires unread { block_kept range self.old.read.items no ≡ None }
         requires parts { HasParts range self.old }
@@ -149,7 +149,7 @@ impl KeptBlocks {
         }
     }
 
-    fn set(&mut self, range: CoreRange, no: u32, read: Result<Span, FaultPlace>)
+    fn set(&mut self, range: CoreRange, no: u32, read: Result<Span, Location>)
         requires core { is_core range no ≡ true }
         requires parts { HasParts range self.old }
         ensures { self.new ≡ record self.old { read = with_item self.old.read (no - range.first) (Some read) } }

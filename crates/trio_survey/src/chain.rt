@@ -4,14 +4,14 @@ ghost use Rattle.std.specs.Prelude.{◌≡◌, ◌+◌, ◌≤◌, ℕ, IfOk};
 ghost use Rattle.trio_layout.specs.Chain.{chain_of};
 ghost use Rattle.trio_layout.specs.Index.{index_of};
 ghost use Rattle.trio_layout.specs.Range.{core_count};
-ghost use Rattle.trio_survey.specs.Seen.{chain_seen, core_with, result_seen};
+ghost use Rattle.trio_survey.specs.Seen.{chain_seen, core_with};
 ghost use Rattle.trio_survey.specs.inner.Kept.{kept_count, Keeps};
 ghost use Rattle.trio_survey.specs.inner.Steps.{AppendsIndex};
+ghost use Rattle.trio_lists.specs.Lists.{result_map};
 
-use crate::file::FaultPlace;
 use crate::kept::KeptPages;
 use std::alloc::Global;
-use trio_layout::{Body, CoreRange, IndexPage};
+use trio_layout::{Body, CoreRange, IndexPage, Location};
 use trio_page::{Home, NoMemory, Page, Reads};
 
 /// The index pages and blocks of a file, by number.
@@ -30,9 +30,9 @@ pub fn read_chain(
     range: CoreRange,
     body: &Body,
     reads: &mut Reads,
-) -> Result<Result<ChainParts, FaultPlace>, NoMemory>
+) -> Result<Result<ChainParts, Location>, NoMemory>
     ensures pages { home.new.pages ≡ home.old.pages }
-    ensures chain { (inodes : ℕ) → IfOk result (λ r. result_seen chain_seen r ≡ chain_of (core_with home.old.pages range inodes) body.now) }
+    ensures chain { (inodes : ℕ) → IfOk result (λ r. result_map chain_seen r ≡ chain_of (core_with home.old.pages range inodes) body.now) }
     ensures reads { reads.new ≤ reads.old + core_count range }
     ensures looked { home.new.looked ≤ home.old.looked + core_count range }
 {
@@ -48,11 +48,11 @@ pub(crate) fn read_chain_kept(
     body: &Body,
     kept: &mut KeptPages,
     reads: &mut Reads,
-) -> Result<Result<ChainParts, FaultPlace>, NoMemory>
+) -> Result<Result<ChainParts, Location>, NoMemory>
     requires keeps { Keeps range home.old.pages kept.old.pages.items }
     ensures pages { home.new.pages ≡ home.old.pages }
     ensures keeps { Keeps range home.old.pages kept.new.pages.items }
-    ensures chain { (inodes : ℕ) → IfOk result (λ r. result_seen chain_seen r ≡ chain_of (core_with home.old.pages range inodes) body.now) }
+    ensures chain { (inodes : ℕ) → IfOk result (λ r. result_map chain_seen r ≡ chain_of (core_with home.old.pages range inodes) body.now) }
     ensures looks { reads.new + kept_count kept.old.pages.items ≤ reads.old + kept_count kept.new.pages.items }
     ensures looked { home.new.looked + kept_count kept.old.pages.items ≤ home.old.looked + kept_count kept.new.pages.items }
 {
@@ -61,7 +61,7 @@ pub(crate) fn read_chain_kept(
     let mut left = body.blocks();
     let mut at = body.head;
     while left > 0 {
-        let fault = FaultPlace { page: at, slot: 0 };
+        let fault = Location { page: at, slot: 0 };
         kept.look(alloc, home, range, at, reads)?;
         let Some(page) = kept.page(range, at) else {
             return Ok(Err(fault));

@@ -3,17 +3,17 @@
 ghost use Rattle.std.specs.Prelude.{◌≡◌, ◌+◌, ◌<◌, ◌≤◌, IfOk, OnOk, map, drop, if◌then◌else◌};
 ghost use Rattle.std.specs.List.{flat_map};
 ghost use Rattle.trio_layout.specs.Entries.{listed_at, slot_bytes, entries_on, entries_of, page_entries};
-ghost use Rattle.trio_lists.specs.Lists.{both, gathered};
+ghost use Rattle.trio_lists.specs.Lists.{both, gathered, result_map};
 ghost use Rattle.trio_layout.specs.Slot.{slot_of};
-ghost use Rattle.trio_survey.specs.Seen.{core_with, listed_seen, result_seen};
+ghost use Rattle.trio_survey.specs.Seen.{core_with, listed_seen};
 ghost use Rattle.trio_survey.specs.inner.Blocks.{entries_kept, BlockAnswer, HasParts, SaysBlocks, StaysRead};
 ghost use Rattle.trio_survey.specs.inner.Kept.{kept_count, Keeps};
 
-use crate::file::{EntryRead, FaultPlace};
+use crate::file::EntryRead;
 use crate::kept::Kept;
 use crate::names::repeated_name;
 use std::alloc::Global;
-use trio_layout::{CoreRange, Slot, SlotRead};
+use trio_layout::{CoreRange, Location, Slot, SlotRead};
 use trio_page::{Home, NoMemory, Page, Reads};
 
 /// Reads the entries of a directory of these blocks, or finds the first place that keeps them from
@@ -26,7 +26,7 @@ pub(crate) fn read_directory(
     blocks: &[u32],
     kept: &mut Kept,
     reads: &mut Reads,
-) -> Result<Result<(), FaultPlace>, NoMemory>
+) -> Result<Result<(), Location>, NoMemory>
     requires keeps { Keeps range home.old.pages kept.old.pages.pages.items }
     requires parts { HasParts range kept.old.blocks }
     requires says { SaysBlocks home.old.pages range inodes kept.old.blocks }
@@ -36,7 +36,7 @@ pub(crate) fn read_directory(
     ensures says { OnOk result (SaysBlocks home.old.pages range inodes kept.new.blocks) }
     ensures looks { reads.new + kept_count kept.old.pages.pages.items ≤ reads.old + kept_count kept.new.pages.pages.items }
     ensures looked { home.new.looked + kept_count kept.old.pages.pages.items ≤ home.old.looked + kept_count kept.new.pages.pages.items }
-    ensures entries { IfOk result (λ r. result_seen (λ _. flat_map (entries_kept range kept.new.blocks) blocks.now) r ≡ entries_of (core_with home.old.pages range inodes) blocks.now) }
+    ensures entries { IfOk result (λ r. result_map (λ _. flat_map (entries_kept range kept.new.blocks) blocks.now) r ≡ entries_of (core_with home.old.pages range inodes) blocks.now) }
 {
     if let Err(place) = read_entries(alloc, home, range, inodes, blocks, kept, reads)? {
         return Ok(Err(place));
@@ -57,7 +57,7 @@ fn read_entries(
     blocks: &[u32],
     kept: &mut Kept,
     reads: &mut Reads,
-) -> Result<Result<(), FaultPlace>, NoMemory>
+) -> Result<Result<(), Location>, NoMemory>
     requires keeps { Keeps range home.old.pages kept.old.pages.pages.items }
     requires parts { HasParts range kept.old.blocks }
     requires says { SaysBlocks home.old.pages range inodes kept.old.blocks }
@@ -67,7 +67,7 @@ fn read_entries(
     ensures says { OnOk result (SaysBlocks home.old.pages range inodes kept.new.blocks) }
     ensures looks { reads.new + kept_count kept.old.pages.pages.items ≤ reads.old + kept_count kept.new.pages.pages.items }
     ensures looked { home.new.looked + kept_count kept.old.pages.pages.items ≤ home.old.looked + kept_count kept.new.pages.pages.items }
-    ensures entries { IfOk result (λ r. result_seen (λ _. flat_map (entries_kept range kept.new.blocks) blocks.now) r ≡ gathered (page_entries (core_with home.old.pages range inodes)) blocks.now) }
+    ensures entries { IfOk result (λ r. result_map (λ _. flat_map (entries_kept range kept.new.blocks) blocks.now) r ≡ gathered (page_entries (core_with home.old.pages range inodes)) blocks.now) }
 {
     for no in blocks {
         if let Err(place) = read_block(alloc, home, range, inodes, *no, kept, reads)? {
@@ -86,7 +86,7 @@ fn read_block(
     no: u32,
     kept: &mut Kept,
     reads: &mut Reads,
-) -> Result<Result<(), FaultPlace>, NoMemory>
+) -> Result<Result<(), Location>, NoMemory>
     requires keeps { Keeps range home.old.pages kept.old.pages.pages.items }
     requires parts { HasParts range kept.old.blocks }
     requires says { SaysBlocks home.old.pages range inodes kept.old.blocks }
@@ -107,7 +107,7 @@ fn read_block(
     kept.pages.look(alloc, home, range, no, reads)?;
     match kept.pages.page(range, no) {
         Some(page) => kept.blocks.keep(alloc, range, inodes, no, page),
-        None => Ok(Err(FaultPlace { page: no, slot: 0 })),
+        None => Ok(Err(Location { page: no, slot: 0 })),
     }
 }
 
@@ -117,14 +117,14 @@ pub(crate) fn add_page_entries(
     no: u32,
     inodes: u32,
     entries: &mut Vec<EntryRead>,
-) -> Result<Result<(), FaultPlace>, NoMemory>
+) -> Result<Result<(), Location>, NoMemory>
     ensures { IfOk result (λ r. both (Ok (map listed_seen entries.old.items)) (entries_on inodes no page.now)
-        ≡ result_seen (λ _. map listed_seen entries.new.items) r) }
+        ≡ result_map (λ _. map listed_seen entries.new.items) r) }
 {
     let bytes = page.bytes();
     for slot in 0..16u16 {
         if !add_slot_entry(slot_bytes(bytes, slot), no, slot, inodes, entries)? {
-            return Ok(Err(FaultPlace { page: no, slot }));
+            return Ok(Err(Location { page: no, slot }));
         }
     }
     Ok(Ok(()))

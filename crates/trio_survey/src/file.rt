@@ -3,17 +3,18 @@
 ghost use Rattle.std.specs.Prelude.{◌≡◌, ◌+◌, ◌≤◌, IfOk, OnOk, map};
 ghost use Rattle.trio_layout.specs.Range.{core_count};
 ghost use Rattle.trio_layout.specs.Survey.{file_of};
-ghost use Rattle.trio_survey.specs.Seen.{core_with, met_seen, read_seen, result_seen};
+ghost use Rattle.trio_survey.specs.Seen.{core_with, met_seen, read_seen};
 ghost use Rattle.trio_survey.specs.Within.{inos, IsWithin};
 ghost use Rattle.trio_survey.specs.inner.Blocks.{HasParts, SaysBlocks};
 ghost use Rattle.trio_survey.specs.inner.Files.{file_kept, listing_blocks};
 ghost use Rattle.trio_survey.specs.inner.Kept.{kept_count, Keeps};
+ghost use Rattle.trio_lists.specs.Lists.{result_map};
 
 use crate::chain::{ChainParts, read_chain_kept};
 use crate::entries::read_directory;
 use crate::kept::Kept;
 use std::alloc::Global;
-use trio_layout::{Body, CoreRange, EntryPart};
+use trio_layout::{Body, CoreRange, EntryPart, Location};
 use trio_page::{Home, NoMemory, Reads};
 use trio_rights::Kind;
 
@@ -41,13 +42,6 @@ pub struct EntryRead {
     /// The slot on that page, counted from 0.
     pub slot: u16,
     pub body: [u8; 64],
-}
-
-/// Where a file can't be read: a page and a slot, 0 where there is none to name.
-#[derive(Clone, Copy, Debug, PartialEq, Eq)]
-pub struct FaultPlace {
-    pub page: u32,
-    pub slot: u16,
 }
 
 /// What a file says.
@@ -86,7 +80,7 @@ pub fn read_file(
     inodes: u32,
     met: &MetFile,
     reads: &mut Reads,
-) -> Result<Result<FileParts, FaultPlace>, NoMemory>
+) -> Result<Result<FileParts, Location>, NoMemory>
     ensures pages { home.new.pages ≡ home.old.pages }
     ensures file { IfOk result (λ r. read_seen r ≡ file_of (core_with home.old.pages range inodes) (met_seen met.now)) }
     ensures within { IfOk result (λ r. IfOk r (λ f. IsWithin range inodes f.index.items f.blocks.items (inos f.entries.items))) }
@@ -122,7 +116,7 @@ pub(crate) fn read_pages(
     met: &MetFile,
     kept: &mut Kept,
     reads: &mut Reads,
-) -> Result<Result<FilePages, FaultPlace>, NoMemory>
+) -> Result<Result<FilePages, Location>, NoMemory>
     requires keeps { Keeps range home.old.pages kept.old.pages.pages.items }
     requires parts { HasParts range kept.old.blocks }
     requires says { SaysBlocks home.old.pages range inodes kept.old.blocks }
@@ -132,12 +126,12 @@ pub(crate) fn read_pages(
     ensures says { OnOk result (SaysBlocks home.old.pages range inodes kept.new.blocks) }
     ensures looks { reads.new + kept_count kept.old.pages.pages.items ≤ reads.old + kept_count kept.new.pages.pages.items }
     ensures looked { home.new.looked + kept_count kept.old.pages.pages.items ≤ home.old.looked + kept_count kept.new.pages.pages.items }
-    ensures file { IfOk result (λ r. result_seen (file_kept range kept.new.blocks met.now.kind) r ≡ file_of (core_with home.old.pages range inodes) (met_seen met.now)) }
+    ensures file { IfOk result (λ r. result_map (file_kept range kept.new.blocks met.now.kind) r ≡ file_of (core_with home.old.pages range inodes) (met_seen met.now)) }
     ensures within { IfOk result (λ r. IfOk r (λ f. IsWithin range inodes f.chain.index.items f.chain.blocks.items
         (map (λ l. l.entry.ino) (file_kept range kept.new.blocks met.now.kind f).entries))) }
 {
     let Some(body) = Body::read(&met.body, met.kind, range) else {
-        return Ok(Err(FaultPlace { page: 0, slot: 0 }));
+        return Ok(Err(Location { page: 0, slot: 0 }));
     };
     let chain = match read_chain_kept(alloc, home, range, &body, &mut kept.pages, reads)? {
         Ok(chain) => chain,

@@ -11,9 +11,9 @@ ghost use Rattle.trio_survey.specs.inner.Blocks.{entries_kept, entry_seen, HasPa
 ghost use Rattle.trio_survey.specs.inner.Walk.{are_marked, AreMarked, FirstRepeat, Grows};
 
 use crate::blocks::{DirEntry, KeptBlocks};
-use crate::file::{FaultPlace, MetFile};
+use crate::file::MetFile;
 use crate::picks::Picks;
-use trio_layout::CoreRange;
+use trio_layout::{CoreRange, Location};
 use trio_page::NoMemory;
 
 /// Marks the numbers, and answers the first that had its mark.
@@ -44,7 +44,7 @@ pub fn add_children(
     range: CoreRange,
     kept: &KeptBlocks,
     blocks: &[u32],
-) -> Result<Option<FaultPlace>, NoMemory>
+) -> Result<Option<Location>, NoMemory>
     requires parts { HasParts range kept.now }
     requires fit { all_below (vec_len marks.old) (map (λ l. l.entry.ino) (flat_map (entries_kept range kept.now) blocks.now)) ≡ true }
     requires marked { AreMarked (map met_seen files.old.items) marks.old.items }
@@ -68,8 +68,8 @@ fn add_listed(
     picks: &Picks,
     directory: u32,
     entries: &[DirEntry],
-    repeated: Option<FaultPlace>,
-) -> Result<Option<FaultPlace>, NoMemory>
+    repeated: Option<Location>,
+) -> Result<Option<Location>, NoMemory>
     requires { all_below (vec_len marks.old) (map (λ l. l.ino) entries.now) ≡ true }
     ensures grows { IfOk result (λ again. (names : List (List ℕ)) (old : List Met) (before : List Listed)
         → Grows (pick_of picks.now) directory old (map met_seen files.old.items) marks.old.items repeated before
@@ -113,10 +113,10 @@ fn are_marked(marks: &Vec<bool>, entries: &[DirEntry]) -> bool
     true
 }
 
-fn place_of(listed: &DirEntry) -> FaultPlace
+fn place_of(listed: &DirEntry) -> Location
     ensures { result ≡ record { page = listed.now.page; slot = listed.now.slot } }
 {
-    FaultPlace {
+    Location {
         page: listed.page,
         slot: listed.slot,
     }

@@ -1,18 +1,15 @@
 //! Names by their numbers, and names that a directory has twice.
 
 ghost use Rattle.std.specs.Prelude.{◌≡◌, ◌++◌, ◌<◌, ◌≤◌, [], false, ℕ, List, Some, IfNone, IfOk, OnOk, length, map, replicate, slice_get};
-ghost use Rattle.std.specs.Option.{option_map};
 ghost use Rattle.std.specs.List.{flat_map};
 ghost use Rattle.trio_lists.specs.Lists.{In};
 ghost use Rattle.trio_layout.specs.Entries.{Listed, repeated_name};
-ghost use Rattle.trio_survey.specs.Seen.{place_seen};
 ghost use Rattle.trio_survey.specs.inner.Blocks.{entries_kept, entry_seen, AreNamed, AreNumbered, HasParts, IsFront, MarksNames};
 
 use crate::blocks::{DirEntry, KeptBlocks};
-use crate::file::FaultPlace;
 use std::alloc::Global;
 use std::collections::BTreeMap;
-use trio_layout::CoreRange;
+use trio_layout::{CoreRange, Location};
 use trio_marks::Marks;
 use trio_names::Name;
 use trio_page::NoMemory;
@@ -62,9 +59,9 @@ pub(crate) fn repeated_name(
     kept: &KeptBlocks,
     named: &mut Marks,
     blocks: &[u32],
-) -> Result<Option<FaultPlace>, NoMemory>
+) -> Result<Option<Location>, NoMemory>
     requires { HasParts range kept.now }
-    ensures { IfOk result (λ p. option_map place_seen p ≡ repeated_name [] (flat_map (entries_kept range kept.now) blocks.now)) }
+    ensures { IfOk result (λ p. p ≡ repeated_name [] (flat_map (entries_kept range kept.now) blocks.now)) }
 {
     clear_marks(alloc, named, kept.names.names.len())?;
     for block in blocks {
@@ -92,17 +89,17 @@ fn clear_marks(alloc: Global, named: &mut Marks, count: usize) -> Result<(), NoM
 }
 
 /// Marks the names of these entries, and answers the place of the first whose name was marked.
-fn repeated_on(named: &mut Marks, entries: &[DirEntry]) -> Option<FaultPlace>
+fn repeated_on(named: &mut Marks, entries: &[DirEntry]) -> Option<Location>
     requires { (l : DirEntry) → In l entries.now → l.name < length named.old }
     ensures repeated { (names : List (List ℕ)) (seen : List Listed) → AreNamed names entries.now → MarksNames names named.old seen
-        → option_map place_seen result ≡ repeated_name seen (map (entry_seen names) entries.now) }
+        → result ≡ repeated_name seen (map (entry_seen names) entries.now) }
     ensures marked { IfNone result ((names : List (List ℕ)) (seen : List Listed) → AreNamed names entries.now → MarksNames names named.old seen
         → MarksNames names named.new (seen ++ map (entry_seen names) entries.now)) }
     ensures room { length named.new ≡ length named.old }
 {
     for listed in entries {
         if !named.set(listed.name) {
-            return Some(FaultPlace {
+            return Some(Location {
                 page: listed.page,
                 slot: listed.slot,
             });

@@ -9,16 +9,16 @@ ghost use Rattle.trio_tables.specs.Stored.{owner_bytes, padded_to_pages, page_at
 use crate::fault::SurveyFault;
 use crate::whole::{Found, survey};
 use std::alloc::Global;
-use trio_layout::{CoreRange, Superblock};
+use trio_layout::{CoreRange, FaultAt, Location, Rule, Superblock};
 use trio_page::{Home, PageNo, Reads};
 use trio_tables::{Owners, Shadow};
 
 /// Whether the pages are those of an image that verifies: the core that the superblock tells is
 /// sound, and the stored tables are exactly those of its files. Page 0 is at home and in its grammar.
 ///
-/// `Ok` comes exactly where the image verifies. [`SurveyFault::Fails`] names the lowest of the rules
-/// 1, 2 and 5 that fails, with a place at which it does. A page that the superblock counts and that
-/// isn't at home fails where a file or a table wants it. The pages are as they were after any answer,
+/// `Ok` comes exactly where the image verifies. [`SurveyFault::Fails`] names the lowest that fails of the
+/// rules I1, I2 and that of the tables, with a place at which it does. A page that the superblock counts
+/// and that isn't at home fails where a file or a table wants it. The pages are as they were after any answer,
 /// and each page of the image, that of the superblock and those of the tables among them, was looked
 /// at once at most.
 pub fn verify(alloc: Global, home: &mut Home, reads: &mut Reads) -> Result<(), SurveyFault>
@@ -96,20 +96,12 @@ fn compare(
         ..
     } = superblock;
     if let Some(ino) = row_fault(home, &found.rows, first_owner, reads) {
-        return Err(SurveyFault::Fails {
-            rule: 5,
-            ino,
-            page: 0,
-            slot: 0,
-        });
+        let place = Location { page: 0, slot: 0 };
+        return Err(SurveyFault::fails(Rule::Tables, FaultAt { ino, place }));
     }
     if let Some(page) = owner_fault(home, &found.owners, first_owner, first_core, reads) {
-        return Err(SurveyFault::Fails {
-            rule: 5,
-            ino: 0,
-            page,
-            slot: 0,
-        });
+        let place = Location { page, slot: 0 };
+        return Err(SurveyFault::fails(Rule::Tables, FaultAt { ino: 0, place }));
     }
     Ok(())
 }

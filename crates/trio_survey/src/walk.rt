@@ -10,12 +10,12 @@ ghost use Rattle.trio_survey.specs.inner.Walk.{file_repeat, framed, IsFault, Wal
 use crate::again::{Heads, listed_before};
 use crate::enter::{enter, row_of};
 use crate::fault::SurveyFault;
-use crate::file::{FaultPlace, MetFile, listing_blocks, read_pages};
+use crate::file::{MetFile, listing_blocks, read_pages};
 use crate::kept::Kept;
 use crate::marks::{add_children, mark_new};
 use crate::picks::Picks;
 use std::alloc::Global;
-use trio_layout::CoreRange;
+use trio_layout::{CoreRange, FaultAt, Location, Rule};
 use trio_page::{Home, NoMemory, Reads};
 use trio_rights::Kind;
 use trio_tables::{Owners, Shadow};
@@ -30,29 +30,6 @@ pub struct CoreFrame {
     pub inodes: u32,
 }
 
-/// Where something is listed that was listed before: a page as a whole, or an entry.
-#[derive(Clone, Copy)]
-pub struct Repeated {
-    /// The file that lists it.
-    pub ino: u32,
-    pub page: u32,
-    pub slot: u16,
-}
-
-impl Repeated {
-    /// Rule 2 fails here.
-    pub fn fault(&self) -> SurveyFault
-        ensures { result ≡ SurveyFault.Fails 2 self.now.ino self.now.page self.now.slot }
-    {
-        SurveyFault::Fails {
-            rule: 2,
-            ino: self.ino,
-            page: self.page,
-            slot: self.slot,
-        }
-    }
-}
-
 /// A walk on its way: the files met so far, those passed at the front, and what was found of these.
 #[derive(Drop)]
 pub struct Walk {
@@ -62,8 +39,9 @@ pub struct Walk {
     pub met: Vec<bool>,
     /// By page number, which was listed.
     pub used: Vec<bool>,
-    /// The first place at which something was listed again.
-    pub repeated: Option<Repeated>,
+    /// The first file that lists something that was listed before, and where: a page as a whole, or
+    /// an entry.
+    pub repeated: Option<FaultAt>,
     /// Where the chains of the files that were passed begin.
     pub heads: Heads,
     pub rows: Shadow,
@@ -190,12 +168,11 @@ impl Walk {
         )? {
             Ok(file) => file,
             Err(place) => {
-                return Err(SurveyFault::Fails {
-                    rule: 1,
+                let at = FaultAt {
                     ino: met.ino,
-                    page: place.page,
-                    slot: place.slot,
-                });
+                    place,
+                };
+                return Err(SurveyFault::fails(Rule::Grammar, at));
             }
         };
         let index = mark_new(&mut self.used, &file.chain.index);
@@ -221,13 +198,14 @@ fn repeated_in(
     ino: u32,
     index: Option<u32>,
     block: Option<u32>,
-    entry: Option<FaultPlace>,
-) -> Option<Repeated>
+    entry: Option<Location>,
+) -> Option<FaultAt>
     ensures { result ≡ file_repeat ino index block entry }
 {
     if let Some(page) = index.or(block) {
-        return Some(Repeated { ino, page, slot: 0 });
+        let place = Location { page, slot: 0 };
+        return Some(FaultAt { ino, place });
     }
-    let FaultPlace { page, slot } = entry?;
-    Some(Repeated { ino, page, slot })
+    let place = entry?;
+    Some(FaultAt { ino, place })
 }

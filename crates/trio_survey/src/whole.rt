@@ -11,7 +11,7 @@ use crate::fault::SurveyFault;
 use crate::picks::Picks;
 use crate::walk::{CoreFrame, Walk};
 use std::alloc::Global;
-use trio_layout::CoreRange;
+use trio_layout::{CoreRange, Rule};
 use trio_page::{Home, Reads};
 use trio_tables::{Owners, Shadow};
 
@@ -32,7 +32,7 @@ pub struct Found {
 /// Blocks of regular files aren't looked at, and each core page is looked at once at most, however
 /// often it is listed.
 ///
-/// [`SurveyFault::Fails`] names the lowest of the rules 1 and 2 that fails, with a file and place at
+/// [`SurveyFault::Fails`] names the lower of the rules I1 and I2 that fails, with a file and place at
 /// which it does; it comes exactly where the core isn't sound. The pages are as they were after any
 /// answer.
 pub fn survey(
@@ -99,7 +99,7 @@ pub fn survey_picked(
         at += 1;
     }
     match walk.repeated {
-        Some(place) => Err(place.fault()),
+        Some(at) => Err(SurveyFault::fails(Rule::Owning, at)),
         None => Ok(Found {
             rows: walk.rows,
             owners: walk.owners,

@@ -2,14 +2,12 @@
 use Rattle.std.specs.Prelude.{ℕ, ◌≡◌, Bool, List, ◌++◌, length, take, Option, None, Some, slice_get, Result, Ok, Err}
 use Rattle.trio_layout.specs.declared.range.CoreRange.{CoreRange}
 use Rattle.trio_layout.specs.Index.{index_of}
-use Rattle.trio_layout.specs.Core.{page_of}
+use Rattle.trio_layout.specs.Core.{page_of, Location}
 use Rattle.trio_layout.specs.Within.{entries_where}
 use Rattle.trio_layout.specs.Case.{bundle_core}
 use Rattle.trio_case.specs.Cases.{CaseShown, case_in}
 use Rattle.trio_case.specs.Order.{place_of}
-use Rattle.trio_case.specs.Reading.{place_seen}
 use Rattle.trio_case.specs.Rooms.{entries_kept, SaysIndex}
-use Rattle.trio_case.specs.declared.entries.FaultPlace.{FaultPlace}
 use Rattle.trio_case.specs.declared.kept.KeptPages.{KeptPages}
 use Rattle.trio_case.specs.declared.kept.KeptPage.{KeptPage}
 use Rattle.trio_case.specs.declared.kept.KeptIndex.{KeptIndex}
@@ -57,7 +55,7 @@ abbrev pub IsDone : CaseShown → KeptPages → ℕ → Type 0
 IsDone k kept page = entries_where k.inodes page (page_of (bundle_core (case_in k)) page) ≡ Ok (entries_kept kept page)
 
 -- a block was read: what it lists is kept, or it has this fault
-abbrev pub BlockAnswer : {X : Type 0} → CaseShown → KeptPages → ℕ → Result X FaultPlace → Type 0
+abbrev pub BlockAnswer : {X : Type 0} → CaseShown → KeptPages → ℕ → Result X Location → Type 0
 BlockAnswer k kept page (Ok t) = IsDone k kept page
 BlockAnswer k kept page (Err place) =
-    entries_where k.inodes page (page_of (bundle_core (case_in k)) page) ≡ Err (place_seen place)
+    entries_where k.inodes page (page_of (bundle_core (case_in k)) page) ≡ Err place

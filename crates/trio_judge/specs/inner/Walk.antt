@@ -8,7 +8,7 @@ use Rattle.trio_lists.specs.Lists.{In, is_among, are_new}
 use Rattle.trio_lists.specs.Sorting.{sorted_by}
 use Rattle.trio_rights.specs.declared.kind.Kind.TheVariants.{Directory}
 use Rattle.trio_layout.specs.declared.body.Body.{Body}
-use Rattle.trio_layout.specs.Core.{Location}
+use Rattle.trio_layout.specs.declared.refusal.FaultAt.{FaultAt}
 use Rattle.trio_layout.specs.Survey.{Met, numbers, first_listed}
 use Rattle.trio_layout.specs.Case.{Case, file_in}
 use Rattle.trio_layout.specs.JudgedFiles.{written_files, entries_in, new_entries, judged_files, judged_entries, pages_within}
@@ -21,7 +21,6 @@ use Rattle.trio_case.specs.Order.{place_of, AreMarked}
 use Rattle.trio_case.specs.declared.entries.DirEntry.{DirEntry}
 use Rattle.trio_case.specs.declared.listing.ListingRoom.{ListingRoom}
 use Rattle.trio_judge.specs.declared.walk.JudgedFile.{JudgedFile}
-use Rattle.trio_judge.specs.declared.walk.FaultAt.{FaultAt}
 use Rattle.trio_judge.specs.declared.walk.Walk.{Walk}
 
 -- ---- how it is seen
@@ -37,10 +36,6 @@ listed_met directory l = record { ino = l.ino; kind = l.kind; parent = directory
 -- the files found, in order
 abbrev pub files_of : Walk → List Met
 files_of w = map file_met w.files.items
-
--- the place of a fault
-abbrev pub fault_place : FaultAt → Location
-fault_place p = record { page = p.page; slot = p.slot }
 
 -- a file's body of this number keeps the rights
 abbrev pub body_keeps_rights : Case → ℕ → Body → Bool
@@ -87,12 +82,12 @@ pub record KeepRights (c : Case) (done es : List Met) : Type 0 where
 -- whatever files and entries come behind these, I2 fails here
 abbrev pub OwningFails : Case → List Met → List Met → FaultAt → Type 0
 OwningFails c done es p =
-    (rest more : List Met) → judged_files c ≡ done ++ rest → judged_entries c ≡ es ++ more → BreaksOwning c p.ino (fault_place p)
+    (rest more : List Met) → judged_files c ≡ done ++ rest → judged_entries c ≡ es ++ more → BreaksOwning c p.ino p.place
 
 -- whatever files and entries come behind these, I4 fails here
 abbrev pub RightsFail : Case → List Met → List Met → FaultAt → Type 0
 RightsFail c done es p =
-    (rest more : List Met) → judged_files c ≡ done ++ rest → judged_entries c ≡ es ++ more → BreaksRights c p.ino (fault_place p)
+    (rest more : List Met) → judged_files c ≡ done ++ rest → judged_entries c ≡ es ++ more → BreaksRights c p.ino p.place
 
 -- what these files and entries list
 abbrev pub listing_of : Case → List Met → List Met → Listing
@@ -204,7 +199,7 @@ pub record Noted (c : Case) (xs : List Met) (w w' : Walk) : Type 0 where
 -- the body of one of these entries isn't in the grammar
 abbrev pub BadEntry : Case → List Met → FaultAt → Type 0
 BadEntry c xs p =
-    (e : Met) × In e xs × (e.parent ≡ p.ino) × (e.page ≡ p.page) × (e.slot ≡ p.slot) × IsFalse (entry_in_grammar c e)
+    (e : Met) × In e xs × (e.parent ≡ p.ino) × (e.page ≡ p.place.page) × (e.slot ≡ p.place.slot) × IsFalse (entry_in_grammar c e)
 
 -- ---- the walk from its start to its end
 

@@ -16,6 +16,8 @@ use Rattle.trio_layout.specs.Edges.{comes_to_root, keeps_children, leaves_none, 
 use Rattle.trio_layout.specs.JudgedFiles.{judged_entries, judged_files, judged_pages, pages_within}
 use Rattle.trio_layout.specs.Listing.{Listing, listing}
 use Rattle.trio_rights.specs.Bundle.{bundle_pages}
+use Rattle.trio_layout.specs.Rule.{rule_number}
+use Rattle.trio_layout.specs.declared.refusal.Rule.TheVariants.{Grammar, Owning, Edges, Rights}
 use Rattle.trio_layout.specs.Rules.{entry_in_grammar, entry_is_own, entry_keeps_rights, file_keeps_rights, meets_grammar, meets_owning, meets_rights, meets_rules}
 use Rattle.trio_layout.specs.Sound.{PageListing}
 use Rattle.trio_layout.specs.Survey.{FileRead, Met, numbers}
@@ -245,10 +247,10 @@ module _ (c : Case) where
 
   -- the lowest rule that isn't met, by whether each of the first three is
   abbrev by_rules : Bool → Bool → Bool → ℕ
-  by_rules false owning edges = 1
-  by_rules true false edges = 2
-  by_rules true true false = 3
-  by_rules true true true = 4
+  by_rules false owning edges = rule_number Grammar
+  by_rules true false edges = rule_number Owning
+  by_rules true true false = rule_number Edges
+  by_rules true true true = rule_number Rights
 
   abbrev pub lowest_rule : ℕ
   lowest_rule = by_rules (meets_grammar c) (meets_owning c) (meets_edges (listing c) c.rows)

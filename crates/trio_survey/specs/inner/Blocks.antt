@@ -8,11 +8,11 @@ use Rattle.trio_lists.specs.Lists.{In}
 use Rattle.trio_layout.specs.declared.range.CoreRange.{CoreRange}
 use Rattle.trio_layout.specs.Range.{core_count, is_core}
 use Rattle.trio_layout.specs.Entries.{Listed, has_name, page_entries}
-use Rattle.trio_survey.specs.Seen.{core_with, place_seen}
-use Rattle.trio_survey.specs.declared.file.FaultPlace.{FaultPlace}
+use Rattle.trio_survey.specs.Seen.{core_with}
 use Rattle.trio_survey.specs.declared.blocks.DirEntry.{DirEntry}
 use Rattle.trio_survey.specs.declared.blocks.KeptBlocks.{KeptBlocks}
 use Rattle.trio_survey.specs.declared.blocks.Span.{Span}
+use Rattle.trio_layout.specs.Core.{Location}
 
 -- ---- lists
 
@@ -65,11 +65,11 @@ pub record IsPart (names : List (List ℕ)) (entries : List DirEntry) (s : Span)
 -- ---- blocks
 
 -- what a page says as a directory block; None where it wasn't read as one, or isn't a core page
-abbrev pub block_kept : CoreRange → List (Option (Result Span FaultPlace)) → ℕ → Option (Result Span FaultPlace)
+abbrev pub block_kept : CoreRange → List (Option (Result Span Location)) → ℕ → Option (Result Span Location)
 block_kept range read page = if is_core range page then slice_index_or read (page - range.first) None else None
 
 -- the entries of a directory block that was read; a bad one has none
-abbrev pub entries_said : List (List ℕ) → List DirEntry → Result Span FaultPlace → List Listed
+abbrev pub entries_said : List (List ℕ) → List DirEntry → Result Span Location → List Listed
 entries_said names entries (Ok s) = map (entry_seen names) (part s entries)
 entries_said names entries (Err place) = []
 
@@ -90,10 +90,10 @@ pub record HasParts (range : CoreRange) (kept : KeptBlocks) : Type 0 where
       (λ r. MatchResult r (IsPart kept.names.names.items kept.entries.items) (λ _. ⊤))
 
 -- what is kept of a block is what it lists: its entries, or its first bad slot
-abbrev pub SaysBlock : List (Option (List ℕ)) → CoreRange → ℕ → ℕ → List (List ℕ) → List DirEntry → Result Span FaultPlace → Type 0
+abbrev pub SaysBlock : List (Option (List ℕ)) → CoreRange → ℕ → ℕ → List (List ℕ) → List DirEntry → Result Span Location → Type 0
 SaysBlock pages range inodes page names entries r =
     MatchResult r (λ s. page_entries (core_with pages range inodes) page ≡ Ok (map (entry_seen names) (part s entries)))
-    (λ place. page_entries (core_with pages range inodes) page ≡ Err (place_seen place))
+    (λ place. page_entries (core_with pages range inodes) page ≡ Err place)
 
 -- the same of each block that was read
 abbrev pub SaysBlocks : List (Option (List ℕ)) → CoreRange → ℕ → KeptBlocks → Type 0
@@ -116,6 +116,6 @@ abbrev pub StaysRead : CoreRange → KeptBlocks → KeptBlocks → Type 0
 StaysRead range old new = (page : ℕ) → IsGood range old page → IsGood range new page
 
 -- a block was read: what it lists is kept, or it has this fault
-abbrev pub BlockAnswer : {X : Type 0} → List (Option (List ℕ)) → CoreRange → ℕ → KeptBlocks → ℕ → Result X FaultPlace → Type 0
+abbrev pub BlockAnswer : {X : Type 0} → List (Option (List ℕ)) → CoreRange → ℕ → KeptBlocks → ℕ → Result X Location → Type 0
 BlockAnswer pages range inodes kept page r =
-    MatchResult r (λ _. IsGood range kept page) (λ place. page_entries (core_with pages range inodes) page ≡ Err (place_seen place))
+    MatchResult r (λ _. IsGood range kept page) (λ place. page_entries (core_with pages range inodes) page ≡ Err place)

@@ -1,7 +1,9 @@
 -- What comparing the stored tables finds. Cited by private functions alone.
 use Rattle.std.specs.Prelude.{◌≡◌, ◌≢◌, ℕ, ◌+◌, ◌*◌, ◌/◌, ◌<◌, ◌≤◌, ◌⊎◌, List, Option, None, MatchOption, slice_index_or, ⊤}
 use Rattle.trio_rights.specs.Row.{Row}
+use Rattle.trio_layout.specs.declared.refusal.Rule.TheVariants.{Tables}
 use Rattle.trio_layout.specs.declared.superblock.Superblock.{Superblock}
+use Rattle.trio_layout.specs.Rule.{rule_number}
 use Rattle.trio_tables.specs.Stored.{shadow_bytes, owner_bytes, padded_to_pages, page_at, RowDiffers, OwnerDiffers}
 use Rattle.trio_survey.specs.Stored.{StoresTables}
 use Rattle.trio_survey.specs.declared.fault.SurveyFault.{SurveyFault}
@@ -45,5 +47,5 @@ pub record HasOwnerFault (first_owner first_core : ℕ) (pages : List (Option (L
 -- the stored tables aren't these, and where
 abbrev pub IsTableFault : Superblock → List (Option (List ℕ)) → List (Option Row) → List ℕ → SurveyFault → Type 0
 IsTableFault s pages rows owners (Fails rule ino page slot) =
-    (rule ≡ 5) × (StoresTables s pages rows owners → ⊥) × TablesFailAt s pages rows owners ino (record { page = page; slot = slot })
+    (rule ≡ rule_number Tables) × (StoresTables s pages rows owners → ⊥) × TablesFailAt s pages rows owners ino (record { page = page; slot = slot })
 IsTableFault s pages rows owners NoMemory = ⊤

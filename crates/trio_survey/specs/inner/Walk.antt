@@ -4,23 +4,22 @@ use Rattle.std.specs.List.{count_by, list_all}
 use Rattle.trio_rights.specs.Row.{Row}
 use Rattle.trio_lists.specs.Lists.{is_among, are_new}
 use Rattle.trio_layout.specs.declared.body.Body.{Body}
-use Rattle.trio_layout.specs.Core.{Core, Location}
+use Rattle.trio_layout.specs.Core.{Core, Location, at_page}
 use Rattle.trio_layout.specs.Chain.{Chain}
 use Rattle.trio_layout.specs.Entries.{Listed, place_of}
 use Rattle.trio_lists.specs.Marked.{MarksJust, all_below}
 use Rattle.trio_layout.specs.Queue.{queue}
 use Rattle.trio_layout.specs.Survey.{Met, Pick, children, first_listed, met_in, numbers, owner_of, root_of, row_by, row_of}
 use Rattle.trio_layout.specs.Sound.{are_in_grammar, are_listed_once, listed_numbers, listed_pages, FailsAt, ListsNumberAgain, ListsPageAgain}
-use Rattle.trio_survey.specs.Seen.{met_seen, place_seen}
+use Rattle.trio_survey.specs.Seen.{met_seen}
 use Rattle.trio_survey.specs.Within.{all_some}
 use Rattle.trio_survey.specs.inner.Again.{KnowsAllHeads}
 use Rattle.trio_survey.specs.declared.blocks.DirEntry.{DirEntry}
-use Rattle.trio_survey.specs.declared.file.FaultPlace.{FaultPlace}
 use Rattle.trio_survey.specs.declared.walk.CoreFrame.{CoreFrame}
-use Rattle.trio_survey.specs.declared.walk.Repeated.{Repeated}
 use Rattle.trio_survey.specs.declared.walk.Walk.{Walk}
 use Rattle.trio_survey.specs.declared.fault.SurveyFault.{SurveyFault}
 use Rattle.trio_survey.specs.declared.fault.SurveyFault.TheVariants.{Fails, NoMemory}
+use Rattle.trio_layout.specs.declared.refusal.FaultAt.{FaultAt}
 
 -- the core of these pages
 abbrev pub framed : List (Option (List ℕ)) → CoreFrame → Core
@@ -47,9 +46,9 @@ abbrev pub FirstRepeat : List ℕ → List ℕ → Option ℕ → Type 0
 FirstRepeat before these first = MatchOption first (are_new before these ≡ true) (Repeats before these)
 
 -- the same for entries and their numbers
-abbrev pub FirstEntry : List ℕ → List Listed → Option FaultPlace → Type 0
+abbrev pub FirstEntry : List ℕ → List Listed → Option Location → Type 0
 FirstEntry before these first =
-    MatchOption first (are_new before (map (λ l. l.entry.ino) these) ≡ true) (λ p. RepeatsEntry before these (place_seen p))
+    MatchOption first (are_new before (map (λ l. l.entry.ino) these) ≡ true) (λ p. RepeatsEntry before these p)
 
 -- the files are those that are marked, each once
 pub record AreMarked (files : List Met) (marks : List Bool) : Type 0 where
@@ -61,7 +60,7 @@ abbrev pub are_marked : List Bool → List DirEntry → Bool
 are_marked marks entries = list_all (λ l. slice_index_or marks l.ino false) entries
 
 -- the files that are met after these entries of a directory, and the first entry that lists a number again
-pub record Grows (pick : Pick) (directory : ℕ) (old now : List Met) (marks : List Bool) (first : Option FaultPlace) (entries : List Listed) : Type 0 where
+pub record Grows (pick : Pick) (directory : ℕ) (old now : List Met) (marks : List Bool) (first : Option Location) (entries : List Listed) : Type 0 where
   pub added : now ≡ old ++ first_listed (numbers old) (map (met_in pick directory) entries)
   pub marked : AreMarked now marks
   pub repeat : FirstEntry (numbers old) entries first
@@ -70,27 +69,27 @@ pub record Grows (pick : Pick) (directory : ℕ) (old now : List Met) (marks : L
 abbrev pub RepeatsAt : Core → Pick → List Met → ℕ → Location → Type 0
 RepeatsAt core pick files ino place = ListsNumberAgain core pick files ino place ⊎ ListsPageAgain core files ino place
 
-abbrev pub RepeatsBy : Core → Pick → List Met → Repeated → Type 0
-RepeatsBy core pick files r = RepeatsAt core pick files r.ino (record { page = r.page; slot = r.slot })
+abbrev pub RepeatsBy : Core → Pick → List Met → FaultAt → Type 0
+RepeatsBy core pick files r = RepeatsAt core pick files r.ino r.place
 
 -- where these files list something again; none where they list all once
-abbrev pub IsFirstRepeat : Core → Pick → List Met → Option Repeated → Type 0
+abbrev pub IsFirstRepeat : Core → Pick → List Met → Option FaultAt → Type 0
 IsFirstRepeat core pick files twice = MatchOption twice (are_listed_once core pick files ≡ true) (RepeatsBy core pick files)
 
 -- what a file lists again, by the first repeated index page, block and entry of it
-abbrev pub entry_repeat : ℕ → Option FaultPlace → Option Repeated
+abbrev pub entry_repeat : ℕ → Option Location → Option FaultAt
 entry_repeat ino None = None
-entry_repeat ino (Some p) = Some (record { ino = ino; page = p.page; slot = p.slot })
+entry_repeat ino (Some p) = Some (record { ino = ino; place = p })
 
-abbrev pub page_repeat : ℕ → Option ℕ → Option Repeated → Option Repeated
+abbrev pub page_repeat : ℕ → Option ℕ → Option FaultAt → Option FaultAt
 page_repeat ino None other = other
-page_repeat ino (Some page) other = Some (record { ino = ino; page = page; slot = 0 })
+page_repeat ino (Some page) other = Some (record { ino = ino; place = at_page page })
 
-abbrev pub file_repeat : ℕ → Option ℕ → Option ℕ → Option FaultPlace → Option Repeated
+abbrev pub file_repeat : ℕ → Option ℕ → Option ℕ → Option Location → Option FaultAt
 file_repeat ino index block entry = page_repeat ino index (page_repeat ino block (entry_repeat ino entry))
 
 -- The first i files are passed: what the walk has found of them, with the marks over numbers and pages.
-pub record Stands (core : Core) (pick : Pick) (i : ℕ) (files : List Met) (marks used : List Bool) (twice : Option Repeated) : Type 0 where
+pub record Stands (core : Core) (pick : Pick) (i : ℕ) (files : List Met) (marks used : List Bool) (twice : Option FaultAt) : Type 0 where
   pub inside : i ≤ length files
   pub queued : queue (children core pick) (root_of core) i ≡ record { passed = take i files; level = drop i files }
   pub good : are_in_grammar core (take i files) ≡ true

@@ -3,7 +3,7 @@ use Rattle.std.proofs.lemmas.List.{length-map}
 use Rattle.trio_layout.specs.Survey.{numbers}
 use Rattle.trio_case.specs.Cases.{case_in}
 use Rattle.trio_judge.specs.inner.Again.{AreFoundHeads}
-use Rattle.trio_judge.specs.inner.Walk.{fault_place, file_met, files_of}
+use Rattle.trio_judge.specs.inner.Walk.{file_met, files_of}
 use Rattle.trio_judge.proofs.Ending.{all_passed, first_unmet, grammar_false, has_ended}
 use Rattle.trio_judge.proofs.FoundAgain.{no_heads}
 use Rattle.trio_judge.proofs.Visiting.{short}
@@ -11,7 +11,7 @@ use Rattle.trio_judge.proofs.verdict.judge.Goals as goal
 
 pub returns-in-Err-clause-sound : goal.returns-in-Err-clause-sound
 returns-in-Err-clause-sound c =
-    rw c.broken.ensures (first_unmet _ _ _ (grammar_false (case_in c.args.case.now) c.in-Err.place.ino (fault_place c.in-Err.place) c.in-Err.ensures.fault))
+    rw c.broken.ensures (first_unmet _ _ _ (grammar_false (case_in c.args.case.now) c.in-Err.fault.ino c.in-Err.fault.place c.in-Err.ensures.fault))
 
 pub returns-in-Err-clause-lowest : goal.returns-in-Err-clause-lowest
 returns-in-Err-clause-lowest c = rw c.broken.ensures (inl (refl, c.in-Err.ensures.fault))

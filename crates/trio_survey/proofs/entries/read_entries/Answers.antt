@@ -5,7 +5,7 @@ use Rattle.trio_lists.specs.Lists.{gathered}
 use Rattle.trio_lists.proofs.Members.{In-cases}
 use Rattle.trio_layout.specs.Core.{Location}
 use Rattle.trio_layout.specs.Entries.{Listed, page_entries}
-use Rattle.trio_survey.specs.Seen.{core_with, place_seen}
+use Rattle.trio_survey.specs.Seen.{core_with}
 use Rattle.trio_survey.specs.inner.Blocks.{entries_kept}
 use Rattle.trio_survey.proofs.Gathers.{gathered_all, gathered_fault_at}
 use Rattle.trio_survey.proofs.KeptBlocks.{good_lists}
@@ -21,8 +21,8 @@ returns-in-Err-clause-entries c =
     let kept = c.loop-no.kept.blocks in
     let before : gathered f (take i blocks) ≡ Ok (flat_map (entries_kept c.args.range kept) (take i blocks)) =
     gathered_all f (entries_kept c.args.range kept) (take i blocks) (λ page h. good_lists pages c.args.range c.args.inodes kept page turn.says (turn.good page h)) in
-    let bad : f (get_or blocks i 0) ≡ Err (place_seen c.in-Err.place) = rw (turn.same, c.in-Err.is) at c.in_ok-place.ensures.here in
-    sym (gathered_fault_at f blocks i 0 (place_seen c.in-Err.place) (omega arith) (rw (before, bad) refl))
+    let bad : f (get_or blocks i 0) ≡ Err c.in-Err.place = rw (turn.same, c.in-Err.is) at c.in_ok-place.ensures.here in
+    sym (gathered_fault_at f blocks i 0 c.in-Err.place (omega arith) (rw (before, bad) refl))
 
 pub loop-no-preserved : goal.loop-no-preserved
 loop-no-preserved c =

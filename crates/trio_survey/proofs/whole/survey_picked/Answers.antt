@@ -4,7 +4,7 @@ use Rattle.std.proofs.lemmas.Result.{err_from_is_err_and}
 use Rattle.trio_survey.specs.Answer.{core_of}
 use Rattle.trio_survey.specs.Picks.{pick_of}
 use Rattle.trio_survey.specs.Seen.{met_seen}
-use Rattle.trio_survey.proofs.Standing.{fails_second, is_whole, refused, second_refused}
+use Rattle.trio_survey.proofs.Standing.{is_whole, refused, second_refused}
 use Rattle.trio_survey.proofs.whole.survey_picked.Goals as goal
 
 pub loop-at-init : goal.loop-at-init
@@ -35,7 +35,7 @@ returns-in-Some-clause-fails c =
     let files = map met_seen walk.files.items in
     let all : length files ≤ c.loop-at.at = omega (arith, length-map walk.files.items met_seen) in
     let stands = rw c.in-Some.is at c.loop-at.invariant.stands in
-    rw c.fault.ensures (second_refused core pick c.in-Some.place (fails_second core pick c.loop-at.at files walk.met.items walk.used.items c.in-Some.place stands all))
+    rw c.fails.ensures (second_refused core pick c.loop-at.at files walk.met.items walk.used.items c.in-Some.at stands all)
 
 pub returns-in-None-clause-sound : goal.returns-in-None-clause-sound
 returns-in-None-clause-sound c =

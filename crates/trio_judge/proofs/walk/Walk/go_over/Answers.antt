@@ -1,7 +1,6 @@
 use Rattle.std.proofs.Common.{◌≡◌, ◌<◌, [], Ok, Err, length, map, take, get_or, refl, sym, ap, ◌∙◌, arith}
 use Rattle.std.specs.List.{flat_map}
 use Rattle.std.proofs.lemmas.List.{length-map}
-use Rattle.trio_layout.specs.Core.{Location}
 use Rattle.trio_layout.specs.Case.{file_in}
 use Rattle.trio_layout.specs.JudgedFiles.{entries_in}
 use Rattle.trio_layout.specs.Survey.{children_in, met_in, plain}
@@ -21,9 +20,8 @@ returns-in-Err-clause-fault c =
     let m = file_met c.args.file.now in
     let inside : c.args.at < length (files_of w) = omega (arith, length-map w.files.items file_met) in
     let here : get_or (files_of w) c.args.at m ≡ m = c.requires.here in
-    let place : Location = record { page = c.in-Err.field-0.page; slot = c.in-Err.field-0.slot } in
-    let bad : file_in k m ≡ Err place = sym (rw c.in-Err.is at (c.read_file.ensures.file m refl refl)) in
-    file_breaks k m place (is_judged k c.args.at w m c.requires.queued c.requires.ready inside here) bad
+    let bad : file_in k m ≡ Err c.in-Err.place = sym (rw c.in-Err.is at (c.read_file.ensures.file m refl refl)) in
+    file_breaks k m c.in-Err.place (is_judged k c.args.at w m c.requires.queued c.requires.ready inside here) bad
 
 pub read_file-requires-clause-lists : goal.read_file-requires-clause-lists
 read_file-requires-clause-lists c = λ directory.

@@ -1,7 +1,6 @@
 use Rattle.std.proofs.Common.{rules, ◌≡◌, ◌<◌, true, length, get_or, sym, ap, ◌∙◌, arith}
 use Rattle.std.specs.Prelude.{is_some}
 use Rattle.std.proofs.lemmas.List.{get_or-map, length-map}
-use Rattle.trio_layout.specs.Core.{Location}
 use Rattle.trio_layout.specs.JudgedFiles.{entries_in}
 use Rattle.trio_case.specs.Cases.{case_in}
 use Rattle.trio_judge.specs.inner.Again.{IsListedBefore}
@@ -46,5 +45,4 @@ returns-in-Err-clause-fault c =
     let m = file_met c.index.result.now in
     let inside : c.args.at < length (files_of w) = omega (arith, length-map w.files.items file_met) in
     let here : get_or (files_of w) c.args.at m ≡ m = get_or-map file_met w.files.items c.args.at c.index.result.now m (omega arith) ∙ ap file_met (sym c.index.ensures) in
-    let place : Location = record { page = c.in-Err.field-0.page; slot = c.in-Err.field-0.slot } in
-    file_breaks k m place (is_judged k c.args.at w m c.requires.queued c.requires.ready inside here) c.in-Err.ensures.bad
+    file_breaks k m c.in-Err.place (is_judged k c.args.at w m c.requires.queued c.requires.ready inside here) c.in-Err.ensures.bad

@@ -1,6 +1,6 @@
 use Rattle.std.proofs.Common.{◌≡◌, ◌∙◌, Ok, Err, map, ap, sym, refl}
 use Rattle.trio_layout.specs.Entries.{entries_on}
-use Rattle.trio_survey.specs.Seen.{core_with, listed_seen, place_seen}
+use Rattle.trio_survey.specs.Seen.{core_with, listed_seen}
 use Rattle.trio_survey.proofs.Gathers.{both-nil_left, page_entries_is}
 use Rattle.trio_survey.proofs.KeptBlocks.{goes_nowhere, good_here, others_more, parts_after, parts_more, says_more}
 use Rattle.trio_survey.proofs.blocks.KeptBlocks.keep.Goals as goal
@@ -45,7 +45,7 @@ returns-clause-says c = λ pages there says.
     let on = goes_nowhere c.args.range old c.requires.parts in
     let core = core_with pages c.args.range c.args.inodes in
     let bytes = c.args.page.now in
-    let read : entries_on c.args.inodes c.args.no bytes ≡ Err (place_seen c.in-Err.place) = sym (both-nil_left (entries_on c.args.inodes c.args.no bytes)) ∙ rw (c.in-Err.is, c.new-entries.ensures.items) at c.in_ok-add_page_entries.ensures in
+    let read : entries_on c.args.inodes c.args.no bytes ≡ Err c.in-Err.place = sym (both-nil_left (entries_on c.args.inodes c.args.no bytes)) ∙ rw (c.in-Err.is, c.new-entries.ensures.items) at c.in_ok-add_page_entries.ensures in
     rw c.set-in-Err.ensures (says_more c.args.range old old c.args.no (Err c.in-Err.place) c.requires.core c.requires.parts on c.requires.unread tt pages c.args.inodes (page_entries_is core c.args.no bytes there ∙ read) says)
 
 pub returns-clause-here : goal.returns-clause-here

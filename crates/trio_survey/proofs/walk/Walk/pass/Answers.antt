@@ -1,7 +1,6 @@
 use Rattle.std.proofs.Common.{◌≡◌, ◌+◌, ◌<◌, ◌++◌, Err, Ok, map, get_or, length, take, sym, ap, ◌∙◌, arith, append_assoc}
 use Rattle.std.specs.List.{flat_map}
 use Rattle.std.proofs.lemmas.List.{get_or-map, length-map}
-use Rattle.trio_layout.specs.Core.{Location}
 use Rattle.trio_layout.specs.Survey.{file_of}
 use Rattle.trio_survey.specs.Picks.{pick_of}
 use Rattle.trio_survey.specs.Seen.{met_seen}
@@ -23,9 +22,8 @@ returns-in-Err-clause-fault c =
     let m = met_seen c.index.result.now in
     let inside : c.args.at < length files = omega (arith, length-map walk.files.items met_seen) in
     let at : get_or files c.args.at m ≡ m = get_or-map met_seen walk.files.items c.args.at c.index.result.now m (omega arith) ∙ ap met_seen (sym c.index.ensures) in
-    let place : Location = record { page = c.in-Err.place.page; slot = c.in-Err.place.slot } in
-    let bad : file_of core m ≡ Err place = file_rootless core m ∙ sym (rw c.in-Err.is at c.in_ok-file.ensures.file) in
-    file_fails core (pick_of c.args.picks.now) c.args.at files walk.met.items walk.used.items walk.repeated m place c.requires.stands inside at bad
+    let bad : file_of core m ≡ Err c.in-Err.place = file_rootless core m ∙ sym (rw c.in-Err.is at c.in_ok-file.ensures.file) in
+    rw c.fails.ensures (file_fails core (pick_of c.args.picks.now) c.args.at files walk.met.items walk.used.items walk.repeated m c.in-Err.place c.requires.stands inside at bad)
 
 pub enter-requires-clause-some : goal.enter-requires-clause-some
 enter-requires-clause-some c =
