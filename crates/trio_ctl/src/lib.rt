@@ -13,7 +13,6 @@
 
 mod allot;
 mod backs;
-mod begin;
 mod belongs;
 mod calls;
 pub mod commit_laws;
@@ -24,15 +23,16 @@ mod give_back;
 mod grant;
 mod hold;
 mod image;
+mod judgement;
 mod kit;
-mod mode;
-mod modes;
+mod mode_calls;
+mod mode_change;
 mod outcome;
 mod pending;
 mod read;
 mod registry;
-mod release;
-mod releases;
+mod release_calls;
+mod release_ends;
 mod room;
 mod same;
 mod settle;
@@ -40,6 +40,7 @@ mod settled;
 mod spares;
 mod start;
 mod stored;
+mod underway;
 
 pub use ctl::Ctl;
 pub use desks::PlainDesk;

@@ -13,7 +13,7 @@ ghost use Rattle.trio_ctl.specs.Room.{HasRoomFor, Spends};
 
 use crate::backs::give_back_all;
 use crate::ctl::{Ctl, make_places};
-use crate::releases::{note, told};
+use crate::release_calls::{note, told};
 use trio_entries::Told;
 use trio_lease::{Bundle, ReadLease};
 use trio_nodes::{Done, Entry, List};

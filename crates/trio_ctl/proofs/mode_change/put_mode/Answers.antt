@@ -3,7 +3,7 @@ use Rattle.std.specs.Prelude.{slice_index_or, slice_set}
 use Rattle.std.specs.Option.{option_map}
 use Rattle.trio_page.specs.Home.{Pages}
 use Rattle.trio_open.specs.inner.Modes.{with_mode_in}
-use Rattle.trio_ctl.proofs.mode.put_mode.Goals as goal
+use Rattle.trio_ctl.proofs.mode_change.put_mode.Goals as goal
 
 pub returns-clause-pages : goal.returns-clause-pages
 returns-clause-pages c =

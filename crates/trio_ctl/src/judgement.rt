@@ -1,4 +1,4 @@
-//! The end of a release: the judgement of what a library hands in, and what stands after it.
+//! The judgement of what a library hands in, and its memory.
 
 ghost use Rattle.std.specs.Prelude.{◌≡◌, ◌≢◌, ◌≤◌, ◌+◌, ◌*◌, ℕ, IfErr, IfOk, IsOk, None, OnErr, length, vec_len};
 ghost use Rattle.trio_rights.specs.Bundle.{bundle_pages};
@@ -11,12 +11,11 @@ ghost use Rattle.trio_state.specs.Bundles.{parted_hold};
 ghost use Rattle.trio_state.specs.Given.{GivenTo};
 ghost use Rattle.trio_state.specs.Kept.{Kept};
 ghost use Rattle.trio_state.specs.Moves.{Answered, Beginning, outline_of};
-ghost use Rattle.trio_state.specs.Step.{Release, Step};
 ghost use Rattle.trio_state.specs.Tells.{case_in};
 ghost use Rattle.trio_laws.specs.RuleLaws.{IsJudgeable as CanBeJudged};
 ghost use Rattle.trio_laws.specs.session.Lent.{sizes_of};
 ghost use Rattle.trio_nodes.specs.declared.answers.ReleaseFault.TheVariants.{NoMemory as NoReleaseMemory};
-ghost use Rattle.trio_ctl.specs.Answers.{release_fault_answer, verdict_of};
+ghost use Rattle.trio_ctl.specs.Answers.{release_fault_answer};
 ghost use Rattle.trio_ctl.specs.Ctl.{IsLibrary};
 ghost use Rattle.trio_open.specs.Entries.{HasRoom};
 ghost use Rattle.trio_ctl.specs.HandedIn.{WereHeld};
@@ -24,7 +23,7 @@ ghost use Rattle.trio_ctl.specs.Kits.{AreSpare, HasKit, HasSpare, TakesOne};
 ghost use Rattle.trio_ctl.specs.Pending.{IsVerdict, case_made};
 ghost use Rattle.trio_ctl.specs.Room.{room_for};
 ghost use Rattle.trio_ctl.specs.inner.Beginning.{underway_at};
-ghost use Rattle.trio_ctl.specs.inner.Outcomes.{HasFew, IsOutcome, verdict_on};
+ghost use Rattle.trio_ctl.specs.inner.Outcomes.{HasFew, IsOutcome};
 
 use crate::kit::Kit;
 use crate::outcome::{Outcome, outcome_of};
@@ -34,8 +33,7 @@ use trio_case::Case;
 use trio_entries::Draft;
 use trio_judge::{Room, Verdict, judge};
 use trio_lease::Bundle;
-use trio_nodes::{ReleaseAnswer, ReleaseFault};
-use trio_open::closing::end_files;
+use trio_nodes::ReleaseFault;
 use trio_open::parted::parted_hold;
 use trio_page::{NoMemory, Reads};
 use trio_rights::LibNo;
@@ -172,55 +170,5 @@ impl Registry {
     {
         let _case = case;
         outcome_of(verdict, &self.store.rows)
-    }
-
-    /// Puts a judged bundle in place, which is closed, or rolls it back; there is room for an entry. Takes
-    /// no memory.
-    pub(crate) fn conclude(
-        &mut self,
-        entry: u64,
-        lib: LibNo,
-        case: Case,
-        outcome: Outcome,
-        reads: &mut Reads,
-    ) -> ReleaseAnswer
-        requires entry { entry ≡ self.old.state.entries }
-        requires room { HasRoom (record { made = self.old.state.entries; promised = self.old.promised }) 1 }
-        requires given { GivenTo self.old.state lib.0 (bundle_in case.bundle) }
-        requires closed { parted_hold self.old.state lib.0 (bundle_in case.bundle) ≡ None }
-        requires outcome { IsOutcome (case_in self.old.state lib.0 (bundle_in case.bundle)) outcome }
-        ensures step { Step self.old.state (Release lib.0 (bundle_in case.bundle)) (verdict_of result) self.new.state }
-        ensures verdict { result ≡ verdict_on outcome }
-        ensures floor { self.old.looked ≤ self.new.looked }
-        ensures looked { self.new.looked ≤ self.old.looked + length (bundle_pages (bundle_in case.bundle)) + length (bundle_in case.bundle).writes }
-        ensures reads { reads.new ≤ reads.old + length (bundle_pages (bundle_in case.bundle)) + length (bundle_in case.bundle).writes }
-        ensures was_kept { Kept self.old.state }
-        ensures kept { Kept self.new.state }
-        ensures begun { self.new.begun ≡ self.old.begun }
-        ensures promised { self.new.promised ≡ self.old.promised }
-    {
-        end_files(&mut self.files, &mut self.grants, lib, &case);
-        self.history.enter(entry);
-        let bundle = case.into_bundle();
-        match outcome {
-            Outcome::Accepted(listing) => {
-                self.store.commit(lib, bundle, listing, reads);
-                ReleaseAnswer::Accepted
-            }
-            Outcome::Refused {
-                rule,
-                ino,
-                page,
-                slot,
-            } => {
-                self.store.roll_back(lib, bundle);
-                ReleaseAnswer::Refused {
-                    rule,
-                    ino,
-                    page,
-                    slot,
-                }
-            }
-        }
     }
 }
