@@ -56,9 +56,6 @@ module _ (desk : DeskSeen) (s s' : SessionSeen) (ino : ℕ) (kind : Kind) (m : M
   abbrev c : Case
   c = case_as_stands desk (in_hand s)
 
-  abbrev c' : Case
-  c' = case_as_stands desk (in_hand s')
-
   abbrev core' : Core
   core' = core_in_hand desk (in_hand s')
 
@@ -72,9 +69,6 @@ module _ (desk : DeskSeen) (s s' : SessionSeen) (ino : ℕ) (kind : Kind) (m : M
 
     abbrev pub met : Met
     met = r.is.met
-
-    abbrev then' : FileRead
-    then' = record { body = e.read; chain = e.chain; entries = r.file.entries }
 
     old_pages : pages_listed r.file ≡ pages_of_chain (chain_in s ino)
     old_pages = ap pages_of_chain r.chain

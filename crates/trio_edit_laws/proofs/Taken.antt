@@ -31,9 +31,6 @@ use Rattle.trio_edit_laws.proofs.Shown.{possible_before}
 -- ---- a desk that has other things out
 
 module _ (desk : DeskSeen) (out' : LibOut) (s : SessionSeen) where
-  abbrev now : DeskSeen
-  now = record desk { out = out' }
-
   pub shows_now : ShowsTrees desk s → ShowsTrees (record desk { out = out' }) s
   shows_now shows nodes rows p =
       let v = shows nodes rows (possible_before desk out' s.parcel s.reads nodes rows p) in (v.0, record { possible = p; tree = v.1.tree; shows = v.1.shows })

@@ -62,11 +62,6 @@ view_then desk s h' nodes rows m more possible =
     let was = m.shows nodes rows (more nodes rows possible) in
     (was.0, record { order = m.order; more = more; shows = record { possible = possible; tree = was.1.tree; shows = was.1.shows } })
 
--- and what is possible now
-pub view_now : (desk : DeskSeen) (s : SessionSeen) (nodes : Nodes) (rows : List (Option Row)) → MayEdit desk s → ArePossible desk s.parcel s.reads nodes rows
-    → (nodes' : Nodes) × IsView desk (in_hand s) (in_hand s) nodes nodes' rows
-view_now desk s nodes rows m possible = view_then desk s (in_hand s) nodes rows m (λ ns rs p. p) possible
-
 -- each judged file reads whole
 pub judged_reads : (desk : DeskSeen) (h h' : InHand) (nodes nodes' : Nodes) (rows : List (Option Row)) (m : Met) → IsView desk h h' nodes nodes' rows → In m (judged_files (case_as_stands desk h))
     → (f : FileRead) × (file_in (case_as_stands desk h) m ≡ Ok f)

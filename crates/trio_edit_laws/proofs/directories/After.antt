@@ -70,9 +70,6 @@ module _ (desk : DeskSeen) (s s' : SessionSeen) (n : ℕ) (m : MayEdit desk s) (
     r : Rewrites desk s s' n nodes
     r = rewrites nodes v.0 rows v.1
 
-    abbrev made_then : Met → Type 0
-    made_then x = IsMadeBy (in_hand s) n r.now x
-
     judged_then : (x : MadeFile) → In x s'.made → IsJudgedMade desk s' x
     judged_then x i = elim (cases_eq x.ino n) [
       | inl same ↦

@@ -57,9 +57,6 @@ pub record EditsOnly (s s' : SessionSeen) (dirs : List ℕ) (ino : ℕ) : Type 0
       → (dir : ℕ) × In dir dirs × (open_kind s dir ≡ Some Directory) × In n (chain_in s dir).blocks
 
 module _ (desk : DeskSeen) (s s' : SessionSeen) (dirs : List ℕ) (ino : ℕ) (m : MayEdit desk s) (e : EditsOnly s s' dirs ino) where
-  abbrev w : WritesDirs s s'
-  w = e.writes
-
   opens_left : (n : ℕ) → n ≢ ino → open_kind s' n ≡ open_kind s n
   opens_left n d = open_else s s' e.writes n (e.found n d)
 

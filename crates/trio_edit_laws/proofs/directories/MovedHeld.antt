@@ -34,10 +34,10 @@ use Rattle.trio_edit_laws.proofs.directories.After.{OthersStay}
 use Rattle.trio_edit_laws.proofs.directories.Changes.{changes_by}
 use Rattle.trio_edit_laws.proofs.directories.Leaves.{has_slot, leaves_files, spare_same}
 use Rattle.trio_edit_laws.proofs.directories.Mades.{absent-find, filter-absent, filter-absent_none, number_of}
-use Rattle.trio_edit_laws.proofs.directories.Moved.{MoveNeeds, body_kept, body_to, from_has, moved_session, moved_within, moved_writes, new_to, p, p2, slot_kept, to_has}
+use Rattle.trio_edit_laws.proofs.directories.Moved.{MoveNeeds, body_kept, body_to, from_has, moved_session, moved_within, moved_writes, new_to, p, slot_kept, to_has}
 use Rattle.trio_edit_laws.proofs.directories.MovedNodes.{MovesFile, moved_turns, slot_to}
 use Rattle.trio_edit_laws.proofs.directories.MovedBetween.{move_at}
-use Rattle.trio_edit_laws.proofs.directories.Places.{IsEmptyPlace, IsNamedPlace}
+use Rattle.trio_edit_laws.proofs.directories.Places.{IsNamedPlace}
 use Rattle.trio_edit_laws.proofs.directories.Sees.{listed, listed_on, r}
 use Rattle.trio_edit_laws.proofs.directories.Stays.{EditsDirs, WritesDirs, body_else, chain_else, open_else, unlent_still}
 
@@ -50,14 +50,8 @@ module _ (desk : DeskSeen) (s : SessionSeen) (dir dir2 : ℕ) (place place2 : Pl
   abbrev from_place : IsNamedPlace s dir q.entry.opens place e old
   from_place = p desk s dir dir2 place place2 e old name kind body q
 
-  abbrev to_place : IsEmptyPlace s dir2 q.opens2 place2
-  to_place = p2 desk s dir dir2 place place2 e old name kind body q
-
   abbrev num : ℕ
   num = from_place.there.number
-
-  abbrev num2 : ℕ
-  num2 = to_place.there.number
 
   abbrev then' : SessionSeen
   then' = moved_session desk s dir dir2 place place2 e old name kind body q s.made s.cleared

@@ -139,25 +139,6 @@ module _ (desk : DeskSeen) (s : SessionSeen) (dir : ℕ) (h' : InHand) (nodes no
         body = refl;
       })
 
-  -- and each entry is said by a slot
-  pub record IsSaid (l : Listed) : Type 0 where
-    block : In l.page (chain_in s dir).blocks
-    slot : l.slot < 16
-    says : slot_of every_number (slot_bytes l.slot (page_in s.parcel l.page)) ≡ Entry l.entry
-    body : l.body ≡ body_in_slot l.slot (page_in s.parcel l.page)
-
-  pub said : (l : Listed) → In l r.file.entries → IsSaid l
-  said l i =
-      let q = (entries_are_in_slots desk (in_hand s) r.is.met r.file l r.is.kind r.reads).0 i in
-      let block : In l.page blocks = subst (λ k. In l.page k) blocks_are q.block in
-      let bytes : q.bytes ≡ page_in s.parcel l.page = (let t : Some q.bytes ≡ Some (page_in s.parcel l.page) = sym q.page ∙ there l.page block in cc t) in
-      record {
-        block = block;
-        slot = q.slot;
-        says = slot_wide l.page l.slot block q.slot ∙ ap (λ p. slot_of desk.sizes.inodes (slot_bytes l.slot p)) (sym bytes) ∙ q.says;
-        body = q.body ∙ ap (body_in_slot l.slot) bytes;
-      }
-
   pub lists : Lists nodes' dir r.file.entries
   lists = subst (λ n. Lists nodes' n r.file.entries) r.is.number (sees_judged desk (in_hand s) h' nodes nodes' rows r.is.met r.file v r.is.judged r.reads)
 

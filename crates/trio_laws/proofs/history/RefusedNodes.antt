@@ -17,9 +17,7 @@ use Rattle.trio_state.specs.Bundles.{Ends, refused_image, uncovered}
 use Rattle.trio_rights.specs.Sheets.{Sheet, sheet_numbers}
 use Rattle.trio_state.specs.State.{OpenGrant, State, settled}
 use Rattle.trio_nodes.specs.GrantKinds.{is_write}
-use Rattle.trio_layout.specs.Verifies.{Verifies}
 use Rattle.trio_surveys.specs.Reading.{with_other}
-use Rattle.trio_laws.proofs.Agreeing.{verifies_still}
 use Rattle.trio_laws.proofs.Bundles.{Closed, Unwritten, unwritten_apart, in_numbers}
 use Rattle.trio_lists.proofs.Filters.{find-In, In-find, list_any-In}
 use Rattle.trio_surveys.proofs.Images.{some_of, one_met, met_numbered}
@@ -68,9 +66,6 @@ module _ (s s' : State) (k : Kept s) (k' : Kept s') (whole : LentWhole s) (lib :
 
   fitJ : IsFit J.core
   fitJ = fit' s s' k lib b given closed e
-
-  verifiesJ : Verifies J
-  verifiesJ = verifies_still I ps k.fit fitJ k.verifies (agree s s' k lib b given closed e)
 
   -- ---- a file that the bundle doesn't write
 

@@ -67,9 +67,6 @@ dead_writer s k n dead = by (writer_of s n) refl
         absurd (false≢true (sym (ap is_some dead) ∙ live))
 
 module _ (s s' : State) (k : Kept s) (lib : ℕ) (b : Bundle) (given : GivenTo s lib b) (image : Image) (e : Ends s lib b image s') (n : ℕ) where
-  stays : OpenGrant → Bool
-  stays g = not (is_in_bundle lib b g)
-
   writer_then : option_map lent_part (writer_of s' n) ≡ option_map lent_part (find (writes n) (grants_after s lib b))
   writer_then =
       sym (find_mapped lent_part (writes n) s'.open_grants (λ g. refl))

@@ -152,12 +152,6 @@ module _ (sizes : Sizes) (creds : Creds) (rows : List (Option Row)) (b : Bundle)
           | inr t ↦ inr (record { entry = w.0; is_now = w.1; new = w.2; is = w.3; bare = t })
         ]
 
-    one_then : (x z : Met) → New x ⊎ Old x → New z ⊎ Old z → x.ino ≡ z.ino → x ≡ z
-    one_then x z (inr o) (inr p) e = one_before v x z o.0 p.0 e
-    one_then x z (inl w) (inr p) e = absurd (p.1 w.2 (sym e ∙ new_number x w))
-    one_then x z (inr o) (inl w) e = absurd (o.1 w.2 (e ∙ new_number z w))
-    one_then x z (inl w) (inl v) e = w.3 ∙ ap met_at (some_one now w.0 v.0 w.1 v.1) ∙ sym v.3
-
     -- the entries of a file that is judged then
     entry_then : (x : Met) → New x ⊎ Old x → (e : Naming) → In e (namings_in x.ino (file_within (bundle_core c') x)) → (In e (namings c) × (e.listed.entry.ino ≡ n → ⊥)) ⊎ (now ≡ Some e)
     entry_then x j e i =

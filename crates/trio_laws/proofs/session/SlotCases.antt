@@ -89,9 +89,6 @@ made_same directory name k k' l l' kind body = ap (made_node directory name k) b
 -- ---- a case that shows nodes
 
 module _ {c : Case} {nodes nodes' : Nodes} (v : IsShown c nodes nodes') where
-  pub new_row : (n : ℕ) → In n c.bundle.numbers → row_in c.rows n ≡ None
-  new_row n i = v.among.new n i
-
   pub new_unheld : (n : ℕ) → In n c.bundle.numbers → is_among n c.bundle.holds ≡ false
   new_unheld n i =
       false_from_ne_true (is_among n c.bundle.holds) (λ t.

@@ -59,9 +59,6 @@ module _ (sizes : Sizes) (creds : Creds) (rows rows' : List (Option Row)) (b : B
   core = bundle_core (case_with sizes creds rows b lent)
 
   module _ {X : Type 0} (g : ByReading X) where
-    said : Met → List X
-    said m = g m.ino m.kind (file_within core m)
-
     start_alike : (w : Written) → g (written_met c' w).ino (written_met c' w).kind (file_within core (written_met c' w)) ≡ g (written_met c w).ino (written_met c w).kind (file_within core (written_met c w))
     start_alike w =
         let one : Option Row = row_in rows' w.ino in

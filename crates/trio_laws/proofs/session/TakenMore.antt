@@ -94,9 +94,6 @@ module _ (desk : DeskSeen) (h : InHand) (given : Allotted) (o : IsInOrder desk h
       possible_with_less desk h.parcel (with_allotment h given).parcel h.back h.back (λ f i. i) (λ x i. i)
       (λ n i. subst (λ l. In n l) (sym (map-append (λ (n : InoParts). n.no) h.parcel.inodes given.inodes.items)) (In-left n (ino_numbers h.parcel.inodes) numbers' i))
 
-  abbrev front : List Sheet
-  front = flat_map (λ (w : Written). w.index ++ w.blocks) hand.writes
-
   sheets_are : bundle_sheets more ≡ bundle_sheets hand ++ map fresh_sheet given.pages.items
   sheets_are = sym (append_assoc (flat_map (λ (w : Written). w.index ++ w.blocks) hand.writes) hand.pages (map fresh_sheet given.pages.items))
 

@@ -55,9 +55,6 @@ use Rattle.trio_laws.proofs.session.Ruled.{IsFurther, IsNewFile, bytes_new, byte
 use Rattle.trio_laws.proofs.session.Spares.{judged_own, no_bytes, shown_spares}
 use Rattle.trio_laws.proofs.session.Starts.{Share, among_alike, judged_once, number_start, shared, sorted-cut, start_from, start_judged, start_number, start_to}
 
-flat_sheets : Written → List Sheet
-flat_sheets w = w.index ++ w.blocks
-
 module _ (desk : DeskSeen) (h : InHand) (f : LentFile) (o : IsInOrder desk h) (u : IsUntouched desk h f) where
   abbrev b : Bundle
   b = bundle_of h.parcel
