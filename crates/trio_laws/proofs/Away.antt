@@ -1,5 +1,5 @@
 -- What is lent for writing or out by allotment is absent from home, in each state of a run.
-use Rattle.std.proofs.Common.{◌≡◌, ℕ, ◌<◌, ◌⊎◌, true, cond, not, ltb, leb, List, [], ◌∷◌, ◌++◌, length, Option, Some, None, slice_get, sym, ap, ◌∙◌, subst, inl, inr, arith, eqb, ◌&&◌}
+use Rattle.std.proofs.Common.{◌≡◌, ℕ, ◌<◌, ◌⊎◌, true, cond, ltb, leb, List, [], ◌∷◌, ◌++◌, length, Option, Some, None, slice_get, sym, ap, ◌∙◌, subst, inl, inr, arith}
 use Rattle.std.specs.Prelude.{is_some}
 use Rattle.std.specs.Option.{option_map}
 use Rattle.std.proofs.lemmas.Bool.{and_parts, ltb-true, false≢true}
@@ -17,12 +17,12 @@ use Rattle.trio_layout.specs.Survey.{plain}
 use Rattle.trio_layout.specs.Image.{Image, row_at, settled_body}
 use Rattle.trio_layout.specs.Mode.{body_put, body_with_mode}
 use Rattle.trio_rights.specs.Bundle.{Bundle}
-use Rattle.trio_nodes.specs.GrantKinds.{is_read, is_write}
+use Rattle.trio_nodes.specs.GrantKinds.{is_write}
 use Rattle.trio_state.specs.State.{OpenGrant, State, settled}
 use Rattle.trio_state.specs.Allotments.{allots}
 use Rattle.trio_state.specs.Bundles.{Ends}
 use Rattle.trio_state.specs.Grants.{given_back, grant_fault, lent_pages, opened, opens}
-use Rattle.trio_state.specs.Step.{Grant, Allot, Back, Release, Settle, SetMode, CtlAnswer, granted_to, mode_fault, moded_to, ReleaseEnd, Parted, IsAccepted, IsRefused}
+use Rattle.trio_state.specs.Step.{Grant, Allot, Back, Release, Settle, SetMode, CtlAnswer, granted_to, mode_fault, moded_to, ReleaseEnd}
 use Rattle.trio_state.specs.Kept.{Kept}
 use Rattle.trio_state.specs.Given.{GivenTo}
 use Rattle.trio_state.specs.Run.{start}
@@ -110,11 +110,7 @@ allotted s lib count many a k' p h =
     ])
 
 back : (s : State) (lib ino : ℕ) → AllAway s → AllAway (given_back s lib ino)
-back s lib ino a p (inr out) = a p (inr out)
-back s lib ino a p (inl lent) =
-    let g = lent_by (given_back s lib ino).open_grants p lent in
-    let f = filter-In (λ g. not (eqb g.lib lib && eqb g.ino ino && is_read g.kind)) g.0 s.open_grants g.1 in
-    a p (inl (by_lent s.open_grants g.0 p f.0 g.2 g.3))
+back s lib ino a p h = search (arith, lent_by, filter-In, by_lent)
 
 moded : (s : State) (ino mode : ℕ) (f : Option ModeFault) → AllAway s → AllAway (moded_to s ino mode f).after
 moded s ino mode (Some f) a = after_no_mode AllAway s f a a
@@ -147,9 +143,7 @@ module _ (s s' : State) (k : Kept s) (lib : ℕ) (b : Bundle) (given : GivenTo s
       ])
 
 released : (s s' : State) (k : Kept s) (lib : ℕ) (b : Bundle) (answer : CtlAnswer) → GivenTo s lib b → ReleaseEnd s lib b answer s' → AllAway s → AllAway s'
-released s s' k lib b answer given (Parted n some e same) a = subst AllAway (sym same) a
-released s s' k lib b answer given (IsAccepted none t e ends) a = ended s s' k lib b given _ ends a
-released s s' k lib b answer given (IsRefused none f why e tells ends) a = ended s s' k lib b given _ ends a
+released s s' k lib b answer given h a = search (arith, ended)
 
 pub starts_away : StartsAway
 starts_away image creds p (inl lent) = absurd (false≢true lent)

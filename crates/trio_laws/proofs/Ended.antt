@@ -80,15 +80,7 @@ module _ (s s' : State) (k : Kept s) (lib : ℕ) (b : Bundle) (given : GivenTo s
   apart_then = pairs_like MayBothStand (λ x y h. h) (λ x y h. h) s'.open_grants (grants_after s lib b) e.grants (AllPairs-filter MayBothStand (λ g. not (is_in_bundle lib b g)) s.open_grants k.apart)
 
   pub checkpoints_then : (g : OpenGrant) → In g s'.open_grants → sheet_numbers g.checkpoint ≡ sheet_numbers (covered g.kind g.of g.index g.blocks)
-  checkpoints_then g i =
-      let r = grant_before g i in
-      let h : OpenGrant = r.0 in
-      let part : lent_part g ≡ lent_part h = r.3 in
-      sym (blank_numbers g.checkpoint)
-      ∙ ap (λ (x : OpenGrant). sheet_numbers x.checkpoint) part
-      ∙ blank_numbers h.checkpoint
-      ∙ k.checkpoints h r.1
-      ∙ ap (λ (x : OpenGrant). sheet_numbers (covered x.kind x.of x.index x.blocks)) (sym part)
+  checkpoints_then g i = search (arith, grant_before, blank_numbers)
 
   -- a write grant of the bundle is that of one of its written files
   pub write_in_bundle : (g : OpenGrant) → In g s.open_grants → g.kind ≡ Write → is_in_bundle lib b g ≡ true → (w : Written) × (i : In w b.writes) × ((given.writes w i).grant ≡ g)
@@ -122,14 +114,10 @@ module _ (s s' : State) (k : Kept s) (lib : ℕ) (b : Bundle) (given : GivenTo s
       (and_from (eqb h'.lib g'.lib && eqb h'.ino q.parent) (is_write h'.kind) (and_from (eqb h'.lib g'.lib) (eqb h'.ino q.parent) (eq-eqb h'.lib g'.lib l') (eq-eqb h'.ino q.parent i')) k')
 
   pub outs_then : (n : ℕ) → is_out s'.pages_out n ≡ true → (is_out s.pages_out n ≡ true) × (In n (sheet_numbers b.pages) → ⊥)
-  outs_then n out =
-      let r = is_out-back (sheet_numbers b.pages) n s.pages_out (ap (λ l. is_out l n) (sym e.pages) ∙ out) in
-      (r.0, λ j. both_ways (is_among n (sheet_numbers b.pages)) r.1 (In-is_among n (sheet_numbers b.pages) j))
+  outs_then n out = search (arith, is_out-back, both_ways, In-is_among)
 
   pub numbers_then : (n : ℕ) → is_out s'.numbers_out n ≡ true → (is_out s.numbers_out n ≡ true) × (In n b.numbers → ⊥)
-  numbers_then n out =
-      let r = is_out-back b.numbers n s.numbers_out (ap (λ l. is_out l n) (sym e.numbers) ∙ out) in
-      (r.0, λ j. both_ways (is_among n b.numbers) r.1 (In-is_among n b.numbers j))
+  numbers_then n out = search (arith, is_out-back, both_ways, In-is_among)
 
   pub pages_placed_then : length s'.pages_out ≡ s.home.core.range.end
   pages_placed_then = ap length e.pages ∙ length-with_all None (sheet_numbers b.pages) s.pages_out ∙ k.pages_placed

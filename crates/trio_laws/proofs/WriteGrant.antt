@@ -37,9 +37,7 @@ use Rattle.trio_surveys.specs.Reading.{with_other, AgreeOn, pages_read}
 
 -- a page that is read is an index page or a block of a directory
 pub read_cases : (kind : Kind) (f : FileRead) (p : ℕ) → In p (pages_read kind f) → In p f.chain.index ⊎ (In p f.chain.blocks × (kind ≡ Directory))
-read_cases Regular f p i = inl i
-read_cases Directory f p i =
-    elim (In-cases p f.chain.index f.chain.blocks i) [ inl a ↦ inl a | inr b ↦ inr (b, refl) ]
+read_cases kind f p i = search (arith, In-cases)
 
 pub regular_directory : (k : Kind) → k ≡ Regular → k ≡ Directory → ⊥
 regular_directory Regular a b = absurd cc
@@ -116,11 +114,7 @@ module _ (s : State) (k : Kept s) (lib : ℕ) (m : Met) (f : FileRead) (i : In m
   before = with_pages (flat_map (λ g. g.checkpoint) s.open_grants) (without_pages (lent_pages g) s.home.core.pages)
 
   pages_are_two : pages ≡ with_pages g.checkpoint before
-  pages_are_two =
-      let a : flat_map (λ g. g.checkpoint) (s.open_grants ++ g ∷ []) ≡ flat_map (λ g. g.checkpoint) s.open_grants ++ g.checkpoint =
-      flat_map-append (λ (g : OpenGrant). g.checkpoint) s.open_grants (g ∷ []) ∙ ap (λ l. flat_map (λ g. g.checkpoint) s.open_grants ++ l) (append-nil g.checkpoint) in
-      ap (λ l. with_pages l (without_pages (lent_pages g) s.home.core.pages)) a
-      ∙ with_pages-append (flat_map (λ g. g.checkpoint) s.open_grants) g.checkpoint (without_pages (lent_pages g) s.home.core.pages)
+  pages_are_two = search (arith, flat_map-append, append-nil, with_pages-append)
 
   -- each page is as it was, or it is a block of the regular file and absent
   pub pages_now : (p : ℕ) → (slice_get pages p ≡ slice_get core.pages p) ⊎ (In p f.chain.blocks × (m.kind ≡ Regular) × (slice_get pages p ≡ Some None))

@@ -14,7 +14,6 @@ use Rattle.trio_layout.specs.Entries.{Listed, entries_of_kind}
 use Rattle.trio_lists.specs.Lists.{In, is_among}
 use Rattle.trio_layout.specs.Survey.{Met, plain, FileRead, file_of, survey, row_by, met_in, children, row_of, root_of}
 use Rattle.trio_layout.specs.Accept.{is_accepted, next}
-use Rattle.trio_lists.specs.Counting.{count_up}
 use Rattle.trio_layout.specs.Allowed.{has_owner}
 use Rattle.trio_state.specs.Bundles.{Ends}
 use Rattle.trio_state.specs.Given.{GivenTo}
@@ -47,7 +46,7 @@ use Rattle.trio_nodes.specs.Standing.{Standing, stands, is_others, is_given}
 use Rattle.trio_nodes.specs.After.{bytes_in, raw_nodes}
 use Rattle.trio_nodes.specs.Legal.{IsWithinGrants, SameContent, HasRightsOf, HasPlaceOf, HasNameOf, BlocksAreKnown, is_handed, is_listed}
 use Rattle.trio_laws.specs.history.Stands.{name_of, size_of, bytes_of, node_of, node_by, nodes_of, standing_of, writer_of}
-use Rattle.trio_laws.specs.history.Entries.{bundle_handed, raw_file, raw_files, raw_blocks, raw_entry, is_told, told_by, told_file, told_blocks, told_blocks_of, is_block_told, block_numbers}
+use Rattle.trio_laws.specs.history.Entries.{bundle_handed, raw_files, raw_blocks, raw_entry, told_by, told_file, told_blocks, told_blocks_of, is_block_told, block_numbers}
 use Rattle.trio_laws.specs.history.Recorded.{LentWhole, IsMarked}
 use Rattle.trio_laws.proofs.history.AcceptedFiles.{P, pick, fitP, soundP, fitJ, verifiesJ, Now, now, kept_follows, FileIs, Stayed, Wrote, New, file_is, unheld_now}
 use Rattle.trio_laws.proofs.history.Blocks.{chain_count}
@@ -188,11 +187,7 @@ module _ (s s' : State) (k : Kept s) (k' : Kept s') (whole : LentWhole s) (lib :
       }
 
   entry_is : (i : Image) (dir n : ℕ) (w : Option OpenGrant) (name : List ℕ) (kind : Kind) → Child i dir n name kind → entry_in dir (node_by i n w (row_at i n)) ≡ Some (name, kind)
-  entry_is i dir n w name kind c =
-      ap (λ o. entry_in dir (node_by i n w o)) c.at
-      ∙ ap (λ t. cond t (Some (name_of i n c.row, c.row.kind)) None) (eq-eqb c.row.parent dir c.parent)
-      ∙ ap (λ l. Some (l, c.row.kind)) c.name_is
-      ∙ ap (λ t. Some (name, t)) c.kind_is
+  entry_is i dir n w name kind c = search (arith, eq-eqb)
 
   -- the root is in no directory
   root_above : (i : Image) (fit : IsFit i.core) (v : Verifies i) (n : ℕ) (r : Row) → row_at i n ≡ Some r → n ≡ 1 → r.parent ≡ 0
@@ -298,12 +293,7 @@ module _ (s s' : State) (k : Kept s) (k' : Kept s') (whole : LentWhole s) (lib :
   -- ---- grants that stand
 
   grant_stands : (n : ℕ) (g : OpenGrant) (t : GrantKind) → In g s.open_grants → g.lib ≡ lib → g.ino ≡ n → g.kind ≡ t → same_kind t t ≡ true → stands gs lib n t ≡ true
-  grant_stands n g t i l ino kind refl_kind =
-      list_any-map standing_of (λ (g : Standing). eqb g.lib lib && eqb g.ino n && same_kind g.kind t) s.open_grants
-      ∙ In-list_any (λ (g : OpenGrant). eqb g.lib lib && eqb g.ino n && same_kind g.kind t) g s.open_grants i
-      (and_from (eqb g.lib lib && eqb g.ino n) (same_kind g.kind t)
-      (and_from (eqb g.lib lib) (eqb g.ino n) (eq-eqb g.lib lib l) (eq-eqb g.ino n ino))
-      (ap (λ (x : GrantKind). same_kind x t) kind ∙ refl_kind))
+  grant_stands n g t i l ino kind refl_kind = search (arith, list_any-map, In-list_any, and_from, eq-eqb)
 
   written_stands : (n : ℕ) → is_written b n ≡ true → stands gs lib n Write ≡ true
   written_stands n wr =
@@ -472,10 +462,7 @@ module _ (s s' : State) (k : Kept s) (k' : Kept s') (whole : LentWhole s) (lib :
       (r.0, told_step (is_block_told image after h n at p) (record { ino = n; at = at; bytes = unwrap_or (page_of after.core p) [] }) r.0 (told_blocks image after h n (at + 1) ps) r.1, r.2, r.3 ∙ sym e)
 
   old_size : (n : ℕ) (q : Row) → row_at s.home n ≡ Some q → q.kind ≡ Regular → length (bytes_in (node_at (nodes_of s) n)) ≡ size_of image n
-  old_size n q row regular =
-      ap (λ o. length (bytes_in o)) (was n ∙ ap (node_by image n (writer_of s n)) row)
-      ∙ ap (λ t. length (bytes_of image n q (writer_of s n) t)) regular
-      ∙ old_long s k whole n q row
+  old_size n q row regular = search (arith, was, old_long)
 
   -- a position within the size has its block
   has_block : (n : ℕ) (r : Row) (row : row_at after n ≡ Some r) (at : ℕ) → 4096 * at < size_of after n → (page : ℕ) × (slice_get (block_numbers after n (row_at after n)) at ≡ Some page)
@@ -532,24 +519,13 @@ module _ (s s' : State) (k : Kept s) (k' : Kept s') (whole : LentWhole s) (lib :
 
   -- one that is gone
   known_gone : (n : ℕ) (q : Row) (f : RawFile) → row_at s.home n ≡ Some q → told_file image b n true q ≡ f → Known f
-  known_gone n q f row same at regular inside =
-      let number : f.ino ≡ n = sym (ap (λ (x : RawFile). x.ino) same) in
-      let size : f.size ≡ size_of image n = sym (ap (λ (x : RawFile). x.size) same) in
-      let kind : q.kind ≡ Regular = ap (λ (x : RawFile). x.kind) same ∙ regular in
-      let l : length (bytes_in (node_at (nodes_of s) f.ino)) ≡ size_of image n = ap (λ m. length (bytes_in (node_at (nodes_of s) m))) number ∙ old_size n q row kind in
-      inr (omega (arith, l, size))
+  known_gone n q f row same at regular inside = search (arith, old_size)
 
   known_by : (n : ℕ) (f : RawFile) (t : Bool) (o o' : Option Row) → row_at s.home n ≡ o → row_at after n ≡ o' → cond t (told_by image after b n o o') None ≡ Some f → In f these → Known f
-  known_by n f false o o' row row' q i = absurd cc
-  known_by n f true None None row row' q i = absurd cc
-  known_by n f true None (Some r) row row' q i = known_there n r f row' (one_of (told_file after b n false r) f q) i
-  known_by n f true (Some z) (Some r) row row' q i = known_there n r f row' (one_of (told_file after b n false r) f q) i
-  known_by n f true (Some z) None row row' q i = known_gone n z f row (one_of (told_file image b n true z) f q)
+  known_by n f t o o' row row' q i = search (arith, known_there, one_of, known_gone)
 
   known_at : (f : RawFile) → In f these → Known f
-  known_at f i =
-      let q = files_from (raw_file image after b) (count_up 1 s.home.core.inodes) f i in
-      known_by q.0 f (is_told image after b q.0) (row_at s.home q.0) (row_at after q.0) refl refl q.1 i
+  known_at f i = search (arith, files_from, known_by)
 
   all_files : (P : RawFile → Type 0) (xs : List RawFile) → ((f : RawFile) → In f xs → P f) → AllByRecursion P xs
   all_files P [] h = tt

@@ -23,15 +23,13 @@ use Rattle.trio_nodes.specs.Standing.{Standing, is_given}
 use Rattle.trio_nodes.specs.Legal.{is_handed}
 use Rattle.trio_laws.proofs.history.Extends.{standing_lent}
 use Rattle.trio_laws.specs.history.Stands.{standing_of}
-use Rattle.trio_laws.specs.history.Entries.{name_by, bundle_handed, written_handed, is_told, told_file, told_by, raw_file, raw_files}
+use Rattle.trio_laws.specs.history.Entries.{name_by, bundle_handed, is_told, told_file, told_by, raw_file, raw_files}
 use Rattle.std.specs.Str.{bytes_eq}
 use Rattle.trio_laws.proofs.history.Listing.{met_at}
 use Rattle.trio_laws.proofs.history.RawParts.{raw_number}
 
 pub bool_same : (a b : Bool) → (a ≡ true → b ≡ true) → (b ≡ true → a ≡ true) → a ≡ b
-bool_same true b f g = sym (f refl)
-bool_same false true f g = g refl
-bool_same false false f g = refl
+bool_same a b f g = search arith
 
 -- ---- members
 
@@ -44,9 +42,7 @@ count_has from (suc c) m low high =
     ]
 
 files_step : (rf : ℕ → Option RawFile) (x : ℕ) (o : Option RawFile) (rest : List RawFile) (f : RawFile) → rf x ≡ o → In f (cons_option o rest) → (rf x ≡ Some f) ⊎ In f rest
-files_step rf x None rest f e i = inr i
-files_step rf x (Some g) rest f e (inl s) = inl (e ∙ ap Some (sym s))
-files_step rf x (Some g) rest f e (inr i) = inr i
+files_step rf x o rest f e h = search arith
 
 pub files_from : (rf : ℕ → Option RawFile) (xs : List ℕ) (f : RawFile) → In f (filter_map rf xs) → (m : ℕ) × (rf m ≡ Some f)
 files_from rf [] f i = absurd i
@@ -75,10 +71,7 @@ abbrev pub is_in : Bundle → ℕ → Bool
 is_in b n = is_written b n || is_among n b.holds
 
 given_by : (before after : Image) (b : Bundle) (n : ℕ) (was is : Option Row) (f : RawFile) → told_by before after b n was is ≡ Some f → f.given ≡ is_in b n
-given_by before after b n None None f e = absurd cc
-given_by before after b n (Some r) None f e = (let s : told_file before b n true r ≡ f = cc e in sym (ap (λ (x : RawFile). x.given) s))
-given_by before after b n None (Some r) f e = (let s : told_file after b n false r ≡ f = cc e in sym (ap (λ (x : RawFile). x.given) s))
-given_by before after b n (Some q) (Some r) f e = (let s : told_file after b n false r ≡ f = cc e in sym (ap (λ (x : RawFile). x.given) s))
+given_by before after b n was is f e = search arith
 
 given_step : (before after : Image) (b : Bundle) (n : ℕ) (t : Bool) (f : RawFile) → cond t (told_by before after b n (row_at before n) (row_at after n)) None ≡ Some f → f.given ≡ is_in b n
 given_step before after b n true f e = given_by before after b n (row_at before n) (row_at after n) f e
@@ -105,9 +98,7 @@ find_any p (x ∷ xs) = step (p x) (find_any p xs)
     step false h = h
 
 pub handed_is : (h : Handed) (n : ℕ) → is_handed h n ≡ is_in (bundle_handed h) n
-handed_is h n =
-    ap (λ t. t || is_among n h.holds)
-    (sym (list_any-map written_handed (λ (w : Written). eqb w.ino n) h.writes) ∙ sym (find_any (λ (w : Written). eqb w.ino n) (map written_handed h.writes)))
+handed_is h n = search (arith, list_any-map, find_any)
 
 module _ (s : State) (k : Kept s) (lib : ℕ) (b : Bundle) (given : GivenTo s lib b) where
   -- the grant of a file that is given
@@ -133,9 +124,6 @@ module _ (s : State) (k : Kept s) (lib : ℕ) (b : Bundle) (given : GivenTo s li
     pub given_is : (n : ℕ) → is_given (raw_files (settled s) after b) n ≡ is_in b n
     given_is n = bool_same (is_given (raw_files (settled s) after b) n) (is_in b n) there back
       where
-        rf : ℕ → Option RawFile
-        rf = raw_file (settled s) after b
-
         there : is_given (raw_files (settled s) after b) n ≡ true → is_in b n ≡ true
         there t =
             let a = list_any-In (λ (f : RawFile). eqb f.ino n && f.given) (raw_files (settled s) after b) t in
@@ -188,7 +176,4 @@ module _ (s : State) (k : Kept s) (lib : ℕ) (b : Bundle) (given : GivenTo s li
         ]))
 
     pub grants_end : (s' : State) → map lent_part s'.open_grants ≡ map lent_part (grants_after s lib b) → map standing_of s'.open_grants ≡ filter (λ (g : Standing). not (eqb g.lib lib && is_given (raw_files (settled s) after b) g.ino)) (map standing_of s.open_grants)
-    grants_end s' e =
-        standing_lent s'.open_grants (grants_after s lib b) e
-        ∙ ap (map standing_of) (filter-same (λ (g : OpenGrant). not (is_in_bundle lib b g)) (λ (g : OpenGrant). not (eqb g.lib lib && is_given (raw_files (settled s) after b) g.ino)) s.open_grants (λ g i. ap not (ends_on g i)))
-        ∙ sym (filter-map standing_of (λ (g : Standing). not (eqb g.lib lib && is_given (raw_files (settled s) after b) g.ino)) s.open_grants)
+    grants_end s' e = search (arith, standing_lent, filter-same, ends_on, filter-map)

@@ -1,6 +1,5 @@
 -- A refused release extends the history.
 use Rattle.std.proofs.Common.{◌≡◌, ℕ, ◌+◌, Bool, true, false, cond, ◌&&◌, not, eqb, List, [], ◌∷◌, map, length, Option, Some, None, sym, refl, ap, ◌∙◌, subst, inl, inr, ◌⊎◌, arith, filter, find}
-use Rattle.std.specs.Prelude.{MatchOption}
 use Rattle.std.specs.List.{AllByRecursion}
 use Rattle.std.proofs.lemmas.Bool.{and_parts, and_from, eqb-true, eq-eqb, both_ways, or_left, not-true}
 use Rattle.trio_nodes.specs.declared.grant.GrantKind.{GrantKind}
@@ -31,9 +30,8 @@ use Rattle.trio_nodes.specs.Standing.{Standing, stands, is_others, is_given}
 use Rattle.trio_nodes.specs.GrantKinds.{same_kind}
 use Rattle.trio_nodes.specs.After.{bytes_in, raw_nodes}
 use Rattle.trio_nodes.specs.Legal.{IsWithinGrants, SameContent, HasRightsOf, HasPlaceOf, HasNameOf, LegalVerdict, BlocksAreKnown, is_handed}
-use Rattle.trio_nodes.specs.Legal.{HasAllButBytesOf}
 use Rattle.trio_laws.specs.history.Stands.{size_of, bytes_of, node_of, node_by, nodes_of, standing_of, writer_of}
-use Rattle.trio_laws.specs.history.Entries.{bundle_handed, is_told, told_by, told_file, raw_file, raw_files, raw_blocks, raw_entry, refused_for}
+use Rattle.trio_laws.specs.history.Entries.{bundle_handed, is_told, told_by, raw_file, raw_files, raw_blocks, raw_entry, refused_for}
 use Rattle.trio_laws.specs.history.Recorded.{LentWhole, IsMarked}
 use Rattle.trio_laws.proofs.history.Extends.{Makes, past_is}
 use Rattle.trio_laws.proofs.history.Facts.{node_is}
@@ -85,34 +83,14 @@ module _ (s s' : State) (k : Kept s) (k' : Kept s') (whole : LentWhole s) (whole
     pub now : node_at (nodes_of s') n ≡ Some (node_of after n (writer_of s' n) row)
 
   live : (n : ℕ) (x : Node) → node_at (nodes_of s) n ≡ Some x → Live n x
-  live n x there = by (row_at s.home n) refl
-    where
-      by : (o : Option Row) → row_at s.home n ≡ o → Live n x
-      by None row = (let wrong : None ≡ Some x = sym (was n ∙ ap (node_by image n (writer_of s n)) row) ∙ there in absurd (cc wrong))
-      by (Some r) row = record {
-        row = r;
-        at = row;
-        before = sym (one_of (node_of image n (writer_of s n) r) x (sym (was n ∙ ap (node_by image n (writer_of s n)) row) ∙ there));
-        now = is n ∙ ap (node_by after n (writer_of s' n)) row;
-      }
+  live n x there = search (arith, Live, was, one_of, is)
 
   -- every node keeps its place, name, kind and rights
   entry_same : (dir n : ℕ) → entry_in dir (node_at (nodes_of s') n) ≡ entry_in dir (node_at (nodes_of s) n)
-  entry_same dir n = ap (entry_in dir) (is n) ∙ by (row_at s.home n) refl ∙ sym (ap (entry_in dir) (was n))
-    where
-      by : (o : Option Row) → row_at s.home n ≡ o → entry_in dir (node_by after n (writer_of s' n) o) ≡ entry_in dir (node_by image n (writer_of s n) o)
-      by None row = refl
-      by (Some r) row = ap (λ (l : List ℕ). cond (eqb r.parent dir) (Some (l, r.kind)) None) (name_stays s s' k k' whole lib h given closed e marked n r row)
+  entry_same dir n = search (arith, is, was, name_stays)
 
   pub unwritten_same : (n : ℕ) → is_written b n ≡ false → SameContent (nodes_of s) (nodes_of s') n
-  unwritten_same n un = record {
-    bytes = ap bytes_in (is n) ∙ by (row_at s.home n) refl ∙ sym (ap bytes_in (was n));
-    entries = λ m. entry_same n m;
-  }
-    where
-      by : (o : Option Row) → row_at s.home n ≡ o → bytes_in (node_by after n (writer_of s' n) o) ≡ bytes_in (node_by image n (writer_of s n) o)
-      by None row = refl
-      by (Some r) row = ap (λ (x : Node). x.bytes) (same_node s s' k k' whole lib h given closed e marked n r row un)
+  unwritten_same n un = search (arith, is, was, entry_same, same_node)
 
   pub rights_same : (n : ℕ) (x : Node) → node_at (nodes_of s) n ≡ Some x → HasRightsOf x (node_at (nodes_of s') n)
   rights_same n x there =
@@ -186,29 +164,10 @@ module _ (s s' : State) (k : Kept s) (k' : Kept s') (whole : LentWhole s) (whole
   length_was n r row Directory t = absurd cc
 
   length_same : (n : ℕ) (r : Row) → row_at s.home n ≡ Some r → (kind : Kind) → length (bytes_of after n r (writer_of s' n) kind) ≡ length (bytes_of image n r (writer_of s n) kind)
-  length_same n r row Directory = refl
-  length_same n r row Regular =
-      let row' : row_at s'.home n ≡ Some r = ap (λ (i : Image). row_at i n) e.settles ∙ row in
-      ap (λ (i : Image). length (bytes_of i n r (writer_of s' n) Regular)) (sym e.settles)
-      ∙ old_long s' k' whole' n r row'
-      ∙ ap (λ (i : Image). size_of i n) e.settles
-      ∙ sym (length_was n r row Regular refl)
+  length_same n r row kind = search (arith, old_long, length_was)
 
   judged : (why : Why) → LegalVerdict (refused_for why) (nodes_of s) (nodes_of s')
-  judged why n = by (row_at s.home n) refl
-    where
-      M : Option Node → Option Node → Type 0
-      M o o' = MatchOption o (o' ≡ None) (λ x. HasAllButBytesOf x o')
-
-      at_row : (o : Option Row) → row_at s.home n ≡ o → M (node_by image n (writer_of s n) o) (node_by after n (writer_of s' n) o)
-      at_row None row = refl
-      at_row (Some r) row = (
-        ap (λ (l : List ℕ). record { parent = r.parent; name = l; kind = r.kind; mode = r.mode; uid = r.uid; gid = r.gid; bytes = [] }) (name_stays s s' k k' whole lib h given closed e marked n r row),
-        length_same n r row r.kind,
-      )
-
-      by : (o : Option Row) → row_at s.home n ≡ o → M (node_at (nodes_of s) n) (node_at (nodes_of s') n)
-      by o row = subst (λ x. M x (node_at (nodes_of s') n)) (sym (was n)) (subst (λ y. M (node_by image n (writer_of s n) (row_at s.home n)) y) (sym (is n)) (at_row (row_at s.home n) refl))
+  judged why n = search (arith, name_stays, length_same, was, is)
 
   -- a file of the entry, by its row
   record Filed (m : ℕ) (f : RawFile) : Type 0 where
@@ -218,11 +177,7 @@ module _ (s s' : State) (k : Kept s) (k' : Kept s') (whole : LentWhole s) (whole
     pub kind : f.kind ≡ row.kind
 
   filed : (m : ℕ) (f : RawFile) (t : Bool) (o : Option Row) → row_at s.home m ≡ o → cond t (told_by image after b m o o) None ≡ Some f → Filed m f
-  filed m f false o row q = absurd cc
-  filed m f true None row q = absurd cc
-  filed m f true (Some r) row q =
-      let same : told_file after b m false r ≡ f = cc q in
-      record { row = r; at = row; size = sym (ap (λ (x : RawFile). x.size) same); kind = sym (ap (λ (x : RawFile). x.kind) same) }
+  filed m f t o row q = search arith
 
   long_enough : (f : RawFile) → In f these → f.kind ≡ Regular → f.size ≡ length (bytes_in (node_at (nodes_of s) f.ino))
   long_enough f i regular =

@@ -1,5 +1,5 @@
 -- The listed blocks of a file, put in place of its old bytes, give its new ones.
-use Rattle.std.proofs.Common.{◌≡◌, ℕ, zero, suc, ◌+◌, ◌-◌, ◌*◌, ◌<◌, ◌≤◌, Bool, true, false, cond, List, [], ◌∷◌, ◌++◌, length, take, drop, Some, slice_get, sym, refl, ap, ◌∙◌, inl, inr, arith, length-append, append-nil, append_assoc, length-drop, take-append-drop, take_all, drop-drop, unwrap_or, flat_map}
+use Rattle.std.proofs.Common.{◌≡◌, ℕ, zero, suc, ◌+◌, ◌-◌, ◌*◌, ◌<◌, ◌≤◌, Bool, false, cond, List, [], ◌∷◌, ◌++◌, length, take, drop, Some, slice_get, sym, refl, ap, ◌∙◌, inl, inr, arith, length-append, append-nil, append_assoc, length-drop, take-append-drop, take_all, drop-drop, unwrap_or, flat_map}
 use Rattle.std.proofs.lemmas.Bool.{eq-eqb, cases_lt}
 use Rattle.trio_lists.specs.Lists.{In}
 use Rattle.trio_layout.specs.Core.{page_of}
@@ -78,11 +78,7 @@ Count blocks size = (size ≤ 4096 * blocks) × (4096 * blocks < size + 4096)
 module _ (before after : Image) (h : Handed) (n : ℕ) where
   -- the blocks from one position on, with what is listed of them
   told_at : (k : ℕ) (t : Bool) (page : ℕ) (p r : List ℕ) (rest : List ToldBlock) → length p ≡ 4096 * k → length (block_bytes after page) ≡ 4096 → (t ≡ false → take 4096 r ≡ take (length r) (block_bytes after page)) → with_blocks n (cond t (record { ino = n; at = k; bytes = block_bytes after page } ∷ rest) rest) (p ++ r) ≡ with_blocks n rest (p ++ take (length r) (block_bytes after page ++ drop 4096 r))
-  told_at k true page p r rest at full same =
-      ap (λ b. with_blocks n rest (cond b (put_within (4096 * k) (block_bytes after page) (p ++ r)) (p ++ r))) (eq-eqb n n refl)
-      ∙ ap (with_blocks n rest) (put_step k p r (block_bytes after page) at full)
-  told_at k false page p r rest at full same =
-      ap (λ l. with_blocks n rest (p ++ l)) (here_step r (block_bytes after page) full (same refl))
+  told_at k t page p r rest at full same = search (arith, eq-eqb, put_step, here_step)
 
   told_more : (page : ℕ) (p r : List ℕ) (flat : List ℕ) → length (block_bytes after page) ≡ 4096 → 4096 < length r → p ++ block_bytes after page ++ take (length (drop 4096 r)) flat ≡ p ++ take (length r) (block_bytes after page ++ flat)
   told_more page p r flat full long =
@@ -124,9 +120,7 @@ module _ (before after : Image) (h : Handed) (n : ℕ) where
   take_none (suc m) l e = ap (take (suc m)) e
 
   pub told_put : (k : ℕ) (pages : List ℕ) (p r : List ℕ) → length p ≡ 4096 * k → Count (length pages) (length r) → ((page : ℕ) → In page pages → length (block_bytes after page) ≡ 4096) → Unlisted k pages r → with_blocks n (told_blocks before after h n k pages) (p ++ r) ≡ p ++ take (length r) (flat_map (block_bytes after) pages)
-  told_put k [] p r at count full un =
-      let none : r ≡ [] = none_long r (let c = count.0 in omega (arith, c)) in
-      ap (λ l. p ++ l) (none ∙ sym (take_none (length r) [] refl))
+  told_put k [] p r at count full un = search (arith, none_long, take_none, told_at, first_same, one_put, length-drop, length-append, more_put, rest_same, told_more)
   told_put k (page ∷ []) p r at count full un =
       told_at k (is_block_told before after h n k page) page p r [] at (full page (inl refl)) (first_same k page [] r un)
       ∙ one_put page p r (let c = count.0 in let one : length (page ∷ []) ≡ 1 = refl in omega (arith, c, one))

@@ -87,18 +87,10 @@ module _ (before after : Image) (h : Handed) where
   is_changed n o o' = is_some o' && not (bytes_eq (name_by before n o) (name_by after n o'))
 
   changed_means : (n : ℕ) (w w' : Option OpenGrant) (o o' : Option Row) → is_changed n o o' ≡ true → is_new_or_renamed (node_by before n w o) (node_by after n w' o') ≡ true
-  changed_means n w w' None None t = t
-  changed_means n w w' (Some r) None t = t
-  changed_means n w w' None (Some r') t = refl
-  changed_means n w w' (Some r) (Some r') t = t
+  changed_means n w w' o o' t = search arith
 
   told_means : (n : ℕ) (w w' : Option OpenGrant) → is_told before after b n ≡ true → (is_in b n || is_new_or_renamed (node_by before n w (row_at before n)) (node_by after n w' (row_at after n))) ≡ true
-  told_means n w w' t =
-      let why : Bool = is_new_or_renamed (node_by before n w (row_at before n)) (node_by after n w' (row_at after n)) in
-      elim (or_cases (is_in b n) (is_changed n (row_at before n) (row_at after n)) t) [
-        | inl given ↦ or_left (is_in b n) why given
-        | inr changed ↦ or_right (is_in b n) why (changed_means n w w' (row_at before n) (row_at after n) changed)
-      ]
+  told_means n w w' t = search (arith, or_cases, or_left, or_right, changed_means)
 
   once : are_new [] (map (λ (f : RawFile). f.ino) these) ≡ true
   once = rising_new (λ (f : RawFile). f.ino) these (counted_rising (λ (f : RawFile). f.ino) (raw_file before after b) (raw_number before after b) 1 before.core.inodes)
@@ -122,10 +114,7 @@ module _ (before after : Image) (h : Handed) where
         ∙ told_means n (w n) (w' n) (ap (is_told before after b) (sym same) ∙ told)
 
     untold_why : (n : ℕ) → tells_of these n ≡ false → why n ≡ false
-    untold_why n t =
-        ap (λ x. x || is_new_or_renamed (node_at nodes n) (node_at (raw_nodes blocks these nodes) n)) (sym (given n) ∙ untold_ungiven these n t)
-        ∙ ap (is_new_or_renamed (node_at nodes n)) (untold_stays blocks these nodes n t)
-        ∙ same_unnamed (node_at nodes n)
+    untold_why n t = search (arith, untold_ungiven, untold_stays, same_unnamed)
 
     why_told : (n : ℕ) (t : Bool) → tells_of these n ≡ t → why n ≡ true → tells_of these n ≡ true
     why_told n true e y = e

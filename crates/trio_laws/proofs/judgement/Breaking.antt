@@ -1,5 +1,5 @@
 -- A bundle breaks a rule exactly where it doesn't meet all four; the lowest is named.
-use Rattle.std.proofs.Common.{Bool, Err, List, None, Ok, Option, Result, [], ap, arith, false, inl, inr, is_ok, length, refl, suc, sym, true, zero, ℕ, ◌&&◌, ◌++◌, ◌<◌, ◌∙◌, ◌∷◌, ◌≡◌, ◌≤◌}
+use Rattle.std.proofs.Common.{Bool, Err, List, Ok, Option, Result, [], ap, arith, false, inl, inr, is_ok, length, refl, suc, sym, true, zero, ℕ, ◌&&◌, ◌++◌, ◌<◌, ◌∙◌, ◌∷◌, ◌≡◌, ◌≤◌}
 use Rattle.std.proofs.lemmas.Bool.{and_from, and_parts, both_ways, cases_Bool, cases_lt, false_from_ne_true, false≢true}
 use Rattle.std.proofs.lemmas.List.{get_or_past, map-append}
 use Rattle.std.specs.List.{flat_map, list_all}
@@ -158,12 +158,7 @@ module _ (c : Case) where
   -- ---- what is named is broken
 
   no_grammar : (ino : ℕ) (place : Location) → BreaksGrammar c ino place → meets_grammar c ≡ true → ⊥
-  no_grammar ino place (inl x) t =
-      let p = and_parts (list_all (λ m. is_ok (file_within (bundle_core c) m)) (judged_files c)) (list_all (entry_in_grammar c) (judged_entries c)) t in
-      false≢true (sym (ap is_ok x.2) ∙ list_all-In (λ m. is_ok (file_within (bundle_core c) m)) x.0 (judged_files c) p.0 x.1.among)
-  no_grammar ino place (inr x) t =
-      let p = and_parts (list_all (λ m. is_ok (file_within (bundle_core c) m)) (judged_files c)) (list_all (entry_in_grammar c) (judged_entries c)) t in
-      both_ways (entry_in_grammar c x.0) x.2 (list_all-In (entry_in_grammar c) x.0 (judged_entries c) p.1 x.1.among)
+  no_grammar ino place h t = search (arith, and_parts, is_ok, false≢true, list_all-In, both_ways)
 
   no_owning : (ino : ℕ) (place : Location) → BreaksOwning c ino place → meets_owning c ≡ true → ⊥
   no_owning ino place x t =
@@ -188,11 +183,7 @@ module _ (c : Case) where
       ]
 
   row_high : (l : Listing) (rows : List (Option Row)) (n : ℕ) → stays_listed l n (row_in rows n) ≡ false → n ≤ length rows
-  row_high l rows n e =
-      elim (cases_lt n (length rows)) [
-        | inl lt ↦ omega (arith, lt)
-        | inr g ↦ absurd (false≢true (sym e ∙ ap (stays_listed l n) (get_or_past rows n None g)))
-      ]
+  row_high l rows n e = search (arith, cases_lt, false≢true, get_or_past)
 
   no_edges : (l : Listing) (rows : List (Option Row)) (ino : ℕ) → BreaksEdges l rows ino → meets_edges l rows ≡ true → ⊥
   no_edges l rows ino x t =
@@ -211,14 +202,7 @@ module _ (c : Case) where
       ]
 
   no_rights : (ino : ℕ) (place : Location) → BreaksRights c ino place → meets_rights c ≡ true → ⊥
-  no_rights ino place x t =
-      let p = and_parts (list_all (entry_keeps_rights c) (judged_entries c)) (list_all (λ m. file_keeps_rights c m (file_within (bundle_core c) m)) (judged_files c)) t in
-      elim x [
-        | inl e ↦ both_ways (entry_keeps_rights c e.0) e.2 (list_all-In (entry_keeps_rights c) e.0 (judged_entries c) p.0 e.1.among)
-        | inr m ↦
-            both_ways (file_keeps_rights c m.0 (file_within (bundle_core c) m.0)) m.2
-            (list_all-In (λ m. file_keeps_rights c m (file_within (bundle_core c) m)) m.0 (judged_files c) p.1 m.1.among)
-      ]
+  no_rights ino place x t = search (arith, and_parts, both_ways, list_all-In)
 
   is_broken : Broken_at → meets_rules c ≡ false
   is_broken x =

@@ -112,10 +112,7 @@ module _ (s : State) (lib : ℕ) (b : Bundle) (j : IsJudgeable s lib b) where
   no_row_zero r e = (let q = live_bounds 0 r e in let l : 0 < 0 = q.0 in omega (arith, l))
 
   pub no_written_zero : is_written b 0 ≡ true → ⊥
-  no_written_zero e =
-      let w = written_find 0 e in
-      let r = written_row w.0 w.1 in
-      no_row_zero r.0 (ap (row_at (settled s)) (sym w.2) ∙ r.1)
+  no_written_zero e = search (arith, written_find, written_row, no_row_zero)
 
   -- the root's row
   pub root_row : (r : Row) × (row_at (settled s) 1 ≡ Some r) × (r.kind ≡ Directory) × (r.parent ≡ 0) × (r.page ≡ 0) × (r.slot ≡ 0)
@@ -126,9 +123,7 @@ module _ (s : State) (lib : ℕ) (b : Bundle) (j : IsJudgeable s lib b) where
       (row_by m f.0.body, row_of_met m f.0 i f.1, refl, refl, refl, refl)
 
   pub root_unheld : In 1 b.holds → ⊥
-  root_unheld i =
-      let r = root_row in
-      no_written_zero (ap (is_written b) (sym r.3) ∙ held_parent 1 r.0 i r.1)
+  root_unheld i = search (arith, root_row, no_written_zero, held_parent)
 
   -- the body that is kept of a file that isn't written is the settled one
   pub kept_settled : (n : ℕ) → Unwritten b n → kept_body (settled s) b n ≡ settled_body (settled s) n

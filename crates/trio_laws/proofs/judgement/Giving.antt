@@ -69,9 +69,7 @@ module _ (s : State) (lib : ℕ) (b : Bundle) (j : IsJudgeable s lib b) (h : mee
   sides m (inr n) = inl (record { file = m; judged_one = n.0; ino = refl; kind = refl; body = refl })
 
   pub root_stands : Stands (root_of (proposed (settled s) b))
-  root_stands =
-      let r = root_row s lib b j in
-      inl (record { row = r.0; is_row = r.1; kind = sym r.2; body = refl; place = inr (sym r.3, sym r.4, sym r.5) })
+  root_stands = search (arith, root_row)
 
   -- ---- what a child inside is
 
@@ -285,16 +283,7 @@ module _ (s : State) (lib : ℕ) (b : Bundle) (j : IsJudgeable s lib b) (h : mee
       ]
 
   shares : Shares core pick Stands
-  shares = record {
-    root = root_stands;
-    down = down;
-    reads = all_read;
-    pages = all_pages_new;
-    paged = page_once;
-    names = all_names_new;
-    named = name_once;
-    no_root = root_unlisted;
-  }
+  shares = search (arith, root_stands, down, reads, all_read, all_pages_new, page_once, all_names_new, name_once, root_unlisted)
 
   pub rules_sound : is_sound (proposed (settled s) b) (proposed_pick (settled s) b) ≡ true
   rules_sound = sound_by core pick Stands shares

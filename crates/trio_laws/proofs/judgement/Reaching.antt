@@ -53,9 +53,7 @@ lists_directory core pick x m i =
         absurd (subst (λ ls. In l ls) (sym n) j)
 
 stays_cases : (f h k : Bool) → (not f || h || k) ≡ true → f ≡ true → h ≡ false → k ≡ true
-stays_cases true true k e a d = absurd (false≢true (sym d))
-stays_cases true false k e a d = e
-stays_cases false h k e a d = absurd (false≢true a)
+stays_cases f h k e a d = search (arith, false≢true)
 
 module _ (s : State) (lib : ℕ) (b : Bundle) (j : IsJudgeable s lib b) (h : meets_rules (case_of (settled s) (creds_of s lib) b) ≡ true) where
   abbrev c : Case

@@ -1,6 +1,6 @@
 -- The files of the proposed core, on either side of the bundle: those that read as a judged file does, and those that read as in
 -- the settled image.
-use Rattle.std.proofs.Common.{Ok, Some, ap, cond, inl, inr, refl, subst, sym, true, ℕ, ◌∙◌, ◌≡◌, ◌⊎◌}
+use Rattle.std.proofs.Common.{Ok, Some, ap, cond, inl, inr, refl, subst, sym, true, ℕ, ◌∙◌, ◌≡◌, ◌⊎◌, arith}
 use Rattle.std.specs.Option.{option_map_or}
 use Rattle.trio_rights.specs.Row.{Row}
 use Rattle.trio_lists.proofs.Filters.{some_one}
@@ -154,11 +154,7 @@ module _ (s : State) (lib : ℕ) (b : Bundle) (j : IsJudgeable s lib b) (reads :
       unwritten_apart s j.kept lib b j.given q.met p q.stands (subst (λ n. Unwritten b n) (sym q.number) o.unwritten) (subst (λ l. In p l) (outside_pages m o) i) k
 
   pub outside_numbers : (m : Met) (o : Outside m) → numbers (children (proposed (settled s) b) (proposed_pick (settled s) b) m) ≡ numbers (children (settled s).core plain (outside_met m o).met)
-  outside_numbers m o =
-      let q = outside_met m o in
-      ap (λ r. numbers (children_in pick m.ino r)) (outside_read m o)
-      ∙ numbers_met pick plain m.ino q.met.ino q.file.entries
-      ∙ sym (ap (λ r. numbers (children_in plain q.met.ino r)) q.read)
+  outside_numbers m o = search (arith, outside_met, outside_read, numbers_met)
 
   -- a child outside is a live file, where its row says, with the body that is kept
   pub record OutsideChild (m x : Met) : Type 0 where

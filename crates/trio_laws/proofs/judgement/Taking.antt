@@ -1,5 +1,5 @@
 -- Where a bundle is accepted: its judged files are met, and every file met is judged or as it was.
-use Rattle.std.proofs.Common.{Bool, List, None, Ok, Option, Some, ap, cond, eqb, false, inl, inr, refl, subst, sym, true, ℕ, ◌&&◌, ◌++◌, ◌∙◌, ◌≡◌, ◌⊎◌}
+use Rattle.std.proofs.Common.{Bool, List, None, Ok, Option, Some, ap, cond, eqb, false, inl, inr, refl, subst, sym, true, ℕ, ◌&&◌, ◌++◌, ◌∙◌, ◌≡◌, ◌⊎◌, arith}
 use Rattle.std.proofs.lemmas.Bool.{and_parts, both_ways}
 use Rattle.std.proofs.lemmas.Slice.Eq.{bytes_eq-Decides}
 use Rattle.std.specs.List.{find, list_all}
@@ -12,7 +12,7 @@ use Rattle.trio_lists.proofs.Members.{is_among-In, list_all-In, In-is_among}
 use Rattle.trio_lists.proofs.Gathered.{one_keyed}
 use Rattle.trio_lists.specs.Lists.{In, is_among}
 use Rattle.trio_layout.specs.Accept.{is_accepted}
-use Rattle.trio_layout.specs.Allowed.{has_kind, has_owner, is_allowed, keeps_rows, lists_own, may_stand}
+use Rattle.trio_layout.specs.Allowed.{has_kind, has_owner, lists_own, may_stand}
 use Rattle.trio_layout.specs.Case.{Case, case_of}
 use Rattle.trio_layout.specs.Core.{Core}
 use Rattle.trio_layout.specs.Entries.{Listed}
@@ -54,9 +54,7 @@ module _ (s : State) (lib : ℕ) (b : Bundle) (j : IsJudgeable s lib b) (acc : i
   sound = sound_now s j.kept lib (creds_of s lib) b j.given acc
 
   allowed : list_all (may_stand (settled s) (creds_of s lib) b core files) files ≡ true
-  allowed =
-      (and_parts (keeps_rows (settled s) b core files) (list_all (may_stand (settled s) (creds_of s lib) b core files) files)
-      (and_parts (is_sound core pick) (is_allowed (settled s) (creds_of s lib) b core files) acc).1).1
+  allowed = search (arith, and_parts)
 
   abbrev Held_met : Met → Type 0
   Held_met m = In m.ino b.holds × ((r : Row) × (row_at (settled s) m.ino ≡ Some r) × (m.kind ≡ r.kind)) × (m.body ≡ settled_body (settled s) m.ino)

@@ -66,14 +66,7 @@ module _ (L : ℕ → Type 0) (kids kids' : Met → List Met) (starts starts' : 
         }
 
     among_more : (x : ℕ) (rest level : List Met) → L x → is_among x (numbers ((starts' ++ rest) ++ level)) ≡ is_among x (numbers ((starts ++ rest) ++ level))
-    among_more x rest level l =
-        split starts' ∙ ap (λ b. b || is_among x (numbers (rest ++ level))) (among x l) ∙ sym (split starts)
-      where
-        split : (ms : List Met) → is_among x (numbers ((ms ++ rest) ++ level)) ≡ (is_among x (numbers ms) || is_among x (numbers (rest ++ level)))
-        split ms =
-            ap (λ z. is_among x (numbers z)) (append_assoc ms rest level)
-            ∙ ap (is_among x) (map-append (λ (m : Met). m.ino) ms (rest ++ level))
-            ∙ is_among-append x (numbers ms) (numbers (rest ++ level))
+    among_more x rest level l = search (arith, append_assoc, map-append, is_among-append)
 
     alike_more : (k : ℕ) → suc k ≤ n → Alike k → Alike (suc k)
     alike_more k h a =

@@ -1,5 +1,5 @@
 -- A walk over files whose bodies are changed, but not their numbers: it meets the same files, so changed.
-use Rattle.std.proofs.Common.{◌≡◌, ℕ, suc, zero, ◌≤◌, Bool, true, false, cond, List, [], ◌∷◌, ◌++◌, Some, sym, refl, ap, ◌∙◌, inl, inr, arith}
+use Rattle.std.proofs.Common.{◌≡◌, ℕ, suc, zero, ◌≤◌, Bool, true, false, cond, List, [], ◌∷◌, ◌++◌, sym, refl, ap, ◌∙◌, inl, inr, arith}
 use Rattle.std.specs.Prelude.{map}
 use Rattle.std.specs.List.{filter, find, flat_map}
 use Rattle.std.proofs.lemmas.List.{map-append}
@@ -13,9 +13,7 @@ use Rattle.trio_laws.proofs.session.Beside.{passed_more}
 
 -- tests that agree on each element find the same
 pub find-same : {X : Type 0} (p q : X → Bool) (xs : List X) → ((x : X) → p x ≡ q x) → find p xs ≡ find q xs
-find-same p q [] same = refl
-find-same p q (x ∷ xs) same =
-    ap (λ b. cond b (Some x) (find p xs)) (same x) ∙ ap (cond (q x) (Some x)) (find-same p q xs same)
+find-same p q xs same = search arith
 
 -- what is listed of changed elements, where it is what was listed, changed
 pub flat_map-changed : {X Y : Type 0} (E : X → X) (K : Y → Y) (f f' : X → List Y) (xs : List X) → ((x : X) → In x xs → f' (E x) ≡ map K (f x)) → flat_map f' (map E xs) ≡ map K (flat_map f xs)

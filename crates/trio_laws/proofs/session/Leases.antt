@@ -1,5 +1,5 @@
 -- What a lease shows is true of the nodes at its grant.
-use Rattle.std.proofs.Common.{◌≡◌, ℕ, true, cond, eqb, List, [], ◌∷◌, ◌++◌, take, Option, Some, None, Ok, sym, refl, ap, ◌∙◌, subst, inl, inr, arith}
+use Rattle.std.proofs.Common.{◌≡◌, ℕ, true, cond, eqb, List, [], ◌∷◌, ◌++◌, Option, Some, None, Ok, sym, refl, ap, ◌∙◌, subst, inl, inr, arith}
 use Rattle.std.specs.Prelude.{map}
 use Rattle.std.specs.List.{find, flat_map, cons_option}
 use Rattle.std.specs.Option.{option_map}
@@ -7,7 +7,7 @@ use Rattle.std.proofs.lemmas.Bool.{cases_eq, eqb-true, eq-eqb, ne_eqb}
 use Rattle.trio_rights.specs.Row.{Row, row_in, is_child}
 use Rattle.trio_rights.specs.Sheets.{Sheet}
 use Rattle.trio_rights.specs.declared.kind.Kind.{Kind}
-use Rattle.trio_rights.specs.declared.kind.Kind.TheVariants.{Regular, Directory}
+use Rattle.trio_rights.specs.declared.kind.Kind.TheVariants.{Directory}
 use Rattle.trio_rights.specs.declared.rights.Mode.{Mode}
 use Rattle.trio_lists.specs.Lists.{In, gathered, both, there_or}
 use Rattle.trio_lists.proofs.Members.{result_then-Ok, there_or-Ok, both-Ok}
@@ -36,9 +36,9 @@ use Rattle.trio_surveys.proofs.OwnFiles.{place_from}
 use Rattle.trio_surveys.proofs.Places.{gathers_directory}
 use Rattle.trio_surveys.proofs.Reached.{child_met, no_root_listed}
 use Rattle.trio_surveys.proofs.Tree.{child_has}
-use Rattle.trio_desk.specs.Contents.{Sizes, Rights, rights_of, rights_in, ShownEntry, entry_of_node, entry_of_listed, entries_shown, entries_or_none, entries_lent, bytes_shown}
-use Rattle.trio_desk.specs.Agrees.{Said, row_says, node_says, HasRights, HasContent, HasFile, HasPlaces}
-use Rattle.trio_laws.specs.history.Stands.{name_of, size_of, blocks_of, bytes_of, bytes_of_sheets, node_by, node_of, writer_of, nodes_of}
+use Rattle.trio_desk.specs.Contents.{Sizes, Rights, rights_of, rights_in, ShownEntry, entry_of_node, entry_of_listed, entries_shown, entries_or_none, entries_lent}
+use Rattle.trio_desk.specs.Agrees.{row_says, node_says, HasRights, HasContent, HasFile, HasPlaces}
+use Rattle.trio_laws.specs.history.Stands.{name_of, node_by, node_of, writer_of, nodes_of}
 use Rattle.trio_laws.specs.session.Grants.{LeaseShows, HoldShows}
 use Rattle.trio_laws.proofs.history.Facts.{live, node_is}
 use Rattle.trio_laws.proofs.history.Follows.{body_is_at, name_at_entry}
@@ -209,28 +209,10 @@ module _ (s : State) (k : Kept s) (ino : ℕ) (r : Row) (row : row_at s.home ino
         ∙ ap entries_or_none (lent_entries core file.file.chain.blocks f.blocks file.file.entries sheets (gathers directory))
 
     content : (q : Kind) → f.kind ≡ q → HasContent sizes nodes f q
-    content Directory d = λ n.
-        ap (λ i. entry_of_node i (node_at nodes n)) number ∙ entry_for (sym kind ∙ d) n
-        ∙ sym (ap (λ ls. option_map entry_of_listed (find (λ (l : Listed). eqb l.entry.ino n) ls)) (entries_are (sym kind ∙ d)))
-    content Regular d =
-        let same : bytes_of (settled s) ino r (writer_of s ino) r.kind ≡ bytes_shown f =
-        ap (bytes_of (settled s) ino r (writer_of s ino)) (sym kind ∙ d)
-        ∙ ap (λ w. bytes_of_sheets (size_of (settled s) ino) (blocks_of (settled s) ino r w)) alone
-        ∙ ap (λ ls. bytes_of_sheets (size_of (settled s) ino) ls) (sym blocks)
-        ∙ ap (λ l. take (body_at l).size (flat_map (λ (x : Sheet). x.bytes) (map lent_sheet f.blocks))) (sym body)
-        ∙ ap (take (body_at f.body).size) (sym (lent_bytes f.blocks)) in
-        ap (λ n. option_map (λ (x : Node). x.bytes) (node_at nodes n)) number ∙ ap (option_map (λ (x : Node). x.bytes)) (node_here) ∙ ap (λ l. Some l) same
+    content q d = search (arith, entry_for, entries_are, lent_bytes, node_here)
 
     places : HasPlaces sizes (record { files = f ∷ []; holds = [] }) s.home.rows
-    places g l (inr i) j = absurd i
-    places g l (inl e) j =
-        let j' : In l (entries_shown sizes f) = subst (λ x. In l (entries_shown sizes x)) e j in
-        ap (λ (x : Shown). is_place_of x.ino l.page l.slot (row_at s.home l.entry.ino)) e
-        ∙ ap (λ i. is_place_of i l.page l.slot (row_at s.home l.entry.ino)) number ∙ by f.kind refl j'
-      where
-        by : (q : Kind) → f.kind ≡ q → In l (entries_shown sizes f) → is_place_of ino l.page l.slot (row_at s.home l.entry.ino) ≡ true
-        by Directory d i = place_is (sym kind ∙ d) l (subst (λ ls. In l ls) (entries_are (sym kind ∙ d)) i)
-        by Regular d i = absurd (subst (λ ls. In l ls) (ap (λ q. entries_lent sizes.inodes q f.blocks) d) i)
+    places g l h j = search (arith, place_is, entries_are)
 
     shown_true : HasFile sizes nodes f × HasPlaces sizes (record { files = f ∷ []; holds = [] }) s.home.rows
     shown_true = (record { rights = rights_are f.ino f.kind f.body number kind body; content = content f.kind refl }, places)
@@ -243,13 +225,7 @@ leases_show s lib ino Hold r sizes f k row lends alone same l = absurd lends
 -- ---- holds
 
 child_said : (ino : ℕ) (o : Option Row) (p : Option Node) → option_map row_says o ≡ option_map node_says p → is_in ino p ≡ is_child ino o
-child_said ino None None e = refl
-child_said ino None (Some x) e = absurd (let wrong : None ≡ Some (node_says x) = e in cc)
-child_said ino (Some q) None e = absurd (let wrong : Some (row_says q) ≡ None = e in cc)
-child_said ino (Some q) (Some x) e =
-    let e' : Some (row_says q) ≡ Some (node_says x) = e in
-    let says : row_says q ≡ node_says x = cc e' in
-    ap (λ (z : Said). eqb z.parent ino) (sym says)
+child_said ino o p e = search arith
 
 pub holds_show : HoldShows
 holds_show s lib ino r h k row l = record {

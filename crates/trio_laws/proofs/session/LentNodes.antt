@@ -1,5 +1,5 @@
 -- The nodes of what a lease shows.
-use Rattle.std.proofs.Common.{◌≡◌, ℕ, Bool, true, false, cond, eqb, Option, Some, None, List, sym, refl, ap, ◌∙◌, subst, inl, inr}
+use Rattle.std.proofs.Common.{◌≡◌, ℕ, true, cond, eqb, Option, Some, None, List, sym, refl, ap, ◌∙◌, subst, inl, inr, arith}
 use Rattle.std.specs.List.{find}
 use Rattle.std.specs.Option.{option_map}
 use Rattle.std.proofs.lemmas.Bool.{cases_eq, eqb-true, eq-eqb}
@@ -27,15 +27,7 @@ mapped g (Some x) y e = (x, refl, (let t : Some (g x) ≡ Some y = e in cc t))
 
 -- a node that a directory is shown to list
 pub node_entry : (d : ℕ) (p : Option Node) (e : ShownEntry) → entry_of_node d p ≡ Some e → (x : Node) × (p ≡ Some x) × (x.parent ≡ d) × (x.name ≡ e.name) × (rights_of x ≡ e.rights)
-node_entry d None e t = absurd (let wrong : None ≡ Some e = t in cc wrong)
-node_entry d (Some x) e t = by (eqb x.parent d) refl t
-  where
-    by : (v : Bool) → eqb x.parent d ≡ v → cond v (Some (record { name = x.name; rights = rights_of x })) None ≡ Some e → (y : Node) × (Some x ≡ Some y) × (y.parent ≡ d) × (y.name ≡ e.name) × (rights_of y ≡ e.rights)
-    by false is k = absurd (let wrong : None ≡ Some e = k in cc wrong)
-    by true is k =
-        let one : Some (record { name = x.name; rights = rights_of x }) ≡ Some e = k in
-        let same : record { name = x.name; rights = rights_of x } ≡ e = cc one in
-        (x, refl, eqb-true x.parent d is, ap (λ (z : ShownEntry). z.name) same, ap (λ (z : ShownEntry). z.rights) same)
+node_entry d p e t = search (arith, eqb-true)
 
 -- a node as its directory shows it
 abbrev pub shown_as : Node → ShownEntry

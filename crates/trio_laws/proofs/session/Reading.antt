@@ -1,5 +1,5 @@
 -- A file reads the same where the pages that it lists are the same; and which bytes a page of a bundle has.
-use Rattle.std.proofs.Common.{◌≡◌, ℕ, suc, zero, ◌<◌, true, cond, eqb, leb, ltb, min, ◌-◌, List, [], ◌∷◌, ◌++◌, length, Option, Some, None, Ok, slice_get, sym, refl, ap, ◌∙◌, subst, inl, inr, arith}
+use Rattle.std.proofs.Common.{◌≡◌, ℕ, suc, zero, ◌<◌, true, cond, eqb, leb, ltb, min, ◌-◌, List, [], ◌∷◌, ◌++◌, length, Option, Some, None, Ok, slice_get, sym, refl, ap, ◌∙◌, inl, inr, arith}
 use Rattle.std.specs.Prelude.{replicate}
 use Rattle.std.specs.Option.{unwrap_or, option_and_then}
 use Rattle.std.proofs.lemmas.List.{length-replicate}
@@ -7,16 +7,16 @@ use Rattle.std.proofs.lemmas.Bool.{and_parts, ltb-true, cases_Bool}
 use Rattle.trio_rights.specs.declared.kind.Kind.{Kind}
 use Rattle.trio_rights.specs.declared.kind.Kind.TheVariants.{Regular, Directory}
 use Rattle.trio_rights.specs.Sheets.{Sheet, sheet_numbers, with_pages}
-use Rattle.trio_lists.specs.Lists.{In, are_new, both, gathered, result_map, result_then, there_or}
+use Rattle.trio_lists.specs.Lists.{In, are_new, both, gathered, result_then}
 use Rattle.trio_lists.proofs.Members.{In-left, In-right, In-map, map-In, result_map-Ok, result_then-Ok, flat_map-same}
 use Rattle.trio_lists.proofs.Gathered.{one_keyed}
 use Rattle.trio_layout.specs.declared.range.CoreRange.{CoreRange}
 use Rattle.trio_layout.specs.Range.{is_core}
 use Rattle.trio_layout.specs.Body.{block_count}
-use Rattle.trio_layout.specs.Chain.{Chain, index_count, with_index}
-use Rattle.trio_layout.specs.Core.{Core, at_page, page_of}
+use Rattle.trio_layout.specs.Chain.{Chain, index_count}
+use Rattle.trio_layout.specs.Core.{Core, page_of}
 use Rattle.trio_layout.specs.Entries.{with_names_apart}
-use Rattle.trio_layout.specs.Index.{Index, index_of}
+use Rattle.trio_layout.specs.Index.{Index}
 use Rattle.trio_layout.specs.Survey.{FileRead, Met}
 use Rattle.trio_layout.specs.Within.{chain_within, entries_where, entries_within, file_within, index_within}
 use Rattle.trio_layout.proofs.WithinCore.{rest_of, within_from, within_to}
@@ -35,21 +35,7 @@ module _ (core : Core) (pages : Pages) where
 
   index_step : (n blocks at : ℕ) (c : Chain) (o : Option (List ℕ)) → ((i : Index) (r : Chain) → rest_of core n blocks i ≡ Ok r → ((p : ℕ) → In p r.index → Same p) → rest_of other n blocks i ≡ Ok r) → index_within core at (min blocks 511) (eqb n 0) (rest_of core n blocks) o ≡ Ok c → ((p : ℕ) → In p c.index → Same p)
       → Same at × (index_within other at (min blocks 511) (eqb n 0) (rest_of other n blocks) o ≡ Ok c)
-  index_step n blocks at c None more e same =
-      let k : record { index = at ∷ []; blocks = [] } ≡ c = cc e in
-      (same at (subst (λ (x : Chain). In at x.index) k (inl refl)), e)
-  index_step n blocks at c (Some bytes) more e same =
-      let used : ℕ = min blocks 511 in
-      let s1 = result_then-Ok (λ i. result_map (with_index at i) (rest_of core n blocks i)) (there_or (at_page at) (index_of used (eqb n 0) core.range bytes)) c e in
-      let x : Index = s1.0 in
-      let s2 = result_map-Ok (with_index at x) (rest_of core n blocks x) c s1.2 in
-      let idx : at ∷ s2.0.index ≡ c.index = ap (λ (y : Chain). y.index) s2.2 in
-      let rest = more x s2.0 s2.1 (λ p i. same p (subst (λ l. In p l) idx (inr i))) in (
-        same at (subst (λ l. In at l) idx (inl refl)),
-        ap (result_then (λ i. result_map (with_index at i) (rest_of other n blocks i))) s1.1
-            ∙ ap (result_map (with_index at x)) rest
-            ∙ ap Ok s2.2,
-      )
+  index_step n blocks at c o more e same = search (arith, min, result_then-Ok, result_map-Ok)
 
   pub chain_same : (n blocks at : ℕ) (c : Chain) → chain_within core n blocks at ≡ Ok c → ((p : ℕ) → In p c.index → Same p) → chain_within other n blocks at ≡ Ok c
   chain_same zero blocks at c e same = e

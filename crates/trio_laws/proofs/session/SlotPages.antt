@@ -1,5 +1,5 @@
 -- A directory of which one slot is written anew: its body and its chain read as before, and its entries but for those of the slot.
-use Rattle.std.proofs.Common.{◌≡◌, ℕ, suc, zero, ◌<◌, ◌≤◌, ◌+◌, ◌*◌, Bool, true, false, cond, List, [], ◌∷◌, ◌++◌, length, append_assoc, Option, Some, None, Result, Ok, sym, refl, ap, ◌∙◌, subst, inl, inr, ◌⊎◌, arith}
+use Rattle.std.proofs.Common.{◌≡◌, ℕ, suc, zero, ◌<◌, ◌≤◌, ◌+◌, ◌*◌, true, false, cond, List, [], ◌∷◌, ◌++◌, length, append_assoc, Some, None, Result, Ok, sym, refl, ap, ◌∙◌, subst, inl, inr, ◌⊎◌, arith}
 use Rattle.std.specs.Prelude.{slice_range}
 use Rattle.std.specs.Str.{bytes_eq}
 use Rattle.std.proofs.lemmas.Bool.{cases_eq, false≢true, false_from_ne_true}
@@ -18,7 +18,6 @@ use Rattle.trio_layout.specs.Core.{Core, Location, page_of}
 use Rattle.trio_layout.specs.Entries.{Listed, body_in_slot, entries_on, has_name, listed_at, place_of, repeated_name, slot_bytes, slot_entries, unless_repeated, with_names_apart}
 use Rattle.trio_layout.specs.Slot.{slot_of}
 use Rattle.trio_layout.specs.declared.slot.SlotRead.{SlotRead}
-use Rattle.trio_layout.specs.declared.slot.SlotRead.TheVariants.{Empty, Entry, Bad}
 use Rattle.trio_layout.specs.Survey.{FileRead, Met}
 use Rattle.trio_layout.specs.Within.{entries_where, entries_within, file_within}
 use Rattle.trio_layout.proofs.Reading.{bytes_eq-true, true-bytes_eq}
@@ -122,11 +121,7 @@ module _ {Y E : Type 0} where
 -- ---- names
 
 apart_first : (seen : List Listed) (l : Listed) (ls : List Listed) → repeated_name seen (l ∷ ls) ≡ None → (has_name l.entry.name seen ≡ false) × (repeated_name (seen ++ l ∷ []) ls ≡ None)
-apart_first seen l ls e = by (has_name l.entry.name seen) refl e
-  where
-    by : (t : Bool) → has_name l.entry.name seen ≡ t → cond t (Some (place_of l)) (repeated_name (seen ++ l ∷ []) ls) ≡ None → (has_name l.entry.name seen ≡ false) × (repeated_name (seen ++ l ∷ []) ls ≡ None)
-    by true t h = absurd (let wrong : Some (place_of l) ≡ None = h in cc wrong)
-    by false t h = (t, h)
+apart_first seen l ls e = search arith
 
 names_split : (seen xs ys : List Listed) → repeated_name seen (xs ++ ys) ≡ None → (repeated_name seen xs ≡ None) × (repeated_name (seen ++ xs) ys ≡ None)
 names_split seen [] ys e = (refl, ap (λ l. repeated_name l ys) (append-nil seen) ∙ e)
@@ -176,12 +171,7 @@ AtMostOne ls = (ls ≡ []) ⊎ ((l : Listed) × (ls ≡ l ∷ []))
 
 -- a slot lists one at most
 pub listed_one : (page k : ℕ) (body : List ℕ) (r : SlotRead) (has : List Listed) → listed_at page k body r ≡ Ok has → AtMostOne has
-listed_one page k body Empty has e = inl (let t : Ok [] ≡ Ok has = e in let s : [] ≡ has = cc t in sym s)
-listed_one page k body (Entry x) has e =
-    let l : Listed = record { entry = x; page = page; slot = k; body = body } in
-    let t : Ok (l ∷ []) ≡ Ok has = e in
-    let s : l ∷ [] ≡ has = cc t in inr (l, sym s)
-listed_one page k body Bad has e = absurd cc
+listed_one page k body r has e = search arith
 
 -- where the names differ they do so with others in the place of some, of names that none beside has
 names_put : (front had has back : List Listed) → AtMostOne has → ((l : Listed) → In l has → Has l.entry.name (front ++ back) → ⊥) → repeated_name [] (front ++ (had ++ back)) ≡ None → repeated_name [] (front ++ (has ++ back)) ≡ None
@@ -205,11 +195,7 @@ names_put front had has back one free e =
         (no_name l.0.entry.name front (λ k. free l.0 i (k.0, In-left k.0 front back k.1, k.2)))
 
 apart_are : (ls es : List Listed) → with_names_apart ls ≡ Ok es → (repeated_name [] ls ≡ None) × (ls ≡ es)
-apart_are ls es e = by (repeated_name [] ls) refl e
-  where
-    by : (o : Option Location) → repeated_name [] ls ≡ o → unless_repeated ls o ≡ Ok es → (repeated_name [] ls ≡ None) × (ls ≡ es)
-    by None t h = (t, (let k : Ok ls ≡ Ok es = h in cc k))
-    by (Some place) t h = absurd cc
+apart_are ls es e = search arith
 
 -- ---- one page
 
@@ -231,17 +217,7 @@ module _ (inodes page k : ℕ) (old new : List ℕ) (low : k < 16) (whole : leng
   slot_here = ap (λ l. listed_at page k l (slot_of inodes (slot_bytes k then))) body_here ∙ ap (λ l. listed_at page k (body_in_slot 0 new) (slot_of inodes l)) bytes_here
 
   range_else : (i from to : ℕ) → (i ≡ k → ⊥) → from ≤ to → 256 * i ≤ from → to ≤ 256 * i + 256 → slice_range then from to ≡ slice_range old from to
-  range_else i from to d a b c =
-      elim (lower i k d) [
-        | inl l ↦ slice-with_part_below (256 * k) new old from to fits (omega (arith, l, c))
-        | inr l ↦ slice-with_part_above (256 * k) new old from to fits (omega (arith, l, b, fills))
-      ]
-    where
-      lower : (i k : ℕ) → (i ≡ k → ⊥) → (i < k) ⊎ (k < i)
-      lower zero zero d = absurd (d refl)
-      lower zero (suc k) d = inl (omega arith)
-      lower (suc i) zero d = inr (omega arith)
-      lower (suc i) (suc k) d = elim (lower i k (λ e. d (ap suc e))) [ inl l ↦ inl (omega (arith, l)) | inr l ↦ inr (omega (arith, l)) ]
+  range_else i from to d a b c = search (arith, slice-with_part_below, fits, slice-with_part_above)
 
   slot_else : (i : ℕ) → (i ≡ k → ⊥) → slot_entries inodes page then i ≡ slot_entries inodes page old i
   slot_else i d =
