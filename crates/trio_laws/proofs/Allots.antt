@@ -114,11 +114,7 @@ module _ (s : State) (lib count many : ℕ) where
             | inl same ↦ k.fit.full p bytes (sym (page_same core pages p same) ∙ h)
             | inr gone ↦ absurd (gone.1 bytes (page_there (with_other core pages) p bytes h).1)
           ];
-      long = (let long = k.fit.long in
-          let n1 = length-with_pages (flat_map (λ g. g.checkpoint) s.open_grants) s.home.core.pages in
-          let n2 = length-with_pages (flat_map (λ g. g.checkpoint) s.open_grants) (without_pages ps s.home.core.pages) in
-          let n3 = length-without ps s.home.core.pages in
-          omega (arith, long, n1, n2, n3));
+      long = search (arith, length-with_pages, length-without);
       numbers = k.fit.numbers;
     }
 
@@ -148,24 +144,11 @@ module _ (s : State) (lib count many : ℕ) where
           (parent_same g.lib (row_at s.home g.ino) h.0, h.1 ∙ sym (body_still (settled s) pages k.fit fit' k.verifies agree g.ino r.0 r.1));
       lent = λ g i w. lent_still (settled s) pages k.fit fit' k.verifies agree g (k.lent g i w);
       checkpoints = k.checkpoints;
-      absent = λ p gone c. elim (without_absent ps s.home.core.pages p gone) [
-        | inl taken ↦ inr (ap is_some (lib_at-set (Some library) ps p s.pages_out (within p c) (In-is_among p ps taken)))
-        | inr was ↦
-            elim (k.absent p was c) [
-              | inl lent ↦ inl lent
-              | inr out ↦ inr (out_stays p (within p c) out)
-            ]
-      ];
+      absent = search (arith, without_absent, lib_at-set, within, In-is_among, out_stays);
       pages_placed = length-with_all (Some library) ps s.pages_out ∙ k.pages_placed;
-      out_free = λ p out. elim (is_out-given (Some library) ps p s.pages_out out) [
-        | inl new ↦ (page_free p (is_among-In p ps new)).0
-        | inr old ↦ k.out_free p old
-      ];
+      out_free = search (arith, is_out-given, page_free, is_among-In);
       numbers_placed = length-with_all (Some library) ns s.numbers_out ∙ k.numbers_placed;
-      numbers_free = λ n out. elim (is_out-given (Some library) ns n s.numbers_out out) [
-        | inl new ↦ (number_free n (is_among-In n ns new)).0
-        | inr old ↦ k.numbers_free n old
-      ];
+      numbers_free = search (arith, is_out-given, number_free, is_among-In);
     }
 
 -- a step of an allotment

@@ -7,7 +7,7 @@ use Rattle.trio_rights.specs.Row.{Row}
 use Rattle.trio_nodes.specs.declared.grant.GrantKind.{GrantKind}
 use Rattle.trio_lists.specs.Lists.{is_among, In}
 use Rattle.trio_state.specs.Grants.{has_parent_grant, given_back}
-use Rattle.trio_layout.specs.Image.{IsFit, Image, settled_body, row_at}
+use Rattle.trio_layout.specs.Image.{IsFit, Image}
 use Rattle.trio_state.specs.Kept.{Kept, LentIsListed, MayBothStand}
 use Rattle.trio_rights.specs.Sheets.{Sheet, sheet_numbers}
 use Rattle.trio_state.specs.State.{covered, OpenGrant, State, settled}
@@ -59,9 +59,7 @@ module _ (s : State) (k : Kept s) (lib ino : ℕ) where
     verifies = (let P : Image → Type 0 = λ x. Verifies x in subst P (sym settled_back) k.verifies);
     live = λ g i. k.live g (filter-In stays g s.open_grants i).0;
     apart = AllPairs-filter MayBothStand stays s.open_grants k.apart;
-    held = λ g i w.
-        let h = k.held g (filter-In stays g s.open_grants i).0 w in
-        (parent_back g.lib (row_at s.home g.ino) h.0, h.1 ∙ ap (λ (x : Image). settled_body x g.ino) (sym settled_back));
+    held = search (arith, filter-In, parent_back, settled_back);
     lent = λ g i w. (let P : Image → Type 0 = λ x. LentIsListed x g in subst P (sym settled_back) (k.lent g (filter-In stays g s.open_grants i).0 w));
     checkpoints = λ g i. k.checkpoints g (filter-In stays g s.open_grants i).0;
     absent = λ p gone c. elim (k.absent p gone c) [

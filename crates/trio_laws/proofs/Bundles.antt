@@ -7,7 +7,7 @@ use Rattle.std.proofs.lemmas.List.{map-append}
 use Rattle.std.proofs.lemmas.Bool.{and_parts, and_from, or_cases, or_left, or_right, eqb-true, eq-eqb, false≢true, not-true, both_ways, false_from_ne_true, cases_Bool}
 use Rattle.trio_rights.specs.Row.{Row}
 use Rattle.trio_nodes.specs.declared.grant.GrantKind.{GrantKind}
-use Rattle.trio_nodes.specs.declared.grant.GrantKind.TheVariants.{Read, Write, Hold}
+use Rattle.trio_nodes.specs.declared.grant.GrantKind.TheVariants.{Write, Hold}
 use Rattle.trio_layout.specs.Body.{body_of, block_count}
 use Rattle.trio_layout.specs.Chain.{index_count, chain_of}
 use Rattle.trio_layout.specs.Core.{Core, page_of}
@@ -118,21 +118,13 @@ unparted_all s k lib b all =
     (parent_in_all (row_at s.home g.ino) (subst (λ l. has_parent_grant s l (row_at s.home g.ino) ≡ true) mine (k.held g i kind).0))))
   where
     hold_is : (t : GrantKind) → is_hold t ≡ true → t ≡ Hold
-    hold_is Hold e = refl
-    hold_is Read e = absurd (false≢true e)
-    hold_is Write e = absurd (false≢true e)
+    hold_is x0 e = search (arith, false≢true)
 
     write_quiet : (t : GrantKind) → is_write t ≡ true → is_read t ≡ false
-    write_quiet Write e = refl
-    write_quiet Read e = absurd (false≢true e)
-    write_quiet Hold e = absurd (false≢true e)
+    write_quiet x0 e = search (arith, false≢true)
 
     write_in_bundle : (t : GrantKind) (a w h : Bool) → is_write t ≡ true → (a && ((is_write t && w) || (is_hold t && h))) ≡ true → w ≡ true
-    write_in_bundle Write true true h e q = refl
-    write_in_bundle Write true false h e q = absurd (false≢true q)
-    write_in_bundle Write false w h e q = absurd (false≢true q)
-    write_in_bundle Read a w h e q = absurd (false≢true e)
-    write_in_bundle Hold a w h e q = absurd (false≢true e)
+    write_in_bundle x0 x1 x2 h e q = search (arith, false≢true)
 
     parent_in_all : (o : Option Row) → has_parent_grant s lib o ≡ true → is_parent_written b o ≡ true
     parent_in_all None e = absurd (false≢true e)
@@ -237,9 +229,7 @@ module _ (s : State) (k : Kept s) (lib : ℕ) (b : Bundle) (given : GivenTo s li
       let same : x.grant ≡ g = alone s.open_grants x.grant g k.apart x.is_open i (hold_reads x.grant.kind x.kind) x.ino in
       let a : eqb g.lib lib ≡ true = eq-eqb g.lib lib (ap (λ (y : OpenGrant). y.lib) (sym same) ∙ x.lib) in
       let h : is_hold g.kind ≡ true = ap is_hold (ap (λ (y : OpenGrant). y.kind) (sym same) ∙ x.kind) in
-      both_ways (is_in_bundle lib b g) out
-      (and_from (eqb g.lib lib) ((is_write g.kind && is_written b g.ino) || (is_hold g.kind && is_among g.ino b.holds)) a
-      (or_right (is_write g.kind && is_written b g.ino) (is_hold g.kind && is_among g.ino b.holds) (and_from (is_hold g.kind) (is_among g.ino b.holds) h (In-is_among g.ino b.holds j))))
+      search (arith, both_ways, and_from, or_right, In-is_among)
 
   -- nor is it on a written file of it
   pub outside_unwritten : (g : OpenGrant) → In g s.open_grants → is_in_bundle lib b g ≡ false → Unwritten b g.ino
@@ -250,6 +240,4 @@ module _ (s : State) (k : Kept s) (lib : ℕ) (b : Bundle) (given : GivenTo s li
       let kind : is_write g.kind ≡ true = ap is_write (ap (λ (y : OpenGrant). y.kind) (sym same) ∙ x.kind) in
       let f = In-find (λ (w : Written). eqb w.ino g.ino) b.writes w j (eq-eqb w.ino g.ino e) in
       let some' : is_some (find (λ (w : Written). eqb w.ino g.ino) b.writes) ≡ true = ap is_some f.1 in
-      both_ways (is_in_bundle lib b g) out
-      (and_from (eqb g.lib lib) ((is_write g.kind && is_written b g.ino) || (is_hold g.kind && is_among g.ino b.holds)) a
-      (or_left (is_write g.kind && is_written b g.ino) (is_hold g.kind && is_among g.ino b.holds) (and_from (is_write g.kind) (is_written b g.ino) kind some')))
+      search (arith, both_ways, and_from, or_left)

@@ -64,11 +64,7 @@ one_sheet seen (z ∷ zs) x y new i j e =
     let here : In z.page (seen ++ z.page ∷ []) = In-right z.page seen (z.page ∷ []) (inl refl) in
     are_new-before z.page (seen ++ z.page ∷ []) (sheet_numbers zs) parts.1 (in_numbers zs w z.page a (sym on)) here in
     elim i [
-      | inl a ↦
-          elim j [
-            | inl b ↦ a ∙ sym b
-            | inr b ↦ absurd (once y b (sym e ∙ ap (λ (w : Sheet). w.page) a))
-          ]
+      | inl a ↦ search arith
       | inr a ↦
           elim j [
             | inl b ↦ absurd (once x a (e ∙ ap (λ (w : Sheet). w.page) b))

@@ -13,13 +13,13 @@ use Rattle.trio_nodes.specs.declared.grant.GrantKind.{GrantKind}
 use Rattle.trio_nodes.specs.declared.grant.GrantKind.TheVariants.{Read, Write, Hold}
 use Rattle.trio_nodes.specs.declared.answers.GrantFault.{GrantFault}
 use Rattle.trio_nodes.specs.declared.answers.GrantFault.TheVariants.{NotLive, NoParent, Busy}
-use Rattle.trio_lists.specs.Lists.{is_among, In}
+use Rattle.trio_lists.specs.Lists.{In}
 use Rattle.trio_layout.specs.Survey.{row_by}
 use Rattle.trio_state.specs.Grants.{holder_of, denied_or, excluding, denied_by, lacks_parent, has_parent_grant, opened, lent_pages, opens, grant_fault}
 use Rattle.trio_nodes.specs.GrantKinds.{excludes_kind, is_write, is_read}
 use Rattle.trio_layout.specs.Image.{IsFit, Image, settled_body, row_at}
-use Rattle.trio_state.specs.Kept.{Kept, LentIsListed, MayBothStand, HoldStands}
-use Rattle.trio_rights.specs.Sheets.{sheet_numbers, without_pages}
+use Rattle.trio_state.specs.Kept.{Kept, LentIsListed, MayBothStand}
+use Rattle.trio_rights.specs.Sheets.{sheet_numbers}
 use Rattle.trio_state.specs.State.{covered, OpenGrant, State, settled, logged}
 use Rattle.trio_state.specs.Step.{Grant, CtlAnswer, Step, granted_to}
 use Rattle.trio_layout.specs.Verifies.{Verifies}
@@ -87,10 +87,7 @@ module _ (s : State) (k : Kept s) (g : OpenGrant) (none : lent_pages g ≡ []) (
     apart = all_pairs_push MayBothStand s.open_grants g k.apart (λ n d l. apart (get_or s.open_grants n d) (get_or-In s.open_grants n d l));
     held = λ h j w. elim (old_or_new h j) [
       | inl old ↦ let was = k.held h old w in (parent_more h.lib (row_at s.home h.ino) was.0, was.1 ∙ ap (λ x. settled_body x h.ino) (sym settled_same))
-      | inr new ↦
-          let q = held (sym (ap (λ (x : OpenGrant). x.kind) new) ∙ w) in
-          let H : OpenGrant → Type 0 = λ x. HoldStands (opens s g) x in
-          subst H (sym new) (parent_more g.lib (row_at s.home g.ino) q.0, q.1 ∙ ap (λ x. settled_body x g.ino) (sym settled_same))
+      | inr new ↦ search (arith, parent_more, settled_same)
     ];
     lent = λ h j w. elim (old_or_new h j) [
       | inl old ↦ let P : Image → Type 0 = λ x. LentIsListed x h in subst P (sym settled_same) (k.lent h old w)
@@ -98,16 +95,9 @@ module _ (s : State) (k : Kept s) (g : OpenGrant) (none : lent_pages g ≡ []) (
     ];
     checkpoints = λ h j. elim (old_or_new h j) [
       | inl old ↦ k.checkpoints h old
-      | inr new ↦
-          let C : OpenGrant → Type 0 = λ x. sheet_numbers x.checkpoint ≡ sheet_numbers (covered x.kind x.of x.index x.blocks) in
-          subst C (sym new) covers
+      | inr new ↦ search arith
     ];
-    absent = λ p gone c.
-        let was : slice_get s.home.core.pages p ≡ Some None = sym (ap (λ l. slice_get (without_pages l s.home.core.pages) p) none) ∙ gone in
-        elim (k.absent p was c) [
-          | inl lent ↦ inl (any_more (λ (x : OpenGrant). is_write x.kind && is_among p (sheet_numbers (x.index ++ x.blocks))) lent)
-          | inr out ↦ inr out
-        ];
+    absent = search (arith, any_more);
     pages_placed = k.pages_placed;
     out_free = k.out_free;
     numbers_placed = k.numbers_placed;

@@ -157,24 +157,15 @@ module _ (s : State) where
       → known (opens t g) ≡ known (opens s g)
   opens_plain g apart =
       let ck : List Sheet = sheets s.open_grants in
-      let end : (gs : List OpenGrant) → sheets (gs ++ g ∷ []) ≡ sheets gs ++ g.checkpoint =
-      λ gs. flat_map-append (λ (g : OpenGrant). g.checkpoint) gs (g ∷ [])
-      ∙ ap (λ l. sheets gs ++ l) (append-nil g.checkpoint) in
-      let a : settled (opens t g) ≡ J (with_pages g.checkpoint
-      (without_pages (lent_pages g) (with_pages ck s.home.core.pages))) =
-      ap (λ ss. J (with_pages ss (without_pages (lent_pages g) (with_pages ck s.home.core.pages))))
-      (end (bare s.open_grants) ∙ ap (λ l. l ++ g.checkpoint) (sheets-bare s.open_grants)) in
+      let end : (gs : List OpenGrant) → sheets (gs ++ g ∷ []) ≡ sheets gs ++ g.checkpoint = search (arith, flat_map-append, append-nil) in
+      let a : settled (opens t g) ≡ J (with_pages g.checkpoint (without_pages (lent_pages g) (with_pages ck s.home.core.pages))) = search (arith, sheets-bare) in
       let b : settled (opens s g) ≡ J (with_pages g.checkpoint
       (without_pages (lent_pages g) (with_pages ck s.home.core.pages))) =
       ap (λ ss. J (with_pages ss (without_pages (lent_pages g) s.home.core.pages))) (end s.open_grants)
       ∙ ap J (with_pages-append ck g.checkpoint (without_pages (lent_pages g) s.home.core.pages))
       ∙ ap (λ ps. J (with_pages g.checkpoint ps)) (with_pages-without_pages ck
       (lent_pages g) s.home.core.pages apart) in
-      known_same (opens t g) (opens s g) (a ∙ sym b)
-      (map-append without_checkpoint (bare s.open_grants) (g ∷ [])
-      ∙ ap (λ l. l ++ without_checkpoint g ∷ []) (bare-bare s.open_grants)
-      ∙ sym (map-append without_checkpoint s.open_grants (g ∷ [])))
-      refl refl refl refl
+      search (arith, known_same, map-append, bare-bare)
 
 module _ (s : State) (k : Kept s) where
   abbrev u : State
@@ -325,9 +316,7 @@ released_answer s s' lib b answer (Parted n some a same) =
 released_answer s s' lib b answer (IsAccepted none sure a e) = search (arith, parted_plain, settled_plain, breaks_lowest)
 released_answer s s' lib b answer (IsRefused none not_so why a tells e) =
     let rule : ℕ = known_rule (known s) lib b in
-    let is : Refused (naming rule) ≡ known_answer (known s) (Release lib b) =
-    ap (λ x. cond x Accepted (Refused (naming rule))) (sym not_so)
-    ∙ ap (release_answer (known s) lib b) (sym (parted_plain s lib b ∙ none)) in
+    let is : Refused (naming rule) ≡ known_answer (known s) (Release lib b) = search (arith, parted_plain) in
     let same : case_in s lib b ≡ case_in (plain_state (known s)) lib b =
     ap (λ image. case_of image (creds_of s lib) b) (sym (settled_plain s)) in
     let named : why.rule ≡ rule =

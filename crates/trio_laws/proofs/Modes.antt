@@ -23,8 +23,6 @@ use Rattle.trio_laws.proofs.Cases.{after_no_mode}
 use Rattle.trio_laws.proofs.Grants.{none_passes, logged_kept}
 use Rattle.trio_surveys.proofs.Images.{some_of, MetAt, root_or_listed}
 use Rattle.trio_lists.proofs.Members.{In-right, flat_map-In}
-use Rattle.trio_surveys.proofs.Moded.{changed}
-use Rattle.trio_surveys.proofs.ModedCore.{read_now}
 use Rattle.trio_surveys.proofs.ModedImage.{mode_body_other, met_other, mode_met, mode_verifies, mode_fit, mode_file}
 use Rattle.trio_surveys.proofs.Owned.{pages_are}
 use Rattle.trio_surveys.proofs.Putting.{put_on, with_bodies-get}
@@ -43,10 +41,7 @@ with_pages_set (s ∷ ss) pages k x h =
 pub body_put-get : (r : Row) (body : List ℕ) (pages : Pages) (p : ℕ) → (f : List ℕ → List ℕ) × (slice_get (body_put (Some r) body pages) p ≡ option_map (option_map f) (slice_get pages p))
 body_put-get r body pages p =
     let m : Met = record { ino = 0; kind = r.kind; parent = r.parent; page = r.page; slot = r.slot; body = body } in
-    let other : (x : Met) → In x (m ∷ []) → x.ino ≡ 1 → ⊥ = λ x i e. elim i [
-      | inl same ↦ (let wrong : 0 ≡ 1 = sym (ap (λ (y : Met). y.ino) same) ∙ e in cc wrong)
-      | inr none ↦ none
-    ] in
+    let other : (x : Met) → In x (m ∷ []) → x.ino ≡ 1 → ⊥ = search arith in
     (put_on p (m ∷ []), with_bodies-get p (m ∷ []) pages other)
 
 module _ (s : State) (k : Kept s) (n mode : ℕ) (r : Row) (row : row_at s.home n ≡ Some r) (small : mode ≤ 511) (other : n ≡ 1 → ⊥) (free : (g : OpenGrant) → In g s.open_grants → (g.ino ≡ n → ⊥) × (g.ino ≡ r.parent → ⊥)) where
@@ -114,16 +109,7 @@ module _ (s : State) (k : Kept s) (n mode : ℕ) (r : Row) (row : row_at s.home 
     lent = λ g i w.
         let l = k.lent g i w in
         let f = mode_file (settled s) n mode r k.fit k.verifies row small other l.met l.file l.stands l.read in
-        let there : LentIsListed (image_with_mode (settled s) n mode) g = record {
-          met = changed q.met.ino mode l.met;
-          file = read_now (settled s).core k.fit k.verifies.sound mode small q.met q.stands (met_other (settled s) n mode r k.fit k.verifies row small other) l.met l.file;
-          stands = f.0;
-          read = f.1;
-          number = l.number;
-          of = l.of;
-          index = l.index;
-          blocks = l.blocks;
-        } in
+        let there : LentIsListed (image_with_mode (settled s) n mode) g = search (arith, met_other) in
         let P : Image → Type 0 = λ i. LentIsListed i g in subst P (sym settled_moded) there;
     checkpoints = k.checkpoints;
     absent = λ p gone c.
@@ -134,9 +120,7 @@ module _ (s : State) (k : Kept s) (n mode : ℕ) (r : Row) (row : row_at s.home 
     pages_placed = k.pages_placed;
     out_free = k.out_free;
     numbers_placed = k.numbers_placed;
-    numbers_free = λ m out.
-        let was = k.numbers_free m out in
-        row_other m (λ e. (let wrong : None ≡ Some r = sym was ∙ ap (row_at s.home) e ∙ row in absurd (cc wrong))) ∙ was;
+    numbers_free = search (arith, row_other);
   }
 
 -- a change of mode that isn't refused

@@ -114,9 +114,7 @@ module _ (s : State) (k : Kept s) (lib : ℕ) (b : Bundle) (given : GivenTo s li
           | inl own ↦ w.0 (handed_back s k lib b given c.0 p c.1 c.3 own (subst (λ n. In n (sheet_numbers (c.0.index ++ c.0.blocks))) (sym r.2) c.4))
           | inr out ↦ none (covered_then c.0 p c.1 out (in_numbers c.0.checkpoint r.0 p c.2 r.2))
         ] in
-        after_get p
-        ∙ ap (option_map (option_map (put_on p (all_listed core pick))))
-        (with_pages_apart (bundle_sheets b) (settled s).core.pages p w.0 ∙ with_pages_apart (checkpoints_of s.open_grants) s.home.core.pages p bare ∙ w.1)
+        search (arith, after_get, with_pages_apart)
 
     page_then : (p : ℕ) → slice_get (with_pages (checkpoints_of grants) pages) p ≡ slice_get after p
     page_then p =
@@ -131,10 +129,7 @@ module _ (s : State) (k : Kept s) (lib : ℕ) (b : Bundle) (given : GivenTo s li
               let o = place_either (slice_get (with_pages (bundle_sheets b) s.home.core.pages) p) (slice_get after p) r.0.bytes here in
               with_pages_known (checkpoints_of grants) pages p r.0.bytes o.0 i (λ x j on. one_bytes (slice_get after p) x.bytes r.0.bytes (at x j on) here) (spread.home p ∙ o.1)
               ∙ sym here
-          | inr none ↦
-              with_pages_apart (checkpoints_of grants) pages p none
-              ∙ spread.home p
-              ∙ page_kept (slice_get (with_pages (bundle_sheets b) s.home.core.pages) p) (slice_get after p) (absent_stays p none)
+          | inr none ↦ search (arith, with_pages_apart, page_kept, absent_stays)
         ]
 
     pub accepted_settles : with_pages (checkpoints_of grants) pages ≡ after

@@ -38,11 +38,7 @@ pub write_alone : (gs : List OpenGrant) (g h : OpenGrant) → AllPairs MayBothSt
 write_alone gs g h pairs i j w e =
     elim (AllPairs-In MayBothStand gs g h pairs i j) [
       | inl same ↦ same
-      | inr one ↦
-          elim one [
-            | inl r ↦ absurd (write_reads g.kind (is_read h.kind) w (r e).0)
-            | inr r ↦ absurd (write_reads g.kind (is_read h.kind) w (reads_right (is_read h.kind) (is_read g.kind) (r (sym e)).0))
-          ]
+      | inr one ↦ search (arith, write_reads, reads_right)
     ]
 
 pub covered_write : (kind : GrantKind) (of : Kind) (index blocks : List Sheet) (p : ℕ) → In p (sheet_numbers (covered kind of index blocks)) → (kind ≡ Write) × In p (sheet_numbers (index ++ blocks))
@@ -116,9 +112,5 @@ pub alone : (gs : List OpenGrant) (g h : OpenGrant) → AllPairs MayBothStand gs
 alone gs g h pairs i j w e =
     elim (AllPairs-In MayBothStand gs g h pairs i j) [
       | inl same ↦ same
-      | inr one ↦
-          elim one [
-            | inl r ↦ absurd (false≢true (sym w ∙ (and_parts (is_read g.kind) (is_read h.kind) (r e).0).0))
-            | inr r ↦ absurd (false≢true (sym w ∙ (and_parts (is_read h.kind) (is_read g.kind) (r (sym e)).0).1))
-          ]
+      | inr one ↦ search (arith, false≢true, and_parts)
     ]

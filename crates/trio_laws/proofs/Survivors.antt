@@ -81,15 +81,7 @@ module _ (s : State) (k : Kept s) (lib : ℕ) (creds : Creds) (b : Bundle) (give
       let low : 0 < n = subst (λ x. 0 < x) is_n num0 in
       let high : n ≤ core.inodes = subst (λ x. x ≤ core.inodes) is_n num1 in
       let at = up_to_at (λ n. not (is_some (row_at image n)) || is_among n b.holds || same_row (row_at image n) (row_of core (survey core pick) n)) core.inodes n allowed.0 low high in
-      let same : same_row (row_at image n) (row_of core (survey core pick) n) ≡ true =
-      elim (or_cases (not (is_some (row_at image n)) || is_among n b.holds) (same_row (row_at image n) (row_of core (survey core pick) n)) at) [
-        | inr e ↦ e
-        | inl e ↦
-            elim (or_cases (not (is_some (row_at image n))) (is_among n b.holds) e) [
-              | inl dead ↦ absurd (both_ways (is_some (row_at image n)) (not-true (is_some (row_at image n)) dead) (ap is_some row))
-              | inr held ↦ absurd (unheld (is_among-In n b.holds held))
-            ]
-      ] in
+      let same : same_row (row_at image n) (row_of core (survey core pick) n) ≡ true = search (arith, or_cases, both_ways, not-true, is_among-In) in
       same_row_is r (row_of core (survey core pick) n) (sym (ap (λ o. same_row o (row_of core (survey core pick) n)) row) ∙ same)
 
   pub stays : (n : ℕ) (r : Row) → row_at image n ≡ Some r → (In n b.holds → ⊥) → Unwritten b n → Stays image core pick n r
@@ -184,22 +176,8 @@ module _ (s : State) (k : Kept s) (lib : ℕ) (creds : Creds) (b : Bundle) (give
           let t = list_all-In (may_stand image creds b core (survey core pick)) m (survey core pick) allowed.1 q.stands in
           let not_live : l ≡ true → ⊥ = λ y. false≢true (sym (ap is_some dead') ∙ y) in
           elim (stand_cases h l w x (lists_own b core m) z t) [
-            | inl held ↦
-                let p = and_parts (has_kind m.kind (row_at image m.ino)) (bytes_eq m.body (settled_body image m.ino)) held.1 in
-                let r = has_kind_is m.kind (row_at image m.ino) p.0 in
-                let wrong : None ≡ Some r.0 = sym dead' ∙ r.1 in absurd cc
-            | inr rest ↦
-                elim rest [
-                  | inl written ↦ absurd (not_live written.1)
-                  | inr rest' ↦
-                      elim rest' [
-                        | inl live ↦ absurd (not_live live.1)
-                        | inr new ↦
-                            let p = and_parts (is_among m.ino b.numbers && has_owner creds (row_of core (survey core pick) m.ino)) (lists_own b core m) new.2 in
-                            let p' = and_parts (is_among m.ino b.numbers) (has_owner creds (row_of core (survey core pick) m.ino)) p.0 in
-                            absurd (none (subst (λ y. In y b.numbers) q.number (is_among-In m.ino b.numbers p'.0)))
-                      ]
-                ]
+            | inl held ↦ search (arith, and_parts, has_kind_is)
+            | inr rest ↦ search (arith, and_parts, is_among-In)
           ]
 
   -- a held file that is met has its kind and its settled body

@@ -169,11 +169,7 @@ module _ (s : State) (k : Kept s) (lib : ℕ) (m : Met) (f : FileRead) (i : In m
               let no' : Some None ≡ Some (Some bytes) = sym gone.2 ∙ t in
               absurd (cc no')
         ];
-    long = (let long = k.fit.long in
-        let n1 = length-with_pages (flat_map (λ g. g.checkpoint) s.open_grants) s.home.core.pages in
-        let n2 = length-with_pages (flat_map (λ g. g.checkpoint) (s.open_grants ++ g ∷ [])) (without_pages (lent_pages g) s.home.core.pages) in
-        let n3 = length-without (lent_pages g) s.home.core.pages in
-        omega (arith, long, n1, n2, n3));
+    long = search (arith, length-with_pages, length-without);
     numbers = k.fit.numbers;
   }
 
@@ -233,19 +229,12 @@ module _ (s : State) (k : Kept s) (lib : ℕ) (m : Met) (f : FileRead) (i : In m
     ];
     checkpoints = λ h j. elim (old_or_new h j) [
       | inl old ↦ k.checkpoints h old
-      | inr new ↦
-          let C : OpenGrant → Type 0 = λ x. sheet_numbers x.checkpoint ≡ sheet_numbers (covered x.kind x.of x.index x.blocks) in
-          let c : sheet_numbers g.checkpoint ≡ sheet_numbers (covered g.kind g.of g.index g.blocks) = refl in
-          subst C (sym new) c
+      | inr new ↦ search arith
     ];
     absent = λ p gone c. elim (without_absent (lent_pages g) s.home.core.pages p gone) [
       | inl lent ↦
           inl (In-list_any (λ (x : OpenGrant). is_write x.kind && is_among p (sheet_numbers (x.index ++ x.blocks))) g (s.open_grants ++ g ∷ []) (In-right g s.open_grants (g ∷ []) (inl refl)) (In-is_among p (sheet_numbers (g.index ++ g.blocks)) lent))
-      | inr old ↦
-          elim (k.absent p old c) [
-            | inl lent ↦ inl (any_more (λ (x : OpenGrant). is_write x.kind && is_among p (sheet_numbers (x.index ++ x.blocks))) lent)
-            | inr out ↦ inr out
-          ]
+      | inr old ↦ search (arith, any_more)
     ];
     pages_placed = k.pages_placed;
     out_free = k.out_free;

@@ -197,9 +197,7 @@ module _ (s : State) (lib : ℕ) (h : Handed) (j : IsJudgeable s lib (bundle_han
       let is : m.0.ino ≡ f.ino = ap (λ (y : ListedFile). y.ino) (sym m.4) ∙ eqb-true x.ino f.ino q.1 in
       let read : Ok (reads s lib b j acc m.0 m.2).file ≡ Ok m.1 = sym (reads s lib b j acc m.0 m.2).within ∙ m.3 in
       let file : (reads s lib b j acc m.0 m.2).file ≡ m.1 = cc read in
-      judged_blocks f r row m.0 m.2 is regular size
-      ∙ ap (λ (y : FileRead). changed_blocks cs notes h f 0 y.chain.blocks) file
-      ∙ ap (changed_blocks cs notes h f 0) (ap (λ (y : ListedFile). y.blocks) (sym m.4))
+      search (arith, judged_blocks)
 
   gone_blocks : (f : RawFile) → row_at J f.ino ≡ None → blocks_listed_of l f.ino ≡ []
   gone_blocks f gone = by (found f.ino) refl
@@ -224,10 +222,7 @@ module _ (s : State) (lib : ℕ) (h : Handed) (j : IsJudgeable s lib (bundle_han
   file_blocks f i =
       let q = counted_in (λ (x : RawFile). x.ino) (raw_file I J b) (raw_number I J b) 1 I.core.inodes f i in
       let p = when_passed (is_told I J b f.ino) (told_by I J b f.ino (row_at I f.ino) (row_at J f.ino)) f q.2 in
-      elim (told_parts f (row_at I f.ino) (row_at J f.ino) p.1) [
-        | inl t ↦ there_blocks f t.0 t.1 t.2 f.kind (ap (λ (x : RawFile). x.kind) t.2)
-        | inr t ↦ lost_blocks f t.0 t.1 f.kind
-      ]
+      search (arith, told_parts, there_blocks, lost_blocks)
 
   blocks_same : raw_blocks I J h (raw_files I J b) ≡ accepted_blocks cs l notes h (accepted_files cs l notes)
   blocks_same =

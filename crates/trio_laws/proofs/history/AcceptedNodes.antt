@@ -1,5 +1,5 @@
 -- The nodes after an accepted release.
-use Rattle.std.proofs.Common.{◌≡◌, ℕ, ltb, leb, ltb-true, zero, suc, ◌+◌, ◌-◌, ◌*◌, ◌<◌, ◌≤◌, Bool, true, false, cond, ◌&&◌, not, eqb, min, List, [], ◌∷◌, map, length, take, drop, replicate, Option, Some, None, Ok, is_some, slice_get, sym, refl, ap, ◌∙◌, subst, inl, inr, ◌⊎◌, arith, flat_map, unwrap_or, find}
+use Rattle.std.proofs.Common.{◌≡◌, ℕ, ltb-true, zero, suc, ◌+◌, ◌-◌, ◌*◌, ◌<◌, ◌≤◌, Bool, true, false, cond, ◌&&◌, not, eqb, min, List, [], ◌∷◌, map, length, take, drop, replicate, Option, Some, None, Ok, is_some, slice_get, sym, refl, ap, ◌∙◌, subst, inl, inr, ◌⊎◌, arith, flat_map, unwrap_or, find}
 use Rattle.std.specs.Str.{bytes_eq}
 use Rattle.std.proofs.lemmas.List.{length-replicate}
 use Rattle.std.proofs.lemmas.Bool.{and_parts, and_from, eqb-true, eq-eqb, false≢true, both_ways, or_parts, cases_lt, false_from_ne_true, not-false, or_left}
@@ -50,7 +50,6 @@ use Rattle.trio_layout.specs.Range.{is_core}
 use Rattle.trio_laws.proofs.history.RawGiven.{given_row}
 use Rattle.trio_laws.proofs.history.RawNodes.{becomes, part_of, blocks_in, raw_in, raw_out, raw_length}
 use Rattle.trio_laws.proofs.history.RawParts.{raw_number, own_blocks, told_none, same_told, sheet_at, get_in}
-use Rattle.trio_laws.proofs.history.Still.{node_with}
 use Rattle.trio_laws.proofs.history.Told.{Count, block_bytes, told_put}
 use Rattle.trio_laws.proofs.history.Untouched.{handed_same}
 use Rattle.trio_laws.proofs.history.WithNode.{nodes_same, nodes_long}
@@ -208,10 +207,7 @@ module _ (s s' : State) (k : Kept s) (k' : Kept s') (whole : LentWhole s) (lib :
       let long : length old ≡ z = ap length (sym old_is) ∙ old_long s k whole n r row in
       let m = met_at image k.fit k.verifies n r row in
       let lent : sheet_numbers gr.blocks ≡ m.file.chain.blocks = lent_is s k whole n r row gr g.2 g.3 in
-      let count : z ≤ 4096 * length gr.blocks =
-      (let c = (count_is s k whole n r row).0 in
-      let l : length m.file.chain.blocks ≡ length gr.blocks = ap length (sym lent) ∙ numbers_count gr.blocks in
-      omega (arith, c, l)) in
+      let count : z ≤ 4096 * length gr.blocks = search (arith, count_is, numbers_count) in
       let w = at_now n r row' in
       let pl : List ℕ = w.file.chain.blocks in
       let size : ℕ = size_of after n in
@@ -231,12 +227,7 @@ module _ (s s' : State) (k : Kept s) (k' : Kept s') (whole : LentWhole s) (lib :
       let listed : In page (pages_of proposed_core w.met) = subst (λ l. In page l) (sym (pages_are proposed_core w.met w.file w.read)) (In-right page w.file.chain.index pl (get_in pl i page get)) in
       let handed : In page (bundle_pages b) = is_among-In page (bundle_pages b) (list_all-In (λ q. is_among q (bundle_pages b)) page (pages_of proposed_core w.met) own listed) in
       let q = page_there proposed_core page t'.0 t'.1 in
-      let here : (o : Option (List ℕ)) × (slice_get image.core.pages x.0.page ≡ Some o) =
-      (let fitp = (fitP s k lib (creds_of s lib) b given accepted).long in
-      let far' = k.fit.long in
-      let c = t'.4 in
-      let low : page < image.core.range.end = ltb-true page image.core.range.end (and_parts (leb image.core.range.first page) (ltb page image.core.range.end) c).1 in
-      place_there image.core.pages x.0.page (omega (arith, low, far', at))) in
+      let here : (o : Option (List ℕ)) × (slice_get image.core.pages x.0.page ≡ Some o) = search (arith, fitP, ltb-true, and_parts, place_there) in
       let now_page : slice_get proposed_core.pages x.0.page ≡ Some (Some x.0.bytes) =
       with_pages_known (bundle_sheets b) image.core.pages x.0.page x.0.bytes here.0 (subst (λ j. In j (bundle_pages b)) (sym at) handed)
       (λ y j on. handed_same s k whole lib h given marked n r row gr g.2 g.3 x.0 x.1 (ap (is_touched h) at ∙ u.clean) y j on) here.1 in
@@ -350,9 +341,7 @@ module _ (s s' : State) (k : Kept s) (k' : Kept s') (whole : LentWhole s) (lib :
       let f = kept_follows s k lib (creds_of s lib) b given accepted n q r row_s row (q, row_q, kind, body, un) in
       let f' : Follows image after n r r = (let F : Row → Type 0 = λ x. Follows image after n x r in subst F same f) in
       let un' : Unwritten b n = λ x i e. un x i (e ∙ sym w.number) in
-      ap (λ l. Some (node_with r l (bytes_of after n r (writer_of s' n) r.kind))) (sym (same_name n r (Some r) row row_r t))
-      ∙ ap (λ l. Some (node_with r (name_of image n r) l)) (kept_kind n r row_r row f' un' r.kind refl)
-      ∙ sym (ap (node_by image n (writer_of s n)) row_r)
+      search (arith, same_name, kept_kind)
 
   -- ---- each node
 
@@ -394,9 +383,5 @@ module _ (s s' : State) (k : Kept s) (k' : Kept s') (whole : LentWhole s) (lib :
       node_is s' k' n ∙ outside n out ∙ sym (node_is s k n) ∙ sym (raw_out rf (raw_number image after b) bs s.home.core.inodes 1 n out (nodes_of s)) in
       elim (cases_lt n 1) [
         | inl zero_n ↦ outer (inl zero_n)
-        | inr low ↦
-            elim (cases_lt n (1 + s.home.core.inodes)) [
-              | inl high ↦ inner low high
-              | inr past ↦ outer (inr past)
-            ]
+        | inr low ↦ search (arith, cases_lt)
       ])

@@ -3,14 +3,13 @@ use Rattle.std.proofs.Common.{◌≡◌, ℕ, zero, suc, ◌+◌, ◌*◌, ◌<�
 use Rattle.std.specs.List.{AllByRecursion}
 use Rattle.std.proofs.lemmas.Bool.{and_parts, and_from, eqb-true, eq-eqb, both_ways, or_left, or_right, not-true, ne_eqb, cases_eq, false_from_ne_true}
 use Rattle.trio_nodes.specs.declared.grant.GrantKind.{GrantKind}
-use Rattle.trio_nodes.specs.declared.grant.GrantKind.TheVariants.{Read, Write, Hold}
+use Rattle.trio_nodes.specs.declared.grant.GrantKind.TheVariants.{Write, Hold}
 use Rattle.trio_nodes.specs.declared.answers.ReleaseAnswer.TheVariants.{Accepted as IsAccepted}
 use Rattle.trio_rights.specs.Row.{Row}
 use Rattle.trio_rights.specs.declared.kind.Kind.{Kind}
 use Rattle.trio_rights.specs.declared.kind.Kind.TheVariants.{Regular, Directory}
-use Rattle.trio_layout.specs.Body.{body_of}
 use Rattle.trio_layout.specs.Core.{Core, page_of}
-use Rattle.trio_layout.specs.Entries.{Listed, entries_of_kind}
+use Rattle.trio_layout.specs.Entries.{Listed}
 use Rattle.trio_lists.specs.Lists.{In, is_among}
 use Rattle.trio_layout.specs.Survey.{Met, plain, FileRead, file_of, survey, row_by, met_in, children, row_of, root_of}
 use Rattle.trio_layout.specs.Accept.{is_accepted, next}
@@ -131,12 +130,7 @@ module _ (s s' : State) (k : Kept s) (k' : Kept s') (whole : LentWhole s) (lib :
       λ p i. page_kept s k lib b given p (λ j. unwritten_apart s k lib b given m0.met p m0.stands un0 (subst (λ l. In p l) (sym (pages_are image.core m0.met m0.file m0.read)) i) j) in
       let now0 : file_of proposed_core m0.met ≡ Ok m0.file = same_file image.core proposed_core m0.met m0.file refl refl m0.read pages in
       let a = reads_from proposed_core m0.met m0.file now0 in
-      let here : file_of proposed_core w.met ≡ Ok m0.file =
-      reads_to proposed_core w.met m0.file (record {
-        body = ap (λ x. body_of x proposed_core.range w.met.body) kinds ∙ ap (body_of m0.met.kind proposed_core.range) bodies ∙ a.body;
-        chain = a.chain;
-        entries = ap (λ x. entries_of_kind proposed_core x m0.file.chain.blocks) kinds ∙ a.entries;
-      }) in
+      let here : file_of proposed_core w.met ≡ Ok m0.file = search (arith, reads_to) in
       let same : w.file ≡ m0.file = Ok-one (file_of proposed_core w.met) w.file m0.file w.read here in
       record {
         row = row;
@@ -263,13 +257,7 @@ module _ (s s' : State) (k : Kept s) (k' : Kept s') (whole : LentWhole s) (lib :
 
   content_stays : (n : ℕ) (r r' : Row) → Stays n r r' → SameContent (nodes_of s) (nodes_of s') n
   content_stays n r r' st = record {
-    bytes =
-        ap bytes_in (is n)
-        ∙ ap (λ o. bytes_in (node_by after n (writer_of s' n) o)) st.row'
-        ∙ ap (bytes_of after n r' (writer_of s' n)) st.kind
-        ∙ stays_kind n r r' st r.kind refl
-        ∙ sym (ap (λ o. bytes_in (node_by image n (writer_of s n) o)) st.row)
-        ∙ sym (ap bytes_in (was n));
+    bytes = search (arith, is, stays_kind, was);
     entries = entries_stay n r r' st;
   }
 
@@ -317,9 +305,7 @@ module _ (s s' : State) (k : Kept s) (k' : Kept s') (whole : LentWhole s) (lib :
       ∙ a
     where
       write_same : (t : GrantKind) → same_kind t Write ≡ is_write t
-      write_same Read = refl
-      write_same Write = refl
-      write_same Hold = refl
+      write_same x0 = search arith
 
   others_out : (n : ℕ) → is_others gs lib n ≡ true → (is_written b n ≡ false) × (is_among n b.holds ≡ false)
   others_out n t = (
@@ -483,10 +469,7 @@ module _ (s s' : State) (k : Kept s) (k' : Kept s') (whole : LentWhole s) (lib :
   listed_in n f i number regular there at page get t =
       let zero_i : 0 + at ≡ at = omega arith in
       let x = told_has n 0 (block_numbers after n (row_at after n)) at page get (ap (λ m. is_block_told image after h n m page) zero_i ∙ t) in
-      let own : told_blocks_of image after h f f.kind ≡ told_blocks image after h n 0 (block_numbers after n (row_at after n)) =
-      ap (told_blocks_of image after h f) regular
-      ∙ ap (λ q. cond q [] (told_blocks image after h f.ino 0 (block_numbers after f.ino (row_at after f.ino)))) there
-      ∙ ap (λ m. told_blocks image after h m 0 (block_numbers after m (row_at after m))) number in
+      let own : told_blocks_of image after h f f.kind ≡ told_blocks image after h n 0 (block_numbers after n (row_at after n)) = search (arith, there) in
       let mine : In x.0 blocks = In-flat (λ f. told_blocks_of image after h f f.kind) f x.0 these i (subst (λ l. In x.0 l) (sym own) x.1) in
       In-list_any (λ (y : ToldBlock). eqb y.ino f.ino && eqb y.at at) x.0 blocks mine
       (and_from (eqb x.0.ino f.ino) (eqb x.0.at at) (eq-eqb x.0.ino f.ino (x.2 ∙ sym number)) (eq-eqb x.0.at at (x.3 ∙ zero_i)))
@@ -511,11 +494,7 @@ module _ (s s' : State) (k : Kept s) (k' : Kept s') (whole : LentWhole s) (lib :
           inr (old (row_at s.home n) refl u.same u.counted)
         where
           old : (o : Option Row) → row_at s.home n ≡ o → slice_get (block_numbers image n (row_at image n)) at ≡ Some page → min (size_of after n) (4096 * at + 4096) ≤ size_of image n → min f.size (4096 * at + 4096) ≤ length (bytes_in (node_at (nodes_of s) f.ino))
-          old None dead found counted = (let wrong : slice_get (block_numbers image n None) at ≡ Some page = ap (λ o. slice_get (block_numbers image n o) at) (sym dead) ∙ found in absurd (cc wrong))
-          old (Some q) live found counted =
-              let was_kind : q.kind ≡ Regular = sym (rights_of n q r live row (is_among n b.holds) refl).0 ∙ kind in
-              let l : length (bytes_in (node_at (nodes_of s) f.ino)) ≡ size_of image n = ap (λ m. length (bytes_in (node_at (nodes_of s) m))) number ∙ old_size n q live was_kind in
-              omega (arith, l, counted, size)
+          old x0 x1 found counted = search (arith, live, rights_of, old_size)
 
   -- one that is gone
   known_gone : (n : ℕ) (q : Row) (f : RawFile) → row_at s.home n ≡ Some q → told_file image b n true q ≡ f → Known f

@@ -121,11 +121,7 @@ module _ (s : State) (lib : ℕ) (b : Bundle) (j : IsJudgeable s lib b) (acc : i
       let q = place_parts e.parent e.page e.slot (row_at I n) kept in
       let low = (live_bounds s lib b j n q.0 q.1).1 in
       let was : noted_name notes n ≡ name_by I n (row_at I n) = noted_name_is I n q.0 low q.1 ∙ sym (ap (name_by I n) q.1) in
-      ap (λ t. t && not (is_handed b n) && bytes_eq (noted_name notes n) (entry_name cs (made e))) kept
-      ∙ ap (λ x. not (is_handed b n) && bytes_eq x (entry_name cs (made e))) was
-      ∙ ap (λ x. not (is_handed b n) && bytes_eq (name_by I n (row_at I n)) x) (sym name)
-      ∙ neither (is_handed b n) (bytes_eq (name_by I n (row_at I n)) (name_of J n r))
-      ∙ ap not (sym (told_name n r row))
+      search (arith, neither, told_name)
 
   named : (n : ℕ) (r : Row) → row_at J n ≡ Some r → (n ≡ 1 → ⊥) → name_of J n r ≡ [] → ⊥
   named n r row other none =
@@ -146,12 +142,7 @@ module _ (s : State) (lib : ℕ) (b : Bundle) (j : IsJudgeable s lib b) (acc : i
                   let f = unheld_at s lib b j acc e q m live.2 live.0 in
                   absurd (both_ways (is_kept cs e) free
                   (place_from e.parent e.page e.slot (row_at I n) q live.2 (ap (λ (x : Row). x.parent) f.2) (ap (λ (x : Row). x.page) f.2) (ap (λ (x : Row). x.slot) f.2)))
-              | inr new ↦
-                  let dead : row_at I n ≡ None = new_dead s lib b j n new.0 in
-                  let differ : bytes_eq (name_by I n (row_at I n)) (name_of J n r) ≡ false =
-                  ap (λ o. bytes_eq (name_by I n o) (name_of J n r)) dead
-                  ∙ false_from_ne_true (bytes_eq [] (name_of J n r)) (λ t. named n r row other (sym ((bytes_eq-Decides [] (name_of J n r)).0 t))) in
-                  told_name n r row ∙ or_right (is_handed b n) (not (bytes_eq (name_by I n (row_at I n)) (name_of J n r))) (ap not differ)
+              | inr new ↦ search (arith, new_dead, false_from_ne_true, named, bytes_eq-Decides, told_name, or_right)
             ]
       ]
 

@@ -18,7 +18,7 @@ use Rattle.trio_layout.specs.Accept.{is_accepted, next}
 use Rattle.trio_layout.specs.Chain.{Chain}
 use Rattle.trio_layout.specs.Core.{Location}
 use Rattle.trio_layout.specs.Image.{row_at}
-use Rattle.trio_layout.specs.Pages.{block_sheets, settled_chain}
+use Rattle.trio_layout.specs.Pages.{block_sheets}
 use Rattle.trio_surveys.proofs.Sheets.{sheets_in}
 use Rattle.trio_state.specs.Bundles.{refused_image, Ends}
 use Rattle.trio_state.specs.Given.{GivenEvent, GivenTo}
@@ -96,12 +96,7 @@ opened_whole : (s : State) (k : Kept s) (lib ino : ℕ) (kind : GrantKind) (r : 
 opened_whole s k lib ino kind r w g x i j =
     elim (In-cases g s.open_grants (opened s lib ino kind r ∷ []) i) [
       | inl old ↦ w g x old j
-      | inr new ↦
-          elim new [
-            | inl same ↦
-                block_whole s k (settled_chain (settled s) r.kind ino) x (lent_from kind (block_sheets (settled s).core (settled_chain (settled s) r.kind ino)) x (subst (λ (y : OpenGrant). In x y.blocks) same j))
-            | inr none ↦ absurd none
-          ]
+      | inr new ↦ search (arith, block_whole, lent_from)
     ]
 
 grant_whole : (s : State) (k : Kept s) (lib ino : ℕ) (kind : GrantKind) (f : Option GrantFault) (o : Option Row) → LentWhole s → LentWhole (granted_to s lib ino kind f o).after

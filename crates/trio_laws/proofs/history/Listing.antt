@@ -9,11 +9,9 @@ use Rattle.trio_rights.specs.declared.kind.Kind.{Kind}
 use Rattle.trio_rights.specs.declared.kind.Kind.TheVariants.{Regular, Directory}
 use Rattle.trio_layout.specs.declared.slot.EntryPart.{EntryPart}
 use Rattle.trio_layout.specs.declared.slot.SlotRead.TheVariants.{Empty, Entry, Bad}
-use Rattle.trio_layout.specs.Body.{body_of}
-use Rattle.trio_layout.specs.Chain.{chain_of}
 use Rattle.trio_layout.specs.Slot.{slot_of, entry_at, entry_bytes, entry_fits}
-use Rattle.trio_layout.specs.Core.{Core, page_of, nowhere}
-use Rattle.trio_lists.specs.Lists.{there_or, In, result_then}
+use Rattle.trio_layout.specs.Core.{Core, page_of}
+use Rattle.trio_lists.specs.Lists.{In}
 use Rattle.trio_layout.specs.Entries.{Listed, slot_bytes, entries_of_kind}
 use Rattle.trio_layout.specs.Survey.{Met, plain, FileRead, file_of, survey, children}
 use Rattle.trio_layout.specs.Pages.{settled_chain}
@@ -97,10 +95,7 @@ module _ (image : Image) (fit : IsFit image.core) (v : Verifies image) where
   chain_met n r e =
       let m = met_at n r e in
       let f = reads_from image.core m.met m.file m.read in
-      ap (λ kind. settled_chain image kind n) (ap (λ (x : Row). x.kind) m.row)
-      ∙ ap (λ b. result_then (chain_of image.core) (there_or nowhere (body_of m.met.kind image.core.range b))) (body_met n r e)
-      ∙ ap (λ o. result_then (chain_of image.core) (there_or nowhere o)) f.body
-      ∙ f.chain
+      search (arith, body_met)
 
   pub listing : (n : ℕ) (r : Row) → row_at image n ≡ Some r → (n ≡ 1 → ⊥) → Listing image.core n r
   listing n r e other =

@@ -1,5 +1,5 @@
 -- What is noted of live files, number by number.
-use Rattle.std.proofs.Common.{◌≡◌, ℕ, zero, suc, ◌+◌, ◌<◌, ◌≤◌, ◌⊎◌, List, [], ◌∷◌, length, get_or, set, Option, Some, None, sym, refl, ap, ◌∙◌, subst, inl, inr, arith, filter_map, length-set, get_or-set_same, get_or-set_other}
+use Rattle.std.proofs.Common.{◌≡◌, ℕ, zero, suc, ◌+◌, ◌<◌, ◌≤◌, ◌⊎◌, List, [], ◌∷◌, length, get_or, set, Option, Some, None, refl, ap, ◌∙◌, inl, inr, arith, filter_map, length-set, get_or-set_same, get_or-set_other}
 use Rattle.std.specs.List.{cons_option}
 use Rattle.std.specs.Option.{option_map}
 use Rattle.std.proofs.lemmas.Bool.{cases_eq}
@@ -80,10 +80,7 @@ module _ (rf : ℕ → Option RawFile) (numbered : (n : ℕ) (f : RawFile) → r
   notes_in zero from m low high notes long = absurd (omega (arith, low, high))
   notes_in (suc c) from m low high notes long =
       elim (cases_eq m from) [
-        | inl same ↦
-            let M : ℕ → Type 0 = λ j. j < length notes → get_or (notes_after (cons_option (rf from) (filter_map rf (count_up (suc from) c))) notes) j None ≡ comes (rf j) (get_or notes j None) in
-            let a : M from = here_step from (rf from) (filter_map rf (count_up (suc from) c)) refl (notes_out c (suc from) from (inl (omega arith))) notes in
-            subst M (sym same) a long
+        | inl same ↦ search (arith, filter_map, here_step, notes_out)
         | inr differ ↦
             past_step from m (rf from) (filter_map rf (count_up (suc from) c)) refl differ
             (notes_in c (suc from) m (omega (arith, low, differ)) (omega (arith, high))) notes long

@@ -2,7 +2,7 @@
 use Rattle.std.proofs.Common.{◌≡◌, ℕ, suc, true, eqb, List, [], ◌∷◌, length, Option, Some, None, Ok, sym, refl, ap, ◌∙◌, subst, arith, length-take, take_all, append-nil}
 use Rattle.std.proofs.lemmas.Bool.{and_parts, and_from, eqb-true, eq-eqb, both_ways}
 use Rattle.trio_nodes.specs.declared.grant.GrantKind.{GrantKind}
-use Rattle.trio_nodes.specs.declared.grant.GrantKind.TheVariants.{Write, Read, Hold}
+use Rattle.trio_nodes.specs.declared.grant.GrantKind.TheVariants.{Write}
 use Rattle.trio_rights.specs.Row.{Row}
 use Rattle.trio_rights.specs.declared.kind.Kind.TheVariants.{Regular}
 use Rattle.trio_layout.specs.Core.{page_of}
@@ -72,9 +72,7 @@ module _ (s : State) (k : Kept s) (whole : LentWhole s) (n : ℕ) (r : Row) (row
       (λ g j w same. both_ways (writes n g) (none_found (writes n) s.open_grants g none j) (and_from (eqb g.ino n) (is_write g.kind) (eq-eqb g.ino n (same ∙ m.number)) (write_kept g.kind w)))
     where
       write_kept : (t : GrantKind) → t ≡ Write → is_write t ≡ true
-      write_kept Write e = refl
-      write_kept Read e = absurd cc
-      write_kept Hold e = absurd cc
+      write_kept x0 e = search arith
 
   long_by : (o : Option OpenGrant) → writer_of s n ≡ o → length (bytes_of_sheets (size_of (settled s) n) (blocks_of (settled s) n r o)) ≡ size_of (settled s) n
   long_by (Some g) e =

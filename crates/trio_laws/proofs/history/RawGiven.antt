@@ -125,12 +125,7 @@ module _ (s : State) (k : Kept s) (lib : ℕ) (b : Bundle) (given : GivenTo s li
     given_is n = bool_same (is_given (raw_files (settled s) after b) n) (is_in b n) there back
       where
         there : is_given (raw_files (settled s) after b) n ≡ true → is_in b n ≡ true
-        there t =
-            let a = list_any-In (λ (f : RawFile). eqb f.ino n && f.given) (raw_files (settled s) after b) t in
-            let p = and_parts (eqb a.0.ino n) a.0.given a.2 in
-            let m = files_from (raw_file (settled s) after b) (count_up 1 s.home.core.inodes) a.0 a.1 in
-            let same : m.0 ≡ n = sym (raw_number (settled s) after b m.0 a.0 m.1) ∙ eqb-true a.0.ino n p.0 in
-            ap (is_in b) (sym same) ∙ sym (given_step (settled s) after b m.0 (is_told (settled s) after b m.0) a.0 m.1) ∙ p.1
+        there t = search (arith, list_any-In, and_parts, files_from, raw_number, eqb-true, given_step)
 
         back : is_in b n ≡ true → is_given (raw_files (settled s) after b) n ≡ true
         back t =

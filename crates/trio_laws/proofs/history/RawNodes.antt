@@ -1,5 +1,5 @@
 -- The nodes after a release, one by one.
-use Rattle.std.proofs.Common.{◌≡◌, ℕ, zero, suc, ◌+◌, ◌*◌, ◌<◌, ◌≤◌, cond, eqb, List, [], ◌∷◌, ◌++◌, length, Option, Some, None, sym, refl, ◌∙◌, subst, inl, inr, ◌⊎◌, arith, flat_map, filter_map}
+use Rattle.std.proofs.Common.{◌≡◌, ℕ, zero, suc, ◌+◌, ◌*◌, ◌<◌, ◌≤◌, cond, eqb, List, [], ◌∷◌, ◌++◌, length, Option, Some, None, refl, ◌∙◌, inl, inr, ◌⊎◌, arith, flat_map, filter_map}
 use Rattle.std.specs.List.{cons_option}
 use Rattle.std.proofs.lemmas.Bool.{cases_eq}
 use Rattle.trio_lists.specs.Counting.{count_up}
@@ -43,10 +43,7 @@ module _ (rf : ℕ → Option RawFile) (numbered : (n : ℕ) (f : RawFile) → r
   raw_in bs zero from m low high nodes = absurd (omega (arith, low, high))
   raw_in bs (suc c) from m low high nodes =
       elim (cases_eq m from) [
-        | inl same ↦
-            let M : ℕ → Type 0 = λ j. node_at (raw_nodes bs (cons_option (rf from) (filter_map rf (count_up (suc from) c))) nodes) j ≡ becomes bs (rf j) (node_at nodes j) in
-            let a : M from = here_step bs from (rf from) (filter_map rf (count_up (suc from) c)) refl (raw_out bs c (suc from) from (inl (omega arith))) nodes in
-            subst M (sym same) a
+        | inl same ↦ search (arith, filter_map, here_step, raw_out)
         | inr differ ↦ past_step bs from m (rf from) (filter_map rf (count_up (suc from) c)) refl differ (raw_in bs c (suc from) m (omega (arith, low, differ)) (omega (arith, high))) nodes
       ]
 
@@ -83,10 +80,7 @@ module _ (rf : ℕ → Option RawFile) (numbered : (n : ℕ) (f : RawFile) → r
     blocks_in zero from m low high x = absurd (omega (arith, low, high))
     blocks_in (suc c) from m low high x =
         elim (cases_eq m from) [
-          | inl same ↦
-              let M : ℕ → Type 0 = λ j. with_blocks j (flat_map g (cons_option (rf from) (filter_map rf (count_up (suc from) c)))) x ≡ with_blocks j (part_of g (rf j)) x in
-              let a : M from = blocks_here from (rf from) (filter_map rf (count_up (suc from) c)) (blocks_out c (suc from) from (inl (omega arith))) x in
-              subst M (sym same) a
+          | inl same ↦ search (arith, filter_map, blocks_here, blocks_out)
           | inr differ ↦
               blocks_step from m (rf from) (filter_map rf (count_up (suc from) c)) x refl differ
               ∙ blocks_in c (suc from) m (omega (arith, low, differ)) (omega (arith, high)) x

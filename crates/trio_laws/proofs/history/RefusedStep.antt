@@ -2,7 +2,6 @@
 use Rattle.std.proofs.Common.{◌≡◌, ℕ, ◌+◌, Bool, true, false, cond, ◌&&◌, not, eqb, List, [], ◌∷◌, map, length, Option, Some, None, sym, refl, ap, ◌∙◌, subst, inl, inr, ◌⊎◌, arith, filter, find}
 use Rattle.std.specs.List.{AllByRecursion}
 use Rattle.std.proofs.lemmas.Bool.{and_parts, and_from, eqb-true, eq-eqb, both_ways, or_left, not-true}
-use Rattle.trio_nodes.specs.declared.grant.GrantKind.{GrantKind}
 use Rattle.trio_nodes.specs.declared.grant.GrantKind.TheVariants.{Write}
 use Rattle.trio_rights.specs.Row.{Row}
 use Rattle.trio_rights.specs.declared.kind.Kind.{Kind}
@@ -27,7 +26,6 @@ use Rattle.trio_nodes.specs.Told.{ToldBlock}
 use Rattle.trio_nodes.specs.declared.entry.RawFile.{RawFile}
 use Rattle.trio_nodes.specs.Nodes.{Nodes, node_at, entry_in}
 use Rattle.trio_nodes.specs.Standing.{Standing, stands, is_others, is_given}
-use Rattle.trio_nodes.specs.GrantKinds.{same_kind}
 use Rattle.trio_nodes.specs.After.{bytes_in, raw_nodes}
 use Rattle.trio_nodes.specs.Legal.{IsWithinGrants, SameContent, HasRightsOf, HasPlaceOf, HasNameOf, LegalVerdict, BlocksAreKnown, is_handed}
 use Rattle.trio_laws.specs.history.Stands.{size_of, bytes_of, node_of, node_by, nodes_of, standing_of, writer_of}
@@ -117,11 +115,7 @@ module _ (s s' : State) (k : Kept s) (k' : Kept s') (whole : LentWhole s) (whole
       let f = find-In (λ (w : Written). eqb w.ino n) b.writes w.0 w.1 in
       let l = given.writes w.0 f.0 in
       let number : l.grant.ino ≡ n = l.ino ∙ eqb-true w.0.ino n f.1 in
-      list_any-map standing_of (λ (g : Standing). eqb g.lib lib && eqb g.ino n && same_kind g.kind Write) s.open_grants
-      ∙ In-list_any (λ (g : OpenGrant). eqb g.lib lib && eqb g.ino n && same_kind g.kind Write) l.grant s.open_grants l.is_open
-      (and_from (eqb l.grant.lib lib && eqb l.grant.ino n) (same_kind l.grant.kind Write)
-      (and_from (eqb l.grant.lib lib) (eqb l.grant.ino n) (eq-eqb l.grant.lib lib l.lib) (eq-eqb l.grant.ino n number))
-      (ap (λ (t : GrantKind). same_kind t Write) l.kind))
+      search (arith, list_any-map, In-list_any, and_from, eq-eqb)
 
   others_unwritten : (n : ℕ) → is_others gs lib n ≡ true → is_written b n ≡ false
   others_unwritten n t = by (is_written b n) refl
@@ -151,11 +145,7 @@ module _ (s s' : State) (k : Kept s) (k' : Kept s') (whole : LentWhole s) (whole
       by_written n false un = inr (inr (unwritten_same n un))
 
       none_new : (n : ℕ) (y : Node) → node_at (nodes_of s) n ≡ None → node_at (nodes_of s') n ≡ Some y → ⊥
-      none_new n y there now = by (row_at s.home n) refl
-        where
-          by : (o : Option Row) → row_at s.home n ≡ o → ⊥
-          by None row = (let wrong : None ≡ Some y = sym (is n ∙ ap (node_by after n (writer_of s' n)) row) ∙ now in absurd (cc wrong))
-          by (Some r) row = (let wrong : Some (node_of image n (writer_of s n) r) ≡ None = sym (was n ∙ ap (node_by image n (writer_of s n)) row) ∙ there in absurd (cc wrong))
+      none_new n y there now = search (arith, is, was)
 
   -- ---- bytes
 
@@ -185,10 +175,7 @@ module _ (s s' : State) (k : Kept s) (k' : Kept s') (whole : LentWhole s) (whole
       let number : f.ino ≡ q.0 = raw_number image after b q.0 f q.1 in
       let r = filed q.0 f (is_told image after b q.0) (row_at s.home q.0) refl q.1 in
       let bytes : bytes_in (node_at (nodes_of s) q.0) ≡ bytes_of image q.0 r.row (writer_of s q.0) r.row.kind = ap bytes_in (was q.0 ∙ ap (node_by image q.0 (writer_of s q.0)) r.at) in
-      r.size
-      ∙ sym (length_was q.0 r.row r.at r.row.kind (sym r.kind ∙ regular))
-      ∙ ap length (sym bytes)
-      ∙ ap (λ n. length (bytes_in (node_at (nodes_of s) n))) (sym number)
+      search (arith, length_was)
 
   known : AllByRecursion (λ f. BlocksAreKnown blocks f (node_at (nodes_of s) f.ino)) these
   known = all_files (λ f. BlocksAreKnown blocks f (node_at (nodes_of s) f.ino)) these (λ f i at regular inside. inr (let z = long_enough f i regular in omega (arith, z)))

@@ -36,14 +36,7 @@ same_list key (x ∷ xs) (y ∷ ys) r q a b =
     let heads : x ≡ y =
     elim (a x (inl refl)) [
       | inl e ↦ e
-      | inr j ↦
-          elim (b y (inl refl)) [
-            | inl e ↦ sym e
-            | inr i ↦
-                let l = r.0 y i in
-                let m = q.0 x j in
-                absurd (omega (arith, l, m))
-          ]
+      | inr j ↦ search arith
     ] in
     ap (λ z. z ∷ xs) heads
     ∙ ap (λ l. y ∷ l) (same_list key xs ys r.1 q.1 (tail_of key x y xs ys heads r.0 a) (tail_of key y x ys xs (sym heads) q.0 b))

@@ -111,11 +111,7 @@ module _ (s : State) (k : Kept s) where
   names : Names (nodes_of s)
   names n m x y at bt parent name =
       elim (cases_eq n 1) [
-        | inl first ↦
-            elim (cases_eq m 1) [
-              | inl second ↦ first ∙ sym second
-              | inr other ↦ absurd (no_sibling m y bt other (sym parent ∙ root_parent n x at first))
-            ]
+        | inl first ↦ search (arith, cases_eq, no_sibling, root_parent)
         | inr other ↦
             elim (cases_eq m 1) [
               | inl second ↦ absurd (no_sibling n x at other (parent ∙ root_parent m y bt second))

@@ -44,11 +44,7 @@ put_step k p r a at full =
     let first : take (4096 * k) (p ++ r) ≡ p = take_first p r (4096 * k) (sym at) in
     let e : 4096 * k + length a ≡ length p + 4096 = omega (arith, at, full) in
     let last : drop (4096 * k + length a) (p ++ r) ≡ drop 4096 r = ap (λ m. drop m (p ++ r)) e ∙ drop_over p r 4096 in
-    ap (λ m. take m (take (4096 * k) (p ++ r) ++ a ++ drop (4096 * k + length a) (p ++ r))) n
-    ∙ ap (λ l. take (length p + length r) (l ++ a ++ drop (4096 * k + length a) (p ++ r))) first
-    ∙ ap (λ l. take (length p + length r) (p ++ a ++ l)) last
-    ∙ ap (take (length p + length r)) (append_assoc p a (drop 4096 r))
-    ∙ take_over p (a ++ drop 4096 r) (length r)
+    search (arith, append_assoc, take_over)
 
 -- a block that is there already
 here_step : (r a : List ℕ) → length a ≡ 4096 → take 4096 r ≡ take (length r) a → r ≡ take (length r) (a ++ drop 4096 r)

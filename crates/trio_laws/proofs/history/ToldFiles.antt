@@ -108,10 +108,7 @@ module _ (before after : Image) (h : Handed) where
         let m = files_from (raw_file before after b) (count_up 1 before.core.inodes) a.0 a.1 in
         let same : m.0 ≡ n = sym (raw_number before after b m.0 a.0 m.1) ∙ eqb-true a.0.ino n a.2 in
         let told : is_told before after b m.0 ≡ true = told_true (is_told before after b m.0) (told_by before after b m.0 (row_at before m.0) (row_at after m.0)) a.0 m.1 in
-        ap (λ x. x || is_new_or_renamed (node_at nodes n) (node_at (raw_nodes blocks these nodes) n)) (handed_is h n)
-        ∙ ap (λ x. is_in b n || is_new_or_renamed x (node_at (raw_nodes blocks these nodes) n)) (was n)
-        ∙ ap (λ x. is_in b n || is_new_or_renamed (node_by before n (w n) (row_at before n)) x) (is n)
-        ∙ told_means n (w n) (w' n) (ap (is_told before after b) (sym same) ∙ told)
+        search (arith, handed_is, told_means)
 
     untold_why : (n : ℕ) → tells_of these n ≡ false → why n ≡ false
     untold_why n t = search (arith, untold_ungiven, untold_stays, same_unnamed)

@@ -1,10 +1,10 @@
 -- Who writes a file once a bundle has come to its end.
-use Rattle.std.proofs.Common.{◌≡◌, ℕ, Bool, true, false, cond, ◌&&◌, ◌||◌, not, eqb, List, [], ◌∷◌, map, Option, Some, None, is_some, sym, refl, ap, ◌∙◌, inl, inr, ◌⊎◌, find, option_map, arith}
+use Rattle.std.proofs.Common.{◌≡◌, ℕ, Bool, true, false, cond, ◌&&◌, not, eqb, List, [], ◌∷◌, map, Option, Some, None, is_some, sym, refl, ap, ◌∙◌, ◌⊎◌, find, option_map, arith}
 use Rattle.std.proofs.lemmas.Bool.{and_parts, and_from, eqb-true, eq-eqb, not-false, false≢true, false_from_ne_true, or_left}
 use Rattle.trio_nodes.specs.declared.grant.GrantKind.{GrantKind}
 use Rattle.trio_nodes.specs.declared.grant.GrantKind.TheVariants.{Write}
 use Rattle.trio_rights.specs.Row.{Row}
-use Rattle.trio_lists.specs.Lists.{In, is_among}
+use Rattle.trio_lists.specs.Lists.{In}
 use Rattle.trio_layout.specs.Image.{Image, row_at}
 use Rattle.trio_state.specs.State.{OpenGrant, State}
 use Rattle.trio_nodes.specs.GrantKinds.{is_write, is_hold}
@@ -41,9 +41,7 @@ pub none_found : {X : Type 0} (p : X → Bool) (xs : List X) (x : X) → find p 
 none_found p (z ∷ zs) x e i = step (p z) refl e i (λ f j. none_found p zs x f j)
   where
     step : (b : Bool) → p z ≡ b → cond b (Some z) (find p zs) ≡ None → (x ≡ z) ⊎ In x zs → (find p zs ≡ None → In x zs → p x ≡ false) → p x ≡ false
-    step true t f i h = absurd cc
-    step false t f (inl s) h = ap p s ∙ t
-    step false t f (inr j) h = h f j
+    step x0 t f x3 h = search arith
 none_found p [] x e i = absurd i
 
 write_unheld : (t : GrantKind) → t ≡ Write → is_hold t ≡ false
@@ -89,8 +87,6 @@ module _ (s s' : State) (k : Kept s) (lib : ℕ) (b : Bundle) (given : GivenTo s
       let mine : l.grant ≡ g = write_alone s.open_grants l.grant g k.apart l.is_open old.0 l.kind (number ∙ sym (eqb-true g.ino n p.0)) in
       let lib_is : eqb g.lib lib ≡ true = eq-eqb g.lib lib (sym (ap (λ (x : OpenGrant). x.lib) mine) ∙ l.lib) in
       let written' : is_written b g.ino ≡ true = ap (is_written b) (eqb-true g.ino n p.0) ∙ written in
-      let inside : is_in_bundle lib b g ≡ true =
-      and_from (eqb g.lib lib) ((is_write g.kind && is_written b g.ino) || (is_hold g.kind && is_among g.ino b.holds)) lib_is
-      (or_left (is_write g.kind && is_written b g.ino) (is_hold g.kind && is_among g.ino b.holds) (and_from (is_write g.kind) (is_written b g.ino) p.1 written')) in
+      let inside : is_in_bundle lib b g ≡ true = search (arith, and_from, or_left) in
       false≢true (sym (ap not inside) ∙ old.1))) in
       none_mapped (writer_of s' n) (writer_then ∙ ap (option_map lent_part) gone)

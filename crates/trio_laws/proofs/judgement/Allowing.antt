@@ -116,14 +116,7 @@ module _ (s : State) (lib : ℕ) (b : Bundle) (j : IsJudgeable s lib b) (h : mee
       ∙ ap (same_row (Some r)) now
       ∙ elim (met_stands s lib b j h m.0 m.1) [
         | inr new ↦ absurd (new_not_live s lib b j m.0.ino r new.1 row)
-        | inl l ↦
-            let is : l.row ≡ r = some_one (row_at (settled s) m.0.ino) l.row r l.is_row row in
-            elim l.place [
-              | inl held ↦ absurd (unheld (subst (λ x. In x b.holds) m.2 held))
-              | inr p ↦
-                  same_row_from r (row_by m.0 f.0.body) (ap (λ (x : Row). x.kind) (sym is) ∙ sym l.kind) rights.0 rights.1 rights.2
-                  (ap (λ (x : Row). x.parent) (sym is) ∙ sym p.0) (ap (λ (x : Row). x.page) (sym is) ∙ sym p.1) (ap (λ (x : Row). x.slot) (sym is) ∙ sym p.2)
-            ]
+        | inl l ↦ search (arith, some_one, same_row_from)
       ]
 
   rows_kept : keeps_rows (settled s) b core files ≡ true
@@ -134,14 +127,7 @@ module _ (s : State) (lib : ℕ) (b : Bundle) (j : IsJudgeable s lib b) (h : mee
       let same : Bool = same_row (row_at (settled s) n) (row_of core files n) in
       elim (cases_Bool live) [
         | inr dead ↦ or_left (not live || is_among n b.holds) same (or_left (not live) (is_among n b.holds) (ap not dead))
-        | inl there ↦
-            elim (cases_Bool (is_among n b.holds)) [
-              | inl held ↦ or_left (not live || is_among n b.holds) same (or_right (not live) (is_among n b.holds) held)
-              | inr free ↦
-                  let r = some_of (row_at (settled s) n) there in
-                  or_right (not live || is_among n b.holds) same
-                  (row_kept n r.0 r.1 (λ i. both_ways (is_among n b.holds) free (In-is_among n b.holds i)))
-            ]
+        | inl there ↦ search (arith, cases_Bool, or_left, or_right, some_of, row_kept, both_ways, In-is_among)
       ])
 
   own_pages : (m : Met) (k : Inside s lib b j (reads s lib b j h) m) → lists_own b core m ≡ true

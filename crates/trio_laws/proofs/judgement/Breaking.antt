@@ -112,11 +112,7 @@ module _ (c : Case) where
       let N : Bool = list_all (leaves_none l rows) l.held in
       elim (and_false (K && N) (list_all (comes_to_root l rows) l.entries) e) [
         | inr moved ↦ let x = all_false (comes_to_root l rows) l.entries moved.1 in (x.0.ino, inr (inr (x.0, x.1, refl, x.2)))
-        | inl first ↦
-            elim (and_false K N first) [
-              | inl lost ↦ let n = up_to_false (λ n. stays_listed l n (row_in rows n)) (length rows) lost in (n.0, inl (n.1, n.2))
-              | inr dropped ↦ let n = all_false (leaves_none l rows) l.held dropped.1 in (n.0, inr (inl (n.1, n.2)))
-            ]
+        | inl first ↦ search (arith, and_false, up_to_false, all_false)
       ]
 
   rights_broken : meets_rights c ≡ false → Somewhere (BreaksRights c)
@@ -169,17 +165,7 @@ module _ (c : Case) where
         | inl f ↦
             both_ways (is_among f.0 (bundle_pages c.bundle)) f.1.3
             (list_all-In (λ page. is_among page (bundle_pages c.bundle)) f.0 (judged_pages c) r.0 (In-flat (pages_within c) f.1.0 f.0 (judged_files c) f.1.1.among f.1.2))
-        | inr y ↦
-            elim y [
-              | inl again ↦
-                  let l = again.1 in
-                  both_ways B (sym (ap (are_new []) (pages_listed (judged_files c))) ∙ not_new page_of_listing (judged_listings c) l.earlier l.later (record { ino = ino; page = again.0 }) l.order l.seen) r.1
-              | inr z ↦
-                  elim z [
-                    | inl e ↦ both_ways (entry_is_own c e.0) e.2 (list_all-In (entry_is_own c) e.0 (judged_entries c) q.1 e.1.among)
-                    | inr n ↦ both_ways (are_new [] (numbers (judged_entries c))) (not_new (λ (m : Met). m.ino) (judged_entries c) n.earlier n.later n.again n.order n.seen) p.1
-                  ]
-            ]
+        | inr y ↦ search (arith, both_ways, pages_listed, not_new, list_all-In)
       ]
 
   row_high : (l : Listing) (rows : List (Option Row)) (n : ℕ) → stays_listed l n (row_in rows n) ≡ false → n ≤ length rows
@@ -194,11 +180,7 @@ module _ (c : Case) where
       elim x [
         | inl lost ↦
             both_ways (stays_listed l ino (row_in rows ino)) lost.1 (up_to_at (λ n. stays_listed l n (row_in rows n)) (length rows) ino q.0 lost.0 (row_high l rows ino lost.1))
-        | inr y ↦
-            elim y [
-              | inl dropped ↦ both_ways (leaves_none l rows ino) dropped.1 (list_all-In (leaves_none l rows) ino l.held q.1 dropped.0)
-              | inr moved ↦ both_ways (comes_to_root l rows moved.0) moved.3 (list_all-In (comes_to_root l rows) moved.0 l.entries p.1 moved.1)
-            ]
+        | inr y ↦ search (arith, both_ways, list_all-In)
       ]
 
   no_rights : (ino : ℕ) (place : Location) → BreaksRights c ino place → meets_rights c ≡ true → ⊥
@@ -257,10 +239,7 @@ module _ (c : Case) where
                         a.0
                         ∙ sym (ap (λ g. by_rules g O E) a.1 ∙ ap (λ o. by_rules true o E) a.2
                         ∙ ap (by_rules true true) (false_from_ne_true E (no_edges (listing c) c.rows ino a.3)))
-                    | inr a ↦
-                        a.0
-                        ∙ sym (ap (λ g. by_rules g O E) a.1 ∙ ap (λ o. by_rules true o E) a.2
-                        ∙ ap (by_rules true true) a.3)
+                    | inr a ↦ search arith
                   ]
             ]
       ]

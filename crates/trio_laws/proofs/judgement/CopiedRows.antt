@@ -111,9 +111,7 @@ module _ (s : State) (lib : ℕ) (b : Bundle) (j : IsJudgeable s lib b) where
   new_childless x n r new low row is =
       let m = live s lib b j n r row in
       elim (met_cases (settled s).core plain j.kept.fit.numbers j.kept.verifies.sound m.met m.stands) [
-        | inl z ↦
-            let p : r.parent ≡ 0 = ap (λ (y : Row). y.parent) m.row ∙ ap (λ (y : Met). y.parent) z in
-            omega (arith, low, is, p)
+        | inl z ↦ search arith
         | inr q ↦
             let f = read_met (settled s).core plain j.kept.fit j.kept.verifies.sound q.0 q.1 in
             let p : x.ino ≡ q.0.ino = sym is ∙ ap (λ (y : Row). y.parent) m.row ∙ child_parent (settled s).core plain q.0 m.met q.2 in

@@ -144,11 +144,7 @@ module _ (s : State) (lib : ℕ) (b : Bundle) (j : IsJudgeable s lib b) (acc : i
               | inr rest ↦
                   elim rest [
                     | inr new ↦ or_right (is_kept c e || is_among e.ino b.holds) (is_among e.ino b.numbers) (In-is_among e.ino b.numbers new.0)
-                    | inl live ↦
-                        let r : Row = live.1 in
-                        let f = unheld_at s lib b j acc e r m live.2 live.0 in
-                        absurd (both_ways (is_kept c e) free
-                        (place_from e.parent e.page e.slot (row_at (settled s) e.ino) r live.2 (ap (λ (x : Row). x.parent) f.2) (ap (λ (x : Row). x.page) f.2) (ap (λ (x : Row). x.slot) f.2)))
+                    | inl live ↦ search (arith, unheld_at, both_ways, place_from)
                   ]
             ]
       ]
@@ -171,11 +167,7 @@ module _ (s : State) (lib : ℕ) (b : Bundle) (j : IsJudgeable s lib b) (acc : i
       has_kind_from e.kind (row_at (settled s) e.ino) r.0 r.1
       (sym q.kind ∙ elim (classes s lib b j acc q.met q.stands) [
         | inl held ↦ held.1.2 ∙ ap (λ (x : Row). x.kind) (some_one (row_at (settled s) q.met.ino) held.1.0 r.0 held.1.1 row)
-        | inr rest ↦
-            elim rest [
-              | inl live ↦ let f = unheld_at s lib b j acc q.met r.0 q.stands row live.0 in ap (λ (x : Row). x.kind) (sym f.2)
-              | inr new ↦ absurd (new_not_live s lib b j q.met.ino r.0 new.0 row)
-            ]
+        | inr rest ↦ search (arith, unheld_at, new_not_live)
       ]))
       (λ free h.
       let m = free_met e i free in

@@ -70,21 +70,7 @@ module _ (s : State) (lib : ℕ) (b : Bundle) (j : IsJudgeable s lib b) (acc : i
         | inr free ↦
             elim (classes s lib b j acc m i) [
               | inl held ↦ record { row = held.1.0; is_row = held.1.1; kind = held.1.2; body = held.2; unwritten = free }
-              | inr rest ↦
-                  elim rest [
-                    | inr new ↦ absurd (new_not_live s lib b j m.ino r new.0 e)
-                    | inl live ↦
-                        let f = unheld_at s lib b j acc m r i e live.0 in
-                        record {
-                          row = r;
-                          is_row = e;
-                          kind = ap (λ (x : Row). x.kind) (sym f.2);
-                          body =
-                              body_kept s lib b j acc m r i e (ap (λ (x : Row). x.parent) f.2) (ap (λ (x : Row). x.page) f.2) (ap (λ (x : Row). x.slot) f.2)
-                              ∙ kept_settled s lib b j m.ino free;
-                          unwritten = free;
-                        }
-                  ]
+              | inr rest ↦ search (arith, new_not_live, unheld_at, body_kept, kept_settled)
             ]
       ]
 

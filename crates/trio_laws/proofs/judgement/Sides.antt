@@ -12,7 +12,7 @@ use Rattle.trio_layout.specs.Image.{row_at, settled_body}
 use Rattle.trio_layout.specs.JudgedFiles.{entries_in, judged_files, pages_within, written_met}
 use Rattle.trio_rights.specs.Bundle.{Bundle, Written, bundle_pages}
 use Rattle.trio_layout.specs.Proposed.{is_place_of, kept_body, proposed, proposed_pick}
-use Rattle.trio_layout.specs.Survey.{FileRead, Met, Pick, children, children_in, file_of, met_in, numbers, pages_in, pages_of, plain, row_by, survey}
+use Rattle.trio_layout.specs.Survey.{FileRead, Met, Pick, children, file_of, met_in, numbers, pages_in, pages_of, plain, row_by, survey}
 use Rattle.trio_surveys.proofs.Images.{MetAt, read_met}
 use Rattle.trio_surveys.proofs.Tree.{child_from, child_has}
 use Rattle.trio_state.specs.State.{State, creds_of, settled}
@@ -85,9 +85,7 @@ module _ (s : State) (lib : ℕ) (b : Bundle) (j : IsJudgeable s lib b) (reads :
   pub inside_numbers : (m : Met) (k : Inside m) → numbers (children (proposed (settled s) b) (proposed_pick (settled s) b) m) ≡ numbers (entries_in (case_of (settled s) (creds_of s lib) b) k.file)
   inside_numbers m k =
       let r = reads k.file k.judged_one in
-      ap (λ o. numbers (children_in pick m.ino o)) (inside_read m k)
-      ∙ numbers_met pick plain m.ino k.file.ino r.file.entries
-      ∙ sym (ap (λ o. numbers (children_in plain k.file.ino o)) r.within)
+      search (arith, inside_read, numbers_met)
 
   -- a child inside, with the entry that it comes from
   pub record InsideChild (m : Met) (k : Inside m) (x : Met) : Type 0 where

@@ -124,14 +124,7 @@ module _ (s : State) (lib : ℕ) (b : Bundle) (j : IsJudgeable s lib b) (acc : i
             now ∙ ap Some (row_same (row_by y.met f.0.body) (placed_row (entry_listed c e) r) h.0 h.1 h.2 h.3 y.parent y.page y.slot) ∙ ap (option_map (placed_row (entry_listed c e))) (sym row)
         | inr rest ↦
             elim rest [
-              | inl live ↦
-                  let r : Row = live.1 in
-                  let g = unheld_at s lib b j acc y.met r y.stands live.2 live.0 in
-                  let row : row_at (settled s) e.ino ≡ Some r = ap (row_at (settled s)) (sym y.ino) ∙ live.2 in
-                  let old : row_of core files e.ino ≡ Some r = unheld_row s j.kept lib (creds_of s lib) b j.given acc e.ino r row (λ k. live.0 (subst (λ n. In n b.holds) (sym y.ino) k)) in
-                  old
-                  ∙ ap Some (row_same r (placed_row (entry_listed c e) r) refl refl refl refl (ap (λ (x : Row). x.parent) g.2 ∙ y.parent) (ap (λ (x : Row). x.page) g.2 ∙ y.page) (ap (λ (x : Row). x.slot) g.2 ∙ y.slot))
-                  ∙ ap (option_map (placed_row (entry_listed c e))) (sym row)
+              | inl live ↦ search (arith, unheld_at, unheld_row, row_same)
               | inr new ↦
                   let k = new_judged s lib b j (reads s lib b j acc) (once_met s lib b j acc) y.file e y.judged_one y.among (subst (λ n. In n b.numbers) y.ino new.0) in
                   absurd (none e k refl)
@@ -250,9 +243,7 @@ module _ (s : State) (lib : ℕ) (b : Bundle) (j : IsJudgeable s lib b) (acc : i
                   let e = is_listed_at c o listed in
                   let y = entry_met s lib b j acc e.0 e.1 in
                   (y.met, y.stands, y.ino ∙ e.2)
-              | inr gone ↦
-                  absurd (both_ways (gives_up l o) stays
-                  (or_right (has_file l o) (is_among o l.held && not (is_listed l o)) (and_from (is_among o l.held) (not (is_listed l o)) held (ap not gone))))
+              | inr gone ↦ search (arith, both_ways, stays, or_right, and_from)
             ]
       ]
 

@@ -1,5 +1,5 @@
 -- What is ready is accepted.
-use Rattle.std.proofs.Common.{◌≡◌, ℕ, true, ◌&&◌, List, Some, sym, ap, ◌∙◌, subst, arith}
+use Rattle.std.proofs.Common.{◌≡◌, ℕ, true, List, Some, sym, ap, ◌∙◌, subst, arith}
 use Rattle.std.specs.Prelude.{map, is_some, IsTrue}
 use Rattle.std.proofs.lemmas.Bool.{and_from}
 use Rattle.trio_rights.specs.Row.{Row}
@@ -19,7 +19,7 @@ use Rattle.trio_lists.proofs.Members.{In-map, map-In}
 use Rattle.trio_layout.specs.Case.{Case, Held, case_of}
 use Rattle.trio_layout.specs.Listing.{listing}
 use Rattle.trio_layout.specs.Edges.{meets_edges}
-use Rattle.trio_layout.specs.Rules.{meets_grammar, meets_owning, meets_rights, meets_rules}
+use Rattle.trio_layout.specs.Rules.{meets_rules}
 use Rattle.trio_laws.specs.RuleLaws.{IsJudgeable}
 use Rattle.trio_laws.proofs.judgement.Allowing.{rules_allow}
 use Rattle.trio_nodes.specs.declared.call.Done.{Done}
@@ -112,9 +112,7 @@ module _ (s : State) (desk : DeskSeen) (b : Parcel) (back : List Shown) (calls :
       let c : Case = case_of (settled s) (creds_of s lib) (bundle_of b) in
       let t = shown_then in
       let edges : meets_edges (listing c) c.rows ≡ true = edges_follow c (nodes_of s) _ (states_are_trees s m.judgeable.kept) tree_then (among s lib (bundle_of b) m.judgeable) t (rows_many s m.judgeable.kept) in
-      and_from (meets_grammar c && meets_owning c && meets_edges (listing c) c.rows) (meets_rights c)
-      (and_from (meets_grammar c && meets_owning c) (meets_edges (listing c) c.rows) (and_from (meets_grammar c) (meets_owning c) t.grammar t.owning) edges)
-      t.rights
+      search (arith, and_from)
 
 pub ready_is_accepted : ReadyIsAccepted
 ready_is_accepted s desk b back calls m ready =

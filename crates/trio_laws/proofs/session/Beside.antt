@@ -1,5 +1,5 @@
 -- Two walks that begin with other files, but with the same children.
-use Rattle.std.proofs.Common.{◌≡◌, ℕ, suc, zero, ◌≤◌, cond, ◌||◌, eqb, List, [], ◌∷◌, ◌++◌, append_assoc, sym, refl, ap, ◌∙◌, subst, inl, inr, arith}
+use Rattle.std.proofs.Common.{◌≡◌, ℕ, suc, zero, ◌≤◌, ◌||◌, eqb, List, [], ◌∷◌, ◌++◌, append_assoc, sym, refl, ap, ◌∙◌, subst, inl, inr, arith}
 use Rattle.std.specs.List.{flat_map}
 use Rattle.std.proofs.lemmas.Bool.{cases_eq}
 use Rattle.std.proofs.lemmas.List.{append-nil, map-append}
@@ -20,9 +20,7 @@ first_same L seen seen' (m ∷ ms) same all =
     first_same L (seen ++ m.ino ∷ []) (seen' ++ m.ino ∷ []) ms
     (λ n l. is_among-push n m.ino seen' ∙ ap (λ b. b || eqb m.ino n) (same n l) ∙ sym (is_among-push n m.ino seen))
     (λ x i. all x (inr i)) in
-    ap (λ b. cond b (first_listed seen' ms) (m ∷ first_listed (seen' ++ m.ino ∷ []) ms)) here
-    ∙ ap (λ l. cond (is_among m.ino seen) l (m ∷ first_listed (seen' ++ m.ino ∷ []) ms)) on
-    ∙ ap (λ l. cond (is_among m.ino seen) (first_listed seen ms) (m ∷ l)) push
+    search arith
 
 -- files that are passed stay passed
 pub passed_more : (kids : Met → List Met) (starts : List Met) (m : Met) (k n : ℕ) → k ≤ n → In m (fronts kids starts k).passed → In m (fronts kids starts n).passed

@@ -1,5 +1,5 @@
 -- What a file reads, by its index pages and its blocks.
-use Rattle.std.proofs.Common.{◌≡◌, ℕ, suc, zero, ◌+◌, ◌-◌, ◌*◌, ◌<◌, ◌≤◌, Bool, true, cond, eqb, min, List, [], ◌∷◌, ◌++◌, length, take, drop, append_assoc, Option, Some, None, Ok, sym, refl, ap, ◌∙◌, subst, inl, inr, ◌⊎◌, arith, take-append-drop}
+use Rattle.std.proofs.Common.{◌≡◌, ℕ, suc, zero, ◌+◌, ◌-◌, ◌*◌, ◌<◌, ◌≤◌, Bool, true, eqb, min, List, [], ◌∷◌, ◌++◌, length, take, drop, append_assoc, Option, Some, None, Ok, sym, refl, ap, ◌∙◌, subst, inl, inr, ◌⊎◌, arith, take-append-drop}
 use Rattle.std.specs.Prelude.{slice_index_or, is_some}
 use Rattle.std.specs.Option.{unwrap_or}
 use Rattle.std.proofs.lemmas.Bool.{and_parts, cases_lt, eqb-true, eq-eqb, false≢true}
@@ -18,7 +18,6 @@ use Rattle.trio_layout.specs.declared.range.CoreRange.{CoreRange}
 use Rattle.trio_layout.specs.Body.{block_count, body_of}
 use Rattle.trio_layout.specs.Chain.{Chain, index_count, with_index}
 use Rattle.trio_layout.specs.Core.{Core, at_page, page_of}
-use Rattle.trio_layout.specs.Range.{is_core}
 use Rattle.trio_layout.specs.Index.{Index, index_of, link_fits}
 use Rattle.trio_layout.specs.Within.{chain_within, entries_within, index_within}
 use Rattle.trio_layout.proofs.WithinCore.{rest_of, within_from, within_to}
@@ -39,11 +38,7 @@ share_behind core page index blocks k s =
     record {
       bytes = s.bytes;
       there = s.there;
-      names =
-          ap (λ u. index_of u (eqb (suc k) (length index)) core.range s.bytes) used
-          ∙ ap (λ t. index_of (min (length blocks - 511 * suc k) 511) t core.range s.bytes) last
-          ∙ s.names
-          ∙ ap of (sym numbers);
+      names = search (arith, min);
     }
 
 pub named_chain : (core : Core) (index blocks : List ℕ) → length blocks ≤ 511 * length index → ((k : ℕ) → k < length index → NamesShare core index blocks k)
@@ -74,11 +69,7 @@ reads_named core m body index blocks kind reads count head named =
     let pages : index_count (block_count body.size) ≡ length index = ap index_count count ∙ sym many in
     within_to core m (record { body = body; chain = record { index = index; blocks = blocks }; entries = [] }) (record {
       body = ap (λ k. body_of k core.range m.body) kind ∙ reads;
-      chain =
-          ap (λ n. chain_within core n (block_count body.size) body.head) pages
-          ∙ ap (λ n. chain_within core (length index) n body.head) count
-          ∙ ap (chain_within core (length index) (length blocks)) head
-          ∙ chain;
+      chain = search arith;
       entries = ap (λ k. entries_within core k blocks) kind;
     })
 
@@ -135,13 +126,7 @@ bytes_put core core' (page ∷ pages) (suc k) bytes once there l now same =
     ap (take (4096 * suc k)) (page_bytes core page pages t.0 t.1) ∙ ap (λ n. take n (t.0 ++ old)) a ∙ take-append-add t.0 old (4096 * k) in
     let back : drop (4096 * suc (suc k)) (pages_bytes core (page ∷ pages)) ≡ drop (4096 * suc k) old =
     ap (drop (4096 * suc (suc k))) (page_bytes core page pages t.0 t.1) ∙ ap (λ n. drop n (t.0 ++ old)) b ∙ drop-append-add t.0 old (4096 * suc k) in
-    page_bytes core' page pages t.0 (same page (inl refl) other ∙ t.1)
-    ∙ ap (λ r. t.0 ++ r) ih
-    ∙ ap (λ r. t.0 ++ r) (append_assoc (take (4096 * k) old) bytes (drop (4096 * suc k) old))
-    ∙ sym (append_assoc t.0 (take (4096 * k) old) (bytes ++ drop (4096 * suc k) old))
-    ∙ ap (λ r. r ++ (bytes ++ drop (4096 * suc k) old)) (sym front)
-    ∙ ap (λ r. take (4096 * suc k) (pages_bytes core (page ∷ pages)) ++ (bytes ++ r)) (sym back)
-    ∙ sym (append_assoc (take (4096 * suc k) (pages_bytes core (page ∷ pages))) bytes (drop (4096 * suc (suc k)) (pages_bytes core (page ∷ pages))))
+    search (arith, page_bytes, append_assoc)
 
 -- ---- shares that stay
 
@@ -197,11 +182,7 @@ share_ahead core page index blocks k s =
     record {
       bytes = s.bytes;
       there = s.there;
-      names =
-          ap (λ u. index_of u (eqb (suc (suc k)) (length (page ∷ index))) core.range s.bytes) used
-          ∙ ap (λ t. index_of (min (length (drop 511 blocks) - 511 * k) 511) t core.range s.bytes) last
-          ∙ s.names
-          ∙ ap of numbers;
+      names = search (arith, min);
     }
 
 -- what a chain that reads says of its pages
@@ -222,26 +203,9 @@ says_step core n count at bytes i r fits there reads s =
     let all : length (i.numbers ++ r.blocks) ≡ count = omega (arith, length-append i.numbers r.blocks, many, left) in
     let used : min (length (i.numbers ++ r.blocks) - 511 * 0) 511 ≡ min count 511 = omega (arith, all) in
     let last : eqb 1 (length (at ∷ r.index)) ≡ eqb n 0 = grind (arith, nat_tests) in
-    let next : i.next ≡ slice_index_or r.index 0 0 =
-    elim s.head [
-      | inr same ↦ sym same
-      | inl none ↦
-          let end : i.next ≡ 0 = eqb-true i.next 0 (sym (ap (λ t. cond t (eqb i.next 0) (is_core core.range i.next)) (eq-eqb n 0 none)) ∙ has.1) in
-          let empty : r.index ≡ [] = nil_from_length r.index (omega (arith, deep, none)) in
-          end ∙ sym (ap (λ l. slice_index_or l 0 0) empty)
-    ] in
+    let next : i.next ≡ slice_index_or r.index 0 0 = search (arith, eqb-true, eq-eqb, nil_from_length) in
     let of : List ℕ → ℕ → Option Index = λ l x. Some (record { numbers = l; next = x }) in
-    let first : NamesShare core (at ∷ r.index) (i.numbers ++ r.blocks) 0 =
-    record {
-      bytes = bytes;
-      there = there;
-      names =
-          ap (λ u. index_of u (eqb 1 (length (at ∷ r.index))) core.range bytes) used
-          ∙ ap (λ t. index_of (min count 511) t core.range bytes) last
-          ∙ reads
-          ∙ ap (λ l. of l i.next) (sym p.0)
-          ∙ ap (of (take 511 (i.numbers ++ r.blocks))) next;
-    } in
+    let first : NamesShare core (at ∷ r.index) (i.numbers ++ r.blocks) 0 = search (arith, min) in
     let later : (k : ℕ) → k < length r.index → NamesShare core (at ∷ r.index) (i.numbers ++ r.blocks) (suc k) =
     λ k h. share_ahead core at r.index (i.numbers ++ r.blocks) k (subst (λ l. NamesShare core r.index l k) (sym p.1) (s.each k h)) in
     record { pages = omega (arith, deep); blocks = all; head = inr refl; each = shares first later }
@@ -279,12 +243,5 @@ named_reads core m f e there =
     let fits : count ≤ 511 * index_count count = omega arith in
     let s = chain_says core (index_count count) count f.body.head f.chain fits r.chain there in
     let pages = s.pages in
-    let head : f.body.head ≡ slice_index_or f.chain.index 0 0 =
-    elim s.head [
-      | inr same ↦ sym same
-      | inl none ↦
-          let no_blocks : count ≡ 0 = omega (arith, none) in
-          let empty : f.chain.index ≡ [] = nil_from_length f.chain.index (omega (arith, pages, none)) in
-          no_head m.kind core.range m.body f.body r.body no_blocks ∙ sym (ap (λ l. slice_index_or l 0 0) empty)
-    ] in
+    let head : f.body.head ≡ slice_index_or f.chain.index 0 0 = search (arith, nil_from_length, no_head) in
     (record { many = s.pages ∙ ap index_count (sym s.blocks); each = s.each }, sym s.blocks, head)

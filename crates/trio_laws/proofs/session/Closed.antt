@@ -89,12 +89,7 @@ module _ (kids : Met → List Met) (starts : List Met) where
       let few : length (0 ∷ later) ≤ suc n = pigeons (suc n) (0 ∷ later) (new_beside (0 ∷ []) later once' apart) below in
       let long : length later ≡ length (d.rest ++ d.level) = length-map (d.rest ++ d.level) (λ (x : Met). x.ino) in
       let both : length (d.rest ++ d.level) ≡ length d.rest + length d.level = length-append d.rest d.level in
-      let empty : d.level ≡ [] = elim d.enough [
-        | inl e ↦ e
-        | inr h ↦
-            let count : n ≤ length d.rest = h in
-            let z : length d.level ≡ 0 = omega (arith, few, long, both, count) in nil_from_length d.level z
-      ] in
+      let empty : d.level ≡ [] = search (arith, nil_from_length) in
       ap (λ (f : Front). f.level) d.is ∙ empty
 
 -- ---- judged files

@@ -1,7 +1,7 @@
 -- How the calls on directories are decided by what a session sees.
-use Rattle.std.proofs.Common.{◌≡◌, ℕ, Bool, true, false, cond, not, ◌&&◌, ◌||◌, eqb, ltb, List, [], ◌∷◌, take, drop, Option, Some, None, is_some, Result, Ok, Err, sym, refl, ap, ◌∙◌, subst, inl, inr, arith}
+use Rattle.std.proofs.Common.{◌≡◌, ℕ, Bool, true, false, cond, not, ◌&&◌, ◌||◌, eqb, ltb, List, [], ◌∷◌, take, drop, Option, Some, None, is_some, Result, Err, sym, refl, ap, ◌∙◌, subst, inl, inr, arith}
 use Rattle.std.specs.Prelude.{MatchBool}
-use Rattle.std.specs.Option.{ok_or, option_map}
+use Rattle.std.specs.Option.{ok_or}
 use Rattle.std.proofs.lemmas.Bool.{false≢true}
 use Rattle.std.proofs.lemmas.Slice.Eq.{bytes_eq-Decides}
 use Rattle.trio_rights.specs.declared.kind.Kind.TheVariants.{Regular, Directory}
@@ -29,7 +29,7 @@ use Rattle.trio_onetree.proofs.Children.{find_named-Child}
 use Rattle.trio_onetree.proofs.TreeStays.{tree_stays}
 use Rattle.trio_laws.specs.session.DirCalls.{ComesAcross, ComesInto, DoneIsTree, EntersWalked, ListRefusedByCheck, ListRefusedByWalk, ListsNames, MakesEntry, MovesEntry, NameRefusedByWalk, NeedsWrite}
 use Rattle.trio_laws.specs.session.DirCalls.{NoRoomToMake, NoRoomToMove, RefusedAtEntry, RefusedByName, RefusedByPath, RemovesEntry, RenameRefusedByName, RenameRefusedByWalk, RetitlesEntry, ShownIsTree}
-use Rattle.trio_laws.specs.session.DirCalls.{early_refusal, entry_refusal, list_refusal, made_in, name_path, name_refusal, named_as, placed_as, removes_file, rename_refusal, with_name, with_place, write_paths}
+use Rattle.trio_laws.specs.session.DirCalls.{early_refusal, entry_refusal, made_in, name_path, name_refusal, placed_as, removes_file, rename_refusal, with_name, with_place, write_paths}
 use Rattle.trio_laws.proofs.session.FileCalls.{does_as, enters_by, first_passes, first_refuses, lacks_as, makes_nothing, three_pass, three_refuse, two_pass, two_refuse}
 use Rattle.trio_laws.proofs.session.LentNodes.{mapped}
 
@@ -306,26 +306,20 @@ module _ (nodes : Nodes) (from to : Path) (dir new_dir : ℕ) where
       ap (λ q. reached nodes (ok_or q NotFound) (λ k. of_node nodes (node_at nodes k) (renamed k))) f ∙ ap (refused nodes) (let k : Some NotFound ≡ Some reply = e in cc k)
   across-refused (Some n) (Some m) reply f t e =
       let x = find_named-Child nodes dir (name_of from) n f in
-      listed-at nodes dir from n x.node renamed f x.at
-      ∙ ap (λ q. cond (is_some q) (refused nodes Exists) (done (with_node nodes n (Some (placed_as new_dir (name_of to) x.node))) IsDone)) t
-      ∙ ap (refused nodes) (let k : Some Exists ≡ Some reply = e in cc k)
+      search (arith, listed-at)
   across-refused (Some n) None reply f t e = absurd (let wrong : None ≡ Some reply = e in cc wrong)
 
   across-done : (n : ℕ) → find_named nodes dir (name_of from) ≡ Some n → find_named nodes new_dir (name_of to) ≡ None
       → across nodes from to dir new_dir ≡ done (with_place n new_dir (name_of to) nodes) IsDone
   across-done n f t =
       let x = find_named-Child nodes dir (name_of from) n f in
-      listed-at nodes dir from n x.node renamed f x.at
-      ∙ ap (λ q. cond (is_some q) (refused nodes Exists) (done (with_node nodes n (Some (placed_as new_dir (name_of to) x.node))) IsDone)) t
-      ∙ ap (λ q. done (with_node nodes n (option_map (placed_as new_dir (name_of to)) q)) IsDone) (sym x.at)
+      search (arith, listed-at)
 
   -- in the directory in which it was it has but another name
   place-name : (n : ℕ) → find_named nodes dir (name_of from) ≡ Some n → with_place n dir (name_of to) nodes ≡ with_name n (name_of to) nodes
   place-name n f =
       let x = find_named-Child nodes dir (name_of from) n f in
-      ap (λ q. with_node nodes n (option_map (placed_as dir (name_of to)) q)) x.at
-      ∙ ap (λ p. with_node nodes n (Some (placed_as p (name_of to) x.node))) (sym x.parent)
-      ∙ ap (λ q. with_node nodes n (option_map (named_as (name_of to)) q)) (sym x.at)
+      search arith
 
 pub rename_refused_by_name : RenameRefusedByName
 rename_refused_by_name desk d nodes from to dir new_dir found there c f t e none =
@@ -369,23 +363,12 @@ list_refused_by_walk desk d nodes path from on w none =
 pub list_refused_by_check : ListRefusedByCheck
 list_refused_by_check desk d nodes path from n r on w has e none =
     let x = mapped rights_of (node_at nodes n) r has in
-    refused-does desk d nodes none (lists-none d.call d.reply path from on)
-    (list_goes nodes desk.creds d.call d.made path from (Ok n) on w
-    ∙ ap (λ q. of_node nodes q (list_at nodes desk.creds from n)) x.1
-    ∙ two_refuse nodes (done nodes (Names (count_in nodes n) (take 64 (drop from (names_in nodes n))))) NotDir Denied d.reply (not (is_directory x.0.kind)) (lacks desk.creds ToRead x.0)
-    (ap (list_refusal desk.creds) x.2 ∙ e))
+    search (arith, refused-does, lists-none, list_goes, two_refuse)
 
 pub lists_names : ListsNames
 lists_names desk d nodes path from n r count names on w has e many named reply none =
     let x = mapped rights_of (node_at nodes n) r has in
-    does_as desk d nodes (makes_nothing nodes d (lists-none d.call d.reply path from on) none) (done nodes (Names count (take 64 (drop from names))))
-    (list_goes nodes desk.creds d.call d.made path from (Ok n) on w
-    ∙ ap (λ q. of_node nodes q (list_at nodes desk.creds from n)) x.1
-    ∙ two_pass nodes (done nodes (Names (count_in nodes n) (take 64 (drop from (names_in nodes n))))) NotDir Denied (not (is_directory x.0.kind)) (lacks desk.creds ToRead x.0)
-    (ap (list_refusal desk.creds) x.2 ∙ e)
-    ∙ ap (λ k. done nodes (Names k (take 64 (drop from (names_in nodes n))))) many
-    ∙ ap (λ l. done nodes (Names count (take 64 (drop from l)))) named)
-    reply (inr refl)
+    search (arith, does_as, makes_nothing, lists-none, list_goes, two_pass)
 
 -- ---- trees
 

@@ -1,5 +1,5 @@
 -- The names of a directory in their order, from the entries that it lists.
-use Rattle.std.proofs.Common.{◌≡◌, ℕ, zero, suc, ◌+◌, Bool, true, false, cond, not, eqb, List, [], ◌∷◌, ◌++◌, length, map, Option, Some, None, sym, refl, ap, ◌∙◌, subst, inl, inr, arith}
+use Rattle.std.proofs.Common.{◌≡◌, ℕ, zero, suc, ◌+◌, Bool, true, false, cond, not, List, [], ◌∷◌, ◌++◌, length, map, Option, Some, None, sym, refl, ap, ◌∙◌, subst, inl, inr, arith}
 use Rattle.std.specs.List.{cons_option, count_by, filter_map}
 use Rattle.std.specs.Cmp.Lexicographic.{slice_cmp, texts_ties}
 use Rattle.std.specs.Ordering.{nat_cmp, is_le, is_lt, is_eq, ordering_reverse}
@@ -59,25 +59,7 @@ module _ {X : Type 0} (name : X → List ℕ) where
     where
       by : (a b : Bool) → le x z ≡ a → le y z ≡ b → inserted_by_name name x (inserted_by_name name y zs) ≡ inserted_by_name name y (inserted_by_name name x zs)
           → inserted_by_name name x (inserted_by_name name y (z ∷ zs)) ≡ inserted_by_name name y (inserted_by_name name x (z ∷ zs))
-      by true true p q again =
-          ap (λ t. inserted_by_name name x (cond t (y ∷ (z ∷ zs)) (z ∷ inserted_by_name name y zs))) q
-          ∙ ap (λ t. cond t (x ∷ (y ∷ (z ∷ zs))) (y ∷ inserted_by_name name x (z ∷ zs))) xy
-          ∙ sym (ap (λ t. inserted_by_name name y (cond t (x ∷ (z ∷ zs)) (z ∷ inserted_by_name name x zs))) p
-          ∙ ap (λ t. cond t (y ∷ (x ∷ (z ∷ zs))) (x ∷ inserted_by_name name y (z ∷ zs))) yx
-          ∙ ap (λ t. x ∷ cond t (y ∷ (z ∷ zs)) (z ∷ inserted_by_name name y zs)) q)
-      by true false p q again =
-          ap (λ t. inserted_by_name name x (cond t (y ∷ (z ∷ zs)) (z ∷ inserted_by_name name y zs))) q
-          ∙ ap (λ t. cond t (x ∷ (z ∷ inserted_by_name name y zs)) (z ∷ inserted_by_name name x (inserted_by_name name y zs))) p
-          ∙ sym (ap (λ t. inserted_by_name name y (cond t (x ∷ (z ∷ zs)) (z ∷ inserted_by_name name x zs))) p
-          ∙ ap (λ t. cond t (y ∷ (x ∷ (z ∷ zs))) (x ∷ inserted_by_name name y (z ∷ zs))) yx
-          ∙ ap (λ t. x ∷ cond t (y ∷ (z ∷ zs)) (z ∷ inserted_by_name name y zs)) q)
-      by false true p q again = absurd (false≢true (sym p ∙ le-trans x y z xy q))
-      by false false p q again =
-          ap (λ t. inserted_by_name name x (cond t (y ∷ (z ∷ zs)) (z ∷ inserted_by_name name y zs))) q
-          ∙ ap (λ t. cond t (x ∷ (z ∷ inserted_by_name name y zs)) (z ∷ inserted_by_name name x (inserted_by_name name y zs))) p
-          ∙ ap (λ l. z ∷ l) again
-          ∙ sym (ap (λ t. inserted_by_name name y (cond t (x ∷ (z ∷ zs)) (z ∷ inserted_by_name name x zs))) p
-          ∙ ap (λ t. cond t (y ∷ (z ∷ inserted_by_name name x zs)) (z ∷ inserted_by_name name y (inserted_by_name name x zs))) q)
+      by x0 x1 p q again = search (arith, false≢true, le-trans)
 
   inserted-inserted : (x y : X) → (name x ≡ name y → ⊥) → (l : List X) → inserted_by_name name x (inserted_by_name name y l) ≡ inserted_by_name name y (inserted_by_name name x l)
   inserted-inserted x y differ l = search (arith, below, le-one)
@@ -173,12 +155,7 @@ entries_count dir (o ∷ nodes) = by o (entries_count dir nodes) ∙ sym (sum_by
   where
     by : (p : Option Node) → length (filter_map (entry_in dir) nodes) ≡ count_by (is_in dir) nodes
         → length (cons_option (entry_in dir p) (filter_map (entry_in dir) nodes)) ≡ cond (is_in dir p) 1 0 + count_by (is_in dir) nodes
-    by None ih = omega (arith, ih)
-    by (Some x) ih = on (eqb x.parent dir)
-      where
-        on : (v : Bool) → length (cons_option (cond v (Some (x.name, x.kind)) None) (filter_map (entry_in dir) nodes)) ≡ cond v 1 0 + count_by (is_in dir) nodes
-        on true = omega (arith, ih)
-        on false = omega (arith, ih)
+    by x0 ih = search arith
 
 pub names_in_order : NamesInOrder
 names_in_order nodes dir entries tree lists =

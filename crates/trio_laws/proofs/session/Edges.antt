@@ -1,7 +1,7 @@
 -- Where a bundle shows a tree in the place of a tree, it meets rule I3.
-use Rattle.std.proofs.Common.{◌≡◌, ℕ, suc, ◌<◌, ◌≤◌, Bool, true, false, cond, not, ◌&&◌, ◌||◌, ltb, ltb-true, ◌+◌, List, [], ◌∷◌, length, Option, Some, None, Ok, sym, refl, ap, ◌∙◌, subst, inl, inr, ◌⊎◌, arith}
+use Rattle.std.proofs.Common.{◌≡◌, ℕ, suc, ◌<◌, ◌≤◌, Bool, true, false, cond, not, ◌&&◌, ltb, ltb-true, ◌+◌, List, [], ◌∷◌, length, Option, Some, None, Ok, sym, refl, ap, ◌∙◌, subst, inl, inr, ◌⊎◌, arith}
 use Rattle.std.specs.Prelude.{is_some}
-use Rattle.std.specs.List.{list_any, list_all}
+use Rattle.std.specs.List.{list_all}
 use Rattle.std.specs.Option.{option_map}
 use Rattle.std.proofs.lemmas.Bool.{cases_Bool, cases_eq, and_parts, and_from, or_cases, or_left, or_right, eqb-true, false≢true, not_from_false, false_from_ne_true}
 use Rattle.trio_rights.specs.Row.{Row, row_in, is_child}
@@ -109,14 +109,7 @@ module _ (c : Case) (nodes nodes' : Nodes) (tree : IsTree nodes) (tree' : IsTree
   own n e h =
       let i = naming_is c n e h in
       let o : entry_is_own c (met_of e) ≡ true = list_all-In (entry_is_own c) (met_of e) (judged_entries c) owning_parts i.met in
-      elim (or_cases (is_kept c (met_of e) || is_among e.listed.entry.ino c.bundle.holds) (is_among e.listed.entry.ino c.bundle.numbers) o) [
-        | inl p ↦
-            elim (or_cases (is_kept c (met_of e)) (is_among e.listed.entry.ino c.bundle.holds) p) [
-              | inl k ↦ inl k
-              | inr q ↦ inr (inl (subst (λ m. In m c.bundle.holds) i.number (is_among-In e.listed.entry.ino c.bundle.holds q)))
-            ]
-        | inr q ↦ inr (inr (subst (λ m. In m c.bundle.numbers) i.number (is_among-In e.listed.entry.ino c.bundle.numbers q)))
-      ]
+      search (arith, or_cases, met_of, is_among-In)
 
   pub new_dead : (n : ℕ) (r : Row) → row_in c.rows n ≡ Some r → In n c.bundle.numbers → ⊥
   new_dead n r e i = let wrong : None ≡ Some r = sym (a.new n i) ∙ e in cc
@@ -212,16 +205,7 @@ module _ (c : Case) (nodes nodes' : Nodes) (tree : IsTree nodes) (tree' : IsTree
   held_left n i = by (naming_of c n) refl
     where
       by : (o : Option Naming) → naming_of c n ≡ o → leaves_none (listing c) c.rows n ≡ true
-      by (Some e) h = or_left (is_listed (listing c) n) (not (list_any (is_child n) c.rows)) (is_there n e h)
-      by None h =
-          or_right (is_listed (listing c) n) (not (list_any (is_child n) c.rows))
-          (not_from_false (list_any (is_child n) c.rows)
-          (false_from_ne_true (list_any (is_child n) c.rows)
-          (λ y.
-          let o = list_any-In (is_child n) c.rows y in
-          let r = child_row n o.0 o.2 in
-          let m = in_rows c.rows r.0 (subst (λ z. In z c.rows) r.1 o.1) in
-          no_child n m.0 r.0 i h m.1 r.2)))
+      by x0 h = search (arith, or_left, is_there, or_right, not_from_false, false_from_ne_true, list_any-In, child_row, in_rows, no_child)
 
   none_dropped : list_all (leaves_none (listing c) c.rows) (listing c).held ≡ true
   none_dropped = list_all-each (leaves_none (listing c) c.rows) (listing c).held (λ n i. held_left n (held_from c n i))

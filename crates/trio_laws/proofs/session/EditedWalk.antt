@@ -66,8 +66,4 @@ module _ (E : Met → Met) (number : (m : Met) → (E m).ino ≡ m.ino) where
       let all : map E f.passed ++ map E f.level ≡ map E (f.passed ++ f.level) = sym (map-append E f.passed f.level) in
       let more : flat_map kids' (map E f.level) ≡ map E (flat_map kids f.level) =
       flat_map-changed E E kids kids' f.level (λ m i. same m (passed_more kids starts m (suc k) n h (In-right m f.passed f.level i))) in
-      ap (λ (z : Front). record { passed = z.passed ++ z.level; level = first_listed (numbers (z.passed ++ z.level)) (flat_map kids' z.level) }) before
-      ∙ ap (λ p. record { passed = p; level = first_listed (numbers p) (flat_map kids' (map E f.level)) }) all
-      ∙ ap (λ s. record { passed = map E (f.passed ++ f.level); level = first_listed s (flat_map kids' (map E f.level)) }) (numbers-changed (f.passed ++ f.level))
-      ∙ ap (λ l. record { passed = map E (f.passed ++ f.level); level = first_listed (numbers (f.passed ++ f.level)) l }) more
-      ∙ ap (λ l. record { passed = map E (f.passed ++ f.level); level = l }) (first-changed (numbers (f.passed ++ f.level)) (flat_map kids f.level))
+      search (arith, numbers-changed, first-changed)

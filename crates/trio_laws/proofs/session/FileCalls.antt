@@ -1,5 +1,5 @@
 -- How a walk and the calls on a regular file are decided by what a session sees.
-use Rattle.std.proofs.Common.{◌≡◌, ℕ, Bool, true, false, cond, ◌&&◌, ◌+◌, [], length, take, drop, Some, None, Ok, Err, sym, refl, ap, ◌∙◌, subst, inl, inr, ◌⊎◌, arith}
+use Rattle.std.proofs.Common.{◌≡◌, ℕ, Bool, true, false, cond, ◌&&◌, ◌+◌, [], length, take, drop, Some, None, Ok, Err, sym, refl, ap, ◌∙◌, subst, inr, ◌⊎◌, arith}
 use Rattle.std.specs.Prelude.{MatchBool, nat_lt}
 use Rattle.std.proofs.lemmas.Bool.{false≢true}
 use Rattle.trio_rights.specs.declared.kind.Kind.TheVariants.{Regular}
@@ -144,12 +144,7 @@ done_by_bytes desk d nodes path n r old is w has kind bytes e reply none =
     let one : y.0 ≡ x.0 = some_one (node_at nodes n) y.0 x.0 y.1 x.1 in
     let content : x.0.bytes ≡ old = sym (ap (λ (z : Node). z.bytes) one) ∙ y.2 in
     let regular : x.0.kind ≡ Regular = ap (λ (z : Rights). z.kind) x.2 ∙ kind in
-    does_by desk d nodes path is none (done (changed_by d.call n old nodes) (answer_of r old (length old) d.call))
-    (comes desk d nodes path is none n w x.0 x.1
-    ∙ step_done nodes desk.creds d.call n x.0 path is x.1 regular (ap (λ q. refusal desk.creds q d.call) x.2 ∙ e)
-    ∙ ap (λ l. done (changed_by d.call n l nodes) (answer_of (rights_of x.0) l (length l) d.call)) content
-    ∙ ap (λ q. done (changed_by d.call n old nodes) (answer_of q old (length old) d.call)) x.2)
-    reply (inl (ap lacks_room reply))
+    search (arith, does_by, comes, step_done)
 
 pub stats_directory : StatsDirectory
 stats_directory desk d nodes path n r count is w has dir many e reply none = search (arith, mapped, does_by, comes, first_passes)

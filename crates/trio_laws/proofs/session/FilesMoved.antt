@@ -31,7 +31,7 @@ use Rattle.trio_laws.proofs.session.JudgedReads.{file_within-alike}
 use Rattle.trio_laws.proofs.session.LentNodes.{mapped}
 use Rattle.trio_laws.proofs.session.Namings.{find_map}
 use Rattle.trio_desk.specs.Call.{DeskSeen}
-use Rattle.trio_desk.specs.Shows.{Naming, bytes_now, made_by, naming_of, node_left, node_listed, with_bytes}
+use Rattle.trio_desk.specs.Shows.{Naming, made_by, naming_of, node_listed, with_bytes}
 use Rattle.trio_desk.specs.Ready.{bundle_of}
 use Rattle.trio_desk.specs.Edits.{InHand, MayShow}
 use Rattle.trio_laws.specs.session.Takes.{IsInOrder}
@@ -170,10 +170,7 @@ module _ (desk : DeskSeen) (h h' : InHand) (from to : SlotWrite) (e now : EntryP
       grammar = named_so N (λ x. entry_in_grammar c (met_at x) ≡ true) (or_right (is_kept c (met_at N)) (is_some (body_of now.kind desk.sizes.range (body_after to))) in_grammar);
       own = named_so N (λ x. entry_is_own c (met_at x) ≡ true) own_now;
       rights = named_so N (λ x. entry_keeps_rights c (met_at x) ≡ true) rights_now;
-      here =
-          with_node-same nodes' now.ino (option_map (moved to.directory.ino now.name) (node_at nodes' now.ino))
-          ∙ ap (option_map (moved to.directory.ino now.name)) (v.shows.each now.ino ∙ ap (λ q. option_map (with_bytes (bytes_now c now.ino)) (node_left c now.ino q (node_at nodes now.ino))) listed.1)
-          ∙ moves (bytes_now c now.ino) (node_at nodes now.ino) refl;
+      here = search (arith, with_node-same, listed, moves);
       there = λ m d. with_node-else nodes' now.ino m (option_map (moved to.directory.ino now.name) (node_at nodes' now.ino)) d;
       none = λ t. absurd (not_none N t);
       tree = tree;

@@ -22,7 +22,6 @@ use Rattle.trio_layout.specs.Survey.{FileRead, Met, numbers, pages_in}
 use Rattle.trio_layout.specs.Case.{Case, Held, bundle_core}
 use Rattle.trio_layout.specs.Within.{file_within}
 use Rattle.trio_layout.specs.JudgedFiles.{judged_entries, judged_files, judged_pages, pages_within, written_met}
-use Rattle.trio_layout.specs.Listing.{is_kept}
 use Rattle.trio_layout.specs.Rules.{entry_in_grammar, entry_is_own, entry_keeps_rights, file_keeps_rights, has_rights, meets_grammar, meets_owning, meets_rights}
 use Rattle.trio_layout.proofs.WithinCore.{within_from}
 use Rattle.trio_lease.specs.Shown.{LentFile}
@@ -138,12 +137,8 @@ module _ (desk : DeskSeen) (h h' : InHand) (m : Met) (body : List ℕ) (file fil
         let q = entry_from e i in
         ap (entry_in_grammar c2) q.2
         ∙ elim (reads.entry_cases desk h h' m body file file' u rows k q.0 q.1) [
-          | inl same ↦
-              ap (entry_in_grammar c2) same
-              ∙ list_all-In (entry_in_grammar c) q.0 (judged_entries c) (and_parts (list_all (λ x. is_ok (file_within (bundle_core c) x)) (judged_files c)) (list_all (entry_in_grammar c) (judged_entries c)) s.grammar).1 q.1
-          | inr new ↦
-              ap (entry_in_grammar c2) new.2
-              ∙ or_right (is_kept c2 (record k.met { body = body })) (is_some (body_of k.met.kind desk.sizes.range body)) (ap is_some body_in_grammar)
+          | inl same ↦ search (arith, list_all-In, and_parts, is_ok)
+          | inr new ↦ search (arith, or_right, k, body_in_grammar)
         ]))
 
     -- ---- I2
@@ -428,9 +423,7 @@ module _ (desk : DeskSeen) (h h' : InHand) (m : Met) (body : List ℕ) (file fil
       tree_regular : IsTree after
       tree_regular =
           let y = regular_there in
-          let other : m.ino ≡ 1 → ⊥ =
-          λ e. (let top : y.0 ≡ tree.root.0 = some_one (node_at nodes' 1) y.0 tree.root.0 (ap (node_at nodes') (sym e) ∙ y.1) tree.root.1 in
-          let wrong : Regular ≡ Directory = sym y.2 ∙ ap (λ (z : Node). z.kind) top ∙ tree.root.2 in absurd (cc wrong)) in
+          let other : m.ino ≡ 1 → ⊥ = search (arith, some_one) in
           subst IsTree (ap (λ q. with_node nodes' m.ino (option_map (node_with bytes) q)) (sym y.1)) (tree_same nodes' tree m.ino y.0 (node_with bytes y.0) y.1 other refl refl refl)
 
     named_then : (n : ℕ) → is_some (naming_of c n) ≡ true → is_some (naming_of c2 n) ≡ true

@@ -110,10 +110,7 @@ module _ (desk : DeskSeen) (h h' : InHand) (m : Met) (body : List ℕ) (file fil
   files_same : map (λ (w : Written). w.ino) (files_in_hand h') ≡ map (λ (w : Written). w.ino) (files_in_hand h)
   files_same = elim u.body_now [
     | inr slot ↦ ap (map (λ (w : Written). w.ino)) slot.files
-    | inl lease ↦
-        ap (map (λ (w : Written). w.ino)) lease.files
-        ∙ map-map (λ (w : Written). w.ino) (with_body m.ino body) (files_in_hand h)
-        ∙ map-each (λ w. (with_body m.ino body w).ino) (λ (w : Written). w.ino) (files_in_hand h) (λ w i. body-number m.ino body w)
+    | inl lease ↦ search (arith, map-map, map-each, body-number)
   ]
 
   -- the written files have the numbers that they had
@@ -373,10 +370,7 @@ module _ (desk : DeskSeen) (h h' : InHand) (m : Met) (body : List ℕ) (file fil
           let t : made ≡ true = In-is_among m.ino b.numbers new in
           elim (cases_eq x.ino (p t).ino) [
             | inr other ↦ away t other q (In-right q f.chain.index f.chain.blocks j) new same
-            | inl e ↦
-                let one : x ≡ p t = same_met (judged_files c) x (p t) once i (p_in t) e in
-                let l = slot_listed t f (ap (file_within (bundle_core c)) (sym one) ∙ read) in
-                let none : In l.0 [] = subst (λ es. In l.0 es) (regular_entries (bundle_core c) x f kind read) l.1 in absurd none
+            | inl e ↦ search (arith, same_met, once, p_in, slot_listed, regular_entries)
           ])
 
     -- ---- all judged files
@@ -462,7 +456,4 @@ module _ (desk : DeskSeen) (h h' : InHand) (m : Met) (body : List ℕ) (file fil
         let y = flat_map-In (pages_within c2) q (judged_files c2) i in
         let x = map-In (met_with m.ino body) y.0 (judged_files c) (subst (λ l. In y.0 l) judged_now y.1) in
         let j : In q (pages_within c2 (met_with m.ino body x.0)) = subst (λ z. In q (pages_within c2 z)) x.2 y.2 in
-        elim (cases_eq x.0.ino m.ino) [
-          | inl e ↦ inl (subst (λ l. In q l) (pages_mine x.0 x.1 e) j)
-          | inr d ↦ inr (x.0, x.1, d, subst (λ l. In q l) (pages_beside x.0 x.1 d) j)
-        ]
+        search (arith, cases_eq, pages_mine, pages_beside)

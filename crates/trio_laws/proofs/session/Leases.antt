@@ -4,7 +4,7 @@ use Rattle.std.specs.Prelude.{map}
 use Rattle.std.specs.List.{find, flat_map, cons_option}
 use Rattle.std.specs.Option.{option_map}
 use Rattle.std.proofs.lemmas.Bool.{cases_eq, eqb-true, eq-eqb, ne_eqb}
-use Rattle.trio_rights.specs.Row.{Row, row_in, is_child}
+use Rattle.trio_rights.specs.Row.{Row, is_child}
 use Rattle.trio_rights.specs.Sheets.{Sheet}
 use Rattle.trio_rights.specs.declared.kind.Kind.{Kind}
 use Rattle.trio_rights.specs.declared.kind.Kind.TheVariants.{Directory}
@@ -25,7 +25,7 @@ use Rattle.trio_lease.specs.Views.{lent_sheet}
 use Rattle.trio_lease.specs.declared.parts.LentPage.{LentPage}
 use Rattle.trio_nodes.specs.declared.grant.GrantKind.TheVariants.{Read, Write, Hold}
 use Rattle.trio_nodes.specs.declared.node.Node.{Node}
-use Rattle.trio_nodes.specs.Nodes.{Nodes, node_at, is_in, count_in}
+use Rattle.trio_nodes.specs.Nodes.{Nodes, node_at, is_in}
 use Rattle.trio_nodes.specs.Tree.{IsTree}
 use Rattle.trio_onetree.proofs.Children.{one_node}
 use Rattle.trio_state.specs.Kept.{Kept}
@@ -111,9 +111,7 @@ module _ (s : State) (k : Kept s) (ino : ℕ) (r : Row) (row : row_at s.home ino
       let uid : r.uid ≡ (body_at bytes).uid = ap (λ (x : Row). x.uid) file.row ∙ ap (λ (x : Body). x.uid) (sym spelled) in
       let gid : r.gid ≡ (body_at bytes).gid = ap (λ (x : Row). x.gid) file.row ∙ ap (λ (x : Body). x.gid) (sym spelled) in
       let F : Kind → Mode → ℕ → ℕ → Option Rights = λ q m u g. Some (record { kind = q; mode = m; uid = u; gid = g }) in
-      ap (λ m. option_map rights_of (node_at nodes m)) number ∙ ap (option_map rights_of) node_here
-      ∙ ap (λ q. F q r.mode r.uid r.gid) (sym same) ∙ ap (λ m. F kind m r.uid r.gid) mode ∙ ap (λ u. F kind (body_at bytes).mode u r.gid) uid
-      ∙ ap (F kind (body_at bytes).mode (body_at bytes).uid) gid
+      search (arith, node_here)
 
   not_zero : ino ≡ 0 → ⊥
   not_zero none =
@@ -157,9 +155,7 @@ module _ (s : State) (k : Kept s) (ino : ℕ) (r : Row) (row : row_at s.home ino
         let name : name_of image l.entry.ino z ≡ l.entry.name = name_at_entry image file.met file.file l l.entry.ino z file.read i below refl refl in
         let body : q.0.body ≡ body_at l.body = sym (body_is_at l.entry.kind core.range l.body q.0.body (reads_from core (child l) q.0 q.1).body) in
         let F : List ℕ → Body → Option ShownEntry = λ n b. Some (record { name = n; rights = record { kind = l.entry.kind; mode = b.mode; uid = b.uid; gid = b.gid } }) in
-        ap (entry_of_node ino) (node_is s k l.entry.ino ∙ ap (node_by image l.entry.ino (writer_of s l.entry.ino)) q.2)
-        ∙ ap (λ t. cond t (F x.name q.0.body) None) (eq-eqb file.met.ino ino file.number)
-        ∙ ap (λ n. F n q.0.body) name ∙ ap (F l.entry.name) body
+        search (arith, node_is, eq-eqb)
 
     -- a node in the directory is that of an entry
     none_other : (n : ℕ) → find (λ (l : Listed). eqb l.entry.ino n) file.file.entries ≡ None → entry_of_node ino (node_at nodes n) ≡ None
@@ -168,9 +164,7 @@ module _ (s : State) (k : Kept s) (ino : ℕ) (r : Row) (row : row_at s.home ino
         here : (x : Node) → node_at nodes n ≡ Some x → x.parent ≡ ino → ⊥
         here x e p =
             elim (cases_eq n 1) [
-              | inl one ↦
-                  let same : x ≡ tree.root.0 = one_node (node_at nodes 1) x tree.root.0 (ap (node_at nodes) (sym one) ∙ e) tree.root.1 in
-                  not_zero (sym p ∙ ap (λ (z : Node). z.parent) same ∙ tree.root.3)
+              | inl one ↦ search (arith, tree, one_node, not_zero)
               | inr d ↦
                   let l = live s k n x e in
                   let q = listing image k.fit k.verifies n l.row l.at d in
@@ -230,8 +224,5 @@ child_said ino o p e = search arith
 pub holds_show : HoldShows
 holds_show s lib ino r h k row l = record {
   rights = rights_are s k ino r row h.ino h.kind h.body l.ino l.kind l.body;
-  children =
-      ap (count_in (nodes_of s)) l.ino
-      ∙ count_pair (is_in ino) (is_child ino) refl refl (nodes_of s) s.home.rows (λ n. child_said ino (row_in s.home.rows n) (node_at (nodes_of s) n) (rows_say s k n))
-      ∙ sym l.children;
+  children = search (arith, count_pair, child_said, rows_say);
 }

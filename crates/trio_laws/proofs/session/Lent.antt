@@ -36,7 +36,6 @@ use Rattle.trio_state.specs.Run.{start}
 use Rattle.trio_state.specs.State.{OpenGrant, State, creds_of, logged, settled}
 use Rattle.trio_state.specs.Step.{Event, Grant, Allot, Back, Release, Settle, SetMode, CtlAnswer, ReleaseEnd, Parted, IsAccepted, IsRefused, Does, Step, granted_to, mode_fault, moded_to}
 use Rattle.trio_desk.specs.Agrees.{HasFile, HasHeld, HasPlaces, HasRights, HasStanding}
-use Rattle.trio_laws.specs.Laws.{library_of}
 use Rattle.trio_laws.specs.history.Entries.{answer_of, bundle_handed, event_of}
 use Rattle.trio_laws.specs.history.Recorded.{LentWhole}
 use Rattle.trio_laws.specs.history.Replays.{ReplaysFrom}
@@ -85,13 +84,7 @@ root_stays s k w event answer s' given step =
     let k' : Kept s' = step_kept s s' event answer k given step in
     let tree : IsTree (nodes_of s) = states_are_trees s k in
     let tree' : IsTree (nodes_of s') = states_are_trees s' k' in
-    let keeps : (x : Node) → node_at (nodes_of s) 1 ≡ Some x → HasRightsOf x (node_at (nodes_of s') 1) =
-    λ x e. elim (isolated s k w answer s' event given step) [
-      | inl within' ↦ subst (HasRightsOf x) (sym tree'.root.1) (within'.rights 1 x tree'.root.0 e tree'.root.1)
-      | inr moded ↦
-          let other : 1 ≡ moded.ino → ⊥ = λ same. owner_not_root (creds_of s (library_of event)) moded.ino (node_at (nodes_of s) moded.ino) moded.owner (sym same) in
-          same_rights x (node_at (nodes_of s) 1) (node_at (nodes_of s') 1) (ap (λ (n : Nodes). node_at n 1) moded.nodes ∙ moded_else (nodes_of s) moded.ino moded.mode 1 other) e
-    ] in
+    let keeps : (x : Node) → node_at (nodes_of s) 1 ≡ Some x → HasRightsOf x (node_at (nodes_of s') 1) = search (arith, isolated, owner_not_root, same_rights, moded_else) in
     let then : HasRights (root_of s) (node_at (nodes_of s') 1) = has_rights (root_of s) (node_at (nodes_of s) 1) (node_at (nodes_of s') 1) keeps (root_is s k) in
     let both : Some (root_of s') ≡ Some (root_of s) = sym (root_is s' k') ∙ then in
     cc both

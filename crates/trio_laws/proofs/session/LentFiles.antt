@@ -1,5 +1,5 @@
 -- A file as a lease gives it, read among the pages of a bundle.
-use Rattle.std.proofs.Common.{◌≡◌, ℕ, true, false, cond, not, List, [], ◌∷◌, ◌++◌, Option, Some, None, Ok, append_assoc, sym, refl, ap, ◌∙◌, subst, inl, inr, arith}
+use Rattle.std.proofs.Common.{◌≡◌, ℕ, true, false, cond, List, [], ◌∷◌, ◌++◌, Option, Some, None, Ok, append_assoc, sym, refl, ap, ◌∙◌, subst, inl, inr, arith}
 use Rattle.std.specs.Prelude.{map}
 use Rattle.std.specs.List.{flat_map}
 use Rattle.std.specs.Option.{unwrap_or}
@@ -48,9 +48,7 @@ pub numbers_by_names : (seen ls : List Listed) → repeated_name seen ls ≡ Non
 numbers_by_names seen [] e same = refl
 numbers_by_names seen (l ∷ ls) e same =
     let number : Listed → ℕ = λ l. l.entry.ino in
-    let apart : has_name l.entry.name seen ≡ false =
-    false_from_ne_true (has_name l.entry.name seen)
-    (λ t. (let wrong : Some (place_of l) ≡ None = sym (ap (λ b. cond b (Some (place_of l)) (repeated_name (seen ++ l ∷ []) ls)) t) ∙ e in absurd (cc wrong))) in
+    let apart : has_name l.entry.name seen ≡ false = search (arith, false_from_ne_true) in
     let out : is_among l.entry.ino (map number seen) ≡ false =
     false_from_ne_true (is_among l.entry.ino (map number seen))
     (λ t.
@@ -60,9 +58,7 @@ numbers_by_names seen (l ∷ ls) e same =
     let on : repeated_name (seen ++ l ∷ []) ls ≡ None = sym (ap (λ b. cond b (Some (place_of l)) (repeated_name (seen ++ l ∷ []) ls)) apart) ∙ e in
     let rest = numbers_by_names (seen ++ l ∷ []) ls on
     (λ a b i j k. same a b (subst (λ z. In a z) (append_assoc seen (l ∷ []) ls) i) (subst (λ z. In b z) (append_assoc seen (l ∷ []) ls) j) k) in
-    and_from (not (is_among l.entry.ino (map number seen))) (are_new (map number seen ++ l.entry.ino ∷ []) (map number ls))
-    (not_from_false (is_among l.entry.ino (map number seen)) out)
-    (ap (λ z. are_new z (map number ls)) (sym (map-append number seen (l ∷ []))) ∙ rest)
+    search (arith, and_from, not_from_false, map-append)
 
 pub listed_same : (l k : Listed) → l.entry ≡ k.entry → l.page ≡ k.page → l.slot ≡ k.slot → l.body ≡ k.body → l ≡ k
 listed_same l k entry page slot body = search arith

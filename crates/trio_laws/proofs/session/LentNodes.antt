@@ -14,8 +14,8 @@ use Rattle.trio_layout.specs.Survey.{Met}
 use Rattle.trio_lease.specs.Shown.{Shown}
 use Rattle.trio_nodes.specs.declared.node.Node.{Node}
 use Rattle.trio_nodes.specs.Nodes.{Nodes, node_at}
-use Rattle.trio_nodes.specs.Tree.{IsDirectory, IsTree}
-use Rattle.trio_desk.specs.Contents.{Rights, ShownEntry, Sizes, entries_lent, entries_shown, entry_of_listed, entry_of_node, rights_in, rights_of}
+use Rattle.trio_nodes.specs.Tree.{IsTree}
+use Rattle.trio_desk.specs.Contents.{ShownEntry, Sizes, entries_lent, entries_shown, entry_of_listed, entry_of_node, rights_in, rights_of}
 use Rattle.trio_desk.specs.Agrees.{HasContent, HasFile}
 use Rattle.trio_desk.specs.Out.{IsWellLent}
 use Rattle.trio_laws.proofs.session.LentFiles.{lent_entries_are, lent_entry_one, lent_file}
@@ -78,11 +78,6 @@ has_entry sizes f ns t it n x e at = by f.kind refl it.content
     by Regular u k =
         let y = mapped rights_of (node_at ns f.ino) (rights_in f.kind f.body) it.rights in
         elim (cases_eq n 1) [
-          | inl one ↦
-              let top : x ≡ t.root.0 = some_one (node_at ns 1) x t.root.0 (ap (node_at ns) (sym one) ∙ e) t.root.1 in
-              let zero' : f.ino ≡ 0 = sym at ∙ ap (λ (z : Node). z.parent) top ∙ t.root.3 in
-              let wrong : None ≡ Some y.0 = sym t.none ∙ ap (node_at ns) (sym zero') ∙ y.1 in absurd (cc wrong)
-          | inr d ↦
-              let dir : IsDirectory (Some y.0) = subst IsDirectory (ap (node_at ns) at ∙ y.1) (t.parents n x e d) in
-              let kind : Regular ≡ Directory = sym u ∙ sym (ap (λ (z : Rights). z.kind) y.2) ∙ dir in absurd (cc kind)
+          | inl one ↦ search (arith, some_one)
+          | inr d ↦ search arith
         ]

@@ -173,17 +173,7 @@ module _ (nodes : Nodes) (grants : List Standing) (lib : ℕ) (sizes : Sizes) (r
       place_live (Some y) h = (y, refl)
 
       root_rights : HasRightsOf t.root.0 (node_at nodes' 1)
-      root_rights =
-          elim (w.place 1 t.root.0 t.root.1) [
-            | inl s ↦
-                let g = list_any-In (λ g. eqb g.lib by && eqb g.ino 1 && same_kind g.kind Hold) grants s in
-                let parts = and_parts (eqb g.0.lib by && eqb g.0.ino 1) (same_kind g.0.kind Hold) g.2 in
-                let ino = and_parts (eqb g.0.lib by) (eqb g.0.ino 1) parts.0 in
-                absurd (no_hold g.0 g.1 (hold_is g.0.kind parts.1) (eqb-true g.0.ino 1 ino.1))
-            | inr place ↦
-                let y = place_live (node_at nodes' 1) place in
-                subst (λ o. HasRightsOf t.root.0 o) (sym y.1) (w.rights 1 t.root.0 y.0 t.root.1 y.1)
-          ]
+      root_rights = search (arith, list_any-In, and_parts, hold_is, eqb-true)
 
   batch_agrees : (creds : Creds) (by : ℕ) (calls : List Done) → (by ≡ lib → ⊥) → LegalCalls creds nodes calls
       → KeepsRights nodes (batch_nodes creds calls nodes) → SparesOthers grants by nodes (batch_nodes creds calls nodes)
@@ -232,14 +222,7 @@ module _ (nodes : Nodes) (grants : List Standing) (lib : ℕ) (ino mode : ℕ)
       let apart : n ≡ ino → ⊥ = not_standing grants lib ino n free s in
       record {
         rights = λ x e. subst (λ o. HasRightsOf x o) (sym (moded_other n apart ∙ e)) (refl, refl, refl, refl);
-        content = record {
-          bytes = ap bytes_in (moded_other n apart);
-          entries =
-              λ m. elim (cases_eq m ino) [
-                | inl is ↦ subst (λ k. entry_in n (node_at (moded_nodes ino mode nodes) k) ≡ entry_in n (node_at nodes k)) (sym is) (ap (entry_in n) moded_here ∙ moded_entry n mode (node_at nodes ino))
-                | inr d ↦ ap (entry_in n) (moded_other m d)
-              ];
-        };
+        content = search (arith, moded_other, cases_eq, moded_here, moded_entry);
       }
 
   pub moded_entries : (n : ℕ) → HasStanding grants lib n → SameEntries nodes (moded_nodes ino mode nodes) n

@@ -1,7 +1,7 @@
 -- A file reads the same where the pages that it lists are the same; and which bytes a page of a bundle has.
-use Rattle.std.proofs.Common.{◌≡◌, ℕ, suc, zero, ◌<◌, true, cond, eqb, leb, ltb, min, ◌-◌, List, [], ◌∷◌, ◌++◌, length, Option, Some, None, Ok, slice_get, sym, refl, ap, ◌∙◌, inl, inr, arith}
+use Rattle.std.proofs.Common.{◌≡◌, ℕ, suc, zero, ◌<◌, true, eqb, leb, ltb, min, ◌-◌, List, [], ◌∷◌, ◌++◌, length, Option, Some, None, Ok, sym, refl, ap, ◌∙◌, inl, inr, arith}
 use Rattle.std.specs.Prelude.{replicate}
-use Rattle.std.specs.Option.{unwrap_or, option_and_then}
+use Rattle.std.specs.Option.{unwrap_or}
 use Rattle.std.proofs.lemmas.List.{length-replicate}
 use Rattle.std.proofs.lemmas.Bool.{and_parts, ltb-true, cases_Bool}
 use Rattle.trio_rights.specs.declared.kind.Kind.{Kind}
@@ -12,8 +12,7 @@ use Rattle.trio_lists.proofs.Members.{In-left, In-right, In-map, map-In, result_
 use Rattle.trio_lists.proofs.Gathered.{one_keyed}
 use Rattle.trio_layout.specs.declared.range.CoreRange.{CoreRange}
 use Rattle.trio_layout.specs.Range.{is_core}
-use Rattle.trio_layout.specs.Body.{block_count}
-use Rattle.trio_layout.specs.Chain.{Chain, index_count}
+use Rattle.trio_layout.specs.Chain.{Chain}
 use Rattle.trio_layout.specs.Core.{Core, page_of}
 use Rattle.trio_layout.specs.Entries.{with_names_apart}
 use Rattle.trio_layout.specs.Index.{Index}
@@ -57,11 +56,7 @@ module _ (core : Core) (pages : Pages) where
   pub file_as_before : (m : Met) (f : FileRead) → file_within core m ≡ Ok f → ((p : ℕ) → In p (f.chain.index ++ f.chain.blocks) → page_of (with_other core pages) p ≡ page_of core p) → file_within (with_other core pages) m ≡ Ok f
   file_as_before m f e same =
       let r = within_from core m f e in
-      within_to other m f (record {
-        body = r.body;
-        chain = chain_same (index_count (block_count f.body.size)) (block_count f.body.size) f.body.head f.chain r.chain (λ p i. same p (In-left p f.chain.index f.chain.blocks i));
-        entries = entries_same m.kind f.chain.blocks (λ p i. same p (In-right p f.chain.index f.chain.blocks i)) ∙ r.entries;
-      })
+      search (arith, within_to, chain_same, In-left, entries_same, In-right)
 
   -- and so do the bytes of blocks
   pub bytes_as_before : (blocks : List ℕ) → ((p : ℕ) → In p blocks → page_of (with_other core pages) p ≡ page_of core p) → pages_bytes (with_other core pages) blocks ≡ pages_bytes core blocks
@@ -98,9 +93,5 @@ page_kept range inodes ss more p once once' sub i =
           ∙ sheet_there range inodes more q.0 once' (sub q.0 q.1) core'
           ∙ sym (sheet_there range inodes ss q.0 once q.1 core')
           ∙ ap (page_of (core_of range inodes ss)) (sym q.2)
-      | inr out ↦
-          page_of_at (core_of range inodes more) p
-          ∙ ap (λ b. cond b (option_and_then (λ x. x) (slice_get (core_of range inodes more).pages p)) None) out
-          ∙ ap (λ b. cond b (option_and_then (λ x. x) (slice_get (core_of range inodes ss).pages p)) None) (sym out)
-          ∙ sym (page_of_at (core_of range inodes ss) p)
+      | inr out ↦ search (arith, page_of_at)
     ]

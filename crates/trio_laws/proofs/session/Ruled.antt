@@ -1,10 +1,9 @@
 -- A bundle that differs from one that shows nodes in one file, in what it holds or in what it was allotted: rules I1, I2 and I4 hold
 -- of it, and its namings and bytes are those of the other but for that file.
-use Rattle.std.proofs.Common.{◌≡◌, ℕ, Bool, true, cond, not, ◌&&◌, ◌||◌, eqb, is_ok, List, [], ◌++◌, Option, Some, None, Result, Ok, sym, refl, ap, ◌∙◌, subst, inl, inr, ◌⊎◌, arith}
+use Rattle.std.proofs.Common.{◌≡◌, ℕ, true, ◌||◌, eqb, is_ok, List, [], ◌++◌, Option, Some, None, Result, Ok, sym, refl, ap, ◌∙◌, subst, inl, inr, ◌⊎◌, arith}
 use Rattle.std.specs.Prelude.{map, take, is_some}
 use Rattle.std.specs.List.{find, flat_map, list_all}
 use Rattle.std.specs.Option.{option_and_then}
-use Rattle.std.specs.Str.{bytes_eq}
 use Rattle.std.proofs.lemmas.Bool.{and_parts, and_from, or_left, eqb-true, eq-eqb}
 use Rattle.std.proofs.lemmas.Simd.{map-map}
 use Rattle.trio_rights.specs.Row.{Row, row_in}
@@ -24,7 +23,7 @@ use Rattle.trio_layout.specs.Case.{Case, Held, bundle_core}
 use Rattle.trio_layout.specs.Within.{file_within}
 use Rattle.trio_layout.specs.JudgedFiles.{entries_in, judged_entries, judged_files, judged_pages, pages_within}
 use Rattle.trio_layout.specs.Listing.{is_kept}
-use Rattle.trio_layout.specs.Rules.{entry_in_grammar, entry_is_own, entry_keeps_rights, file_keeps_rights, has_rights, lent_body, meets_grammar, meets_owning, meets_rights}
+use Rattle.trio_layout.specs.Rules.{entry_in_grammar, entry_is_own, entry_keeps_rights, file_keeps_rights, meets_grammar, meets_owning, meets_rights}
 use Rattle.trio_layout.proofs.Walks.{numbers-flat}
 use Rattle.trio_surveys.proofs.Images.{same_met}
 use Rattle.trio_nodes.specs.declared.node.Node.{Node}
@@ -249,22 +248,15 @@ module _ (sizes : Sizes) (creds : Creds) (rows : List (Option Row)) (b b' : Bund
         let r = old_read m o in
         let before : file_keeps_rights c m (file_within (bundle_core c) m) ≡ true =
         list_all-In (λ m. file_keeps_rights c m (file_within (bundle_core c) m)) m (judged_files c) (and_parts (list_all (entry_keeps_rights c) (judged_entries c)) _ s.rights).1 (g.old_in m o) in
-        ap (file_keeps_rights c' m) (old_again m o)
-        ∙ ap (λ t. cond t (has_rights (row_in rows m.ino) r.0.body) (eqb r.0.body.uid creds.uid && eqb r.0.body.gid creds.gid)) (g.written m o)
-        ∙ sym (ap (file_keeps_rights c m) r.1)
-        ∙ before
+        search (arith, old_again)
 
     pub rights_met : meets_rights c' ≡ true
     rights_met =
         and_from (list_all (entry_keeps_rights c') (judged_entries c')) (list_all (λ m. file_keeps_rights c' m (file_within (bundle_core c') m)) (judged_files c'))
         (list_all-each (entry_keeps_rights c') (judged_entries c')
         (λ e i. elim (entry_from e i) [
-          | inl q ↦
-              let other : Bool = not (is_among e.ino b'.holds) || (has_kind e.kind (row_in rows e.ino) && bytes_eq e.body (lent_body c' e.ino)) in
-              ap (λ t. cond t (has_kind e.kind (row_in rows e.ino)) other) ((g.new q.0 q.1).kept e q.2) ∙ (g.new q.0 q.1).kind e q.2
-          | inr before ↦
-              g.keeps e before (own_before e before)
-              (list_all-In (entry_keeps_rights c) e (judged_entries c) (and_parts (list_all (entry_keeps_rights c) (judged_entries c)) _ s.rights).0 before)
+          | inl q ↦ search arith
+          | inr before ↦ search (arith, own_before, list_all-In, and_parts)
         ]))
         (list_all-each (λ m. file_keeps_rights c' m (file_within (bundle_core c') m)) (judged_files c') (λ m i. file_keeps m (g.from m i)))
 

@@ -307,9 +307,7 @@ module _ (desk : DeskSeen) (h h' : InHand) (nodes nodes' : Nodes) (rows : List (
         let is : here.ino ≡ f.stands.ino = written_ino_at (written_in f.stands) (row_in rows f.stands.ino) in
         let there : is_written b f.stands.ino ≡ true =
         written_among b.writes f.stands.ino ∙ In-is_among f.stands.ino (map (λ (w : Written). w.ino) b.writes) (In-map (λ (w : Written). w.ino) (written_in f.stands) b.writes (In-map (λ (x : LentFile). written_in x.stands) f h.parcel.writes i)) in
-        let has : has_rights (Some r.0) file.body ≡ true =
-        sym (ap (λ t. cond t (has_rights (row_in rows here.ino) file.body) (eqb file.body.uid desk.creds.uid && eqb file.body.gid desk.creds.gid)) (ap (is_written b) is ∙ there)
-        ∙ ap (λ n. has_rights (row_in rows n) file.body) is ∙ ap (λ q. has_rights q file.body) r.1) ∙ keeps in
+        let has : has_rights (Some r.0) file.body ≡ true = search arith in
         let p = and_parts (eqb r.0.mode.0 file.body.mode.0 && eqb r.0.uid file.body.uid) (eqb r.0.gid file.body.gid) has in
         let q = and_parts (eqb r.0.mode.0 file.body.mode.0) (eqb r.0.uid file.body.uid) p.0 in
         let stands : body_at f.stands.body ≡ file.body =

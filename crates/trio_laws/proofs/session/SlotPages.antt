@@ -57,10 +57,7 @@ module _ {Y E : Type 0} where
           back = [];
           at = ap f same ∙ q.3;
           are = sym q.4 ∙ ap (λ l. q.0 ++ l) (sym (append-nil q.1));
-          put = λ g o others here.
-              ap (λ r. both r (g n)) (below_same f g n (λ i l. others i (omega (arith, l)) (λ t. omega (arith, l, t, same))) ∙ q.2)
-              ∙ ap (both (Ok q.0)) (ap g (sym same) ∙ here)
-              ∙ ap (λ l. Ok (q.0 ++ l)) (sym (append-nil o));
+          put = search (arith, below_same, append-nil);
         }
         | inr d ↦
             let l : k < n = omega (arith, h) in
@@ -98,9 +95,7 @@ module _ {Y E : Type 0} where
           back = q.1;
           at = ap f (sym same) ∙ q.2;
           are = sym q.4;
-          put = λ g o others here.
-              ap (λ r. both r (gathered g ys)) (ap g same ∙ here)
-              ∙ ap (both (Ok o)) (list_same f g ys (λ z j. others z (inr j) (λ t. first.0 (subst (λ w. In w ys) (t ∙ sym same) j))) ∙ q.3);
+          put = search (arith, list_same);
         }
         | inr d ↦
             let j : In x ys = elim i [ inl t ↦ absurd (d (sym t)) | inr k ↦ k ] in
@@ -111,10 +106,7 @@ module _ {Y E : Type 0} where
               back = r.back;
               at = r.at;
               are = sym q.4 ∙ ap (λ z. q.0 ++ z) r.are ∙ sym (append_assoc q.0 r.front (r.here ++ r.back));
-              put = λ g o others here.
-                  ap (λ z. both z (gathered g ys)) (others y (inl refl) d ∙ q.2)
-                  ∙ ap (both (Ok q.0)) (r.put g o (λ z k t. others z (inr k) t) here)
-                  ∙ ap Ok (sym (append_assoc q.0 r.front (o ++ r.back)));
+              put = search (arith, append_assoc);
             }
       ]
 

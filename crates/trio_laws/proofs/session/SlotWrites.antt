@@ -195,11 +195,7 @@ module _ (desk : DeskSeen) (h h' : InHand) (writes : List SlotWrite) (o : IsInOr
           let reads : file_within core y ≡ Ok w.file = ap (file_within core) is ∙ edited_read w i in
           let once = pages_once y w.file j reads in
           let parts = and_parts (are_new [] w.file.chain.index) (are_new w.file.chain.index w.file.chain.blocks) (sym (are_new-append [] w.file.chain.index w.file.chain.blocks) ∙ once) in
-          let other : (p : ℕ) → In p (pages_listed w.file) → (p ≡ w.page → ⊥) → page_of core2 p ≡ page_of core p =
-          λ p k d. u.bytes p (λ q.
-          let x = map-In (λ (z : SlotWrite). z.page) p writes q in
-          let same : w ≡ x.0 = one_write w x.0 i x.1 (sym e ∙ page_is y w.file p x.0 j reads k x.1 x.2) in
-          d (x.2 ∙ ap (λ (z : SlotWrite). z.page) (sym same))) in
+          let other : (p : ℕ) → In p (pages_listed w.file) → (p ≡ w.page → ⊥) → page_of core2 p ≡ page_of core p = search (arith, map-In, one_write, page_is) in
           record {
             kind = ap (λ (x : Met). x.kind) is ∙ (edited w i).2.kind ∙ s.kind;
             reads = reads;

@@ -140,9 +140,7 @@ module _ (s : State) (k : Kept s) (event : Event) (answer : CtlAnswer) (s' : Sta
         | inr goes ↦
             elim goes [
               | inl held ↦ absurd (not_held n r.0 r.1 (subst (HasStanding (map standing_of s.open_grants) lib) (sym r.2) (stand.files f i)) held.0)
-              | inr moded ↦
-                  let q = moded_place s event n r.0 (row_at s'.home n) moded in
-                  place_from f.ino l.page l.slot (row_at s'.home n) q.0 q.1 (q.2 ∙ r.2) (q.3 ∙ r.3) (q.4 ∙ r.4)
+              | inr moded ↦ search (arith, moded_place, place_from)
             ]
       ]
 

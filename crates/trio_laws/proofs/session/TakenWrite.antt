@@ -1,5 +1,5 @@
 -- A write lease is taken, untouched: the same nodes are shown.
-use Rattle.std.proofs.Common.{◌≡◌, ℕ, Bool, true, false, cond, ◌||◌, eqb, List, [], ◌∷◌, ◌++◌, Option, Some, None, Result, Ok, Err, sym, refl, ap, ◌∙◌, subst, inl, inr, ◌⊎◌, arith}
+use Rattle.std.proofs.Common.{◌≡◌, ℕ, Bool, true, false, cond, eqb, List, [], ◌∷◌, ◌++◌, Option, Some, None, Result, Ok, Err, sym, refl, ap, ◌∙◌, subst, inl, inr, ◌⊎◌, arith}
 use Rattle.std.specs.Prelude.{map, is_some}
 use Rattle.std.specs.List.{filter, find, flat_map}
 use Rattle.std.specs.Option.{option_map}
@@ -71,9 +71,7 @@ module _ (desk : DeskSeen) (h : InHand) (f : LentFile) (o : IsInOrder desk h) (u
   files_more : (x : Shown) → In x (lent_files h.parcel.writes ++ h.back) → In x (lent_files (h.parcel.writes ++ f ∷ []) ++ h.back)
   files_more x i =
       elim (In-cases x (lent_files h.parcel.writes) h.back i) [
-        | inl a ↦
-            In-left x (lent_files (h.parcel.writes ++ f ∷ [])) h.back
-            (subst (λ l. In x l) (sym (map-append (λ (y : LentFile). y.lent) h.parcel.writes (f ∷ []))) (In-left x (lent_files h.parcel.writes) (f.lent ∷ []) a))
+        | inl a ↦ search (arith, In-left, map-append)
         | inr r ↦ In-right x (lent_files (h.parcel.writes ++ f ∷ [])) h.back r
       ]
 
@@ -339,17 +337,7 @@ module _ (desk : DeskSeen) (h : InHand) (f : LentFile) (o : IsInOrder desk h) (u
       let r = entry_row l k in
       let parent : e.parent ≡ x.ino = child_parent x.ino (file_within (bundle_core c) x) e j in
       let q = entry_own desk.sizes desk.creds rows hand more lent lent nodes nodes' s e (In-flat (entries_in c) x e (judged_files c) i j) in
-      elim (or_cases (is_kept c e || is_among e.ino hand.holds) (is_among e.ino hand.numbers) q) [
-        | inl first ↦
-            elim (or_cases (is_kept c e) (is_among e.ino hand.holds) first) [
-              | inl kept ↦
-                  let t = place_parts e.parent e.page e.slot (row_in rows e.ino) kept in
-                  let one : t.0 ≡ r.0 = some_one (row_in rows e.ino) t.0 r.0 t.1 (ap (row_in rows) (sym same) ∙ r.1) in
-                  judged_apart x i (sym parent ∙ sym t.2 ∙ ap (λ (z : Row). z.parent) one ∙ r.2)
-              | inr held ↦ entry_unheld l k (subst (λ n. In n hand.holds) (sym same) (is_among-In e.ino hand.holds held))
-            ]
-        | inr new ↦ entry_new l k (subst (λ n. In n hand.numbers) (sym same) (is_among-In e.ino hand.numbers new))
-      ]
+      search (arith, or_cases, first, place_parts, some_one, judged_apart, entry_unheld, is_among-In, entry_new)
 
   file_written : is_written more M.ino ≡ true
   file_written =
