@@ -118,13 +118,13 @@ unparted_all s k lib b all =
     (parent_in_all (row_at s.home g.ino) (subst (λ l. has_parent_grant s l (row_at s.home g.ino) ≡ true) mine (k.held g i kind).0))))
   where
     hold_is : (t : GrantKind) → is_hold t ≡ true → t ≡ Hold
-    hold_is x0 e = search (arith, false≢true)
+    hold_is t e = search (arith, false≢true)
 
     write_quiet : (t : GrantKind) → is_write t ≡ true → is_read t ≡ false
-    write_quiet x0 e = search (arith, false≢true)
+    write_quiet t e = search (arith, false≢true)
 
     write_in_bundle : (t : GrantKind) (a w h : Bool) → is_write t ≡ true → (a && ((is_write t && w) || (is_hold t && h))) ≡ true → w ≡ true
-    write_in_bundle x0 x1 x2 h e q = search (arith, false≢true)
+    write_in_bundle t a w h e q = search (arith, false≢true)
 
     parent_in_all : (o : Option Row) → has_parent_grant s lib o ≡ true → is_parent_written b o ≡ true
     parent_in_all None e = absurd (false≢true e)

@@ -21,9 +21,9 @@ use Rattle.trio_layout.specs.Verifies.{Verifies}
 use Rattle.trio_laws.proofs.Accepting.{absent_map}
 use Rattle.trio_laws.proofs.Cases.{after_no_mode}
 use Rattle.trio_laws.proofs.Grants.{none_passes, logged_kept}
-use Rattle.trio_surveys.proofs.Images.{some_of, MetAt, root_or_listed}
+use Rattle.trio_surveys.proofs.Images.{some_of, root_or_listed}
 use Rattle.trio_lists.proofs.Members.{In-right, flat_map-In}
-use Rattle.trio_surveys.proofs.ModedImage.{mode_body_other, met_other, mode_met, mode_verifies, mode_fit, mode_file}
+use Rattle.trio_surveys.proofs.ModedImage.{mode_body_other, met_other, mode_verifies, mode_fit, mode_file}
 use Rattle.trio_surveys.proofs.Owned.{pages_are}
 use Rattle.trio_surveys.proofs.Putting.{put_on, with_bodies-get}
 use Rattle.trio_surveys.proofs.SheetLaws.{page_at}
@@ -50,9 +50,6 @@ module _ (s : State) (k : Kept s) (n mode : ℕ) (r : Row) (row : row_at s.home 
 
   abbrev pub after : State
   after = record s { home = image_with_mode s.home n mode }
-
-  abbrev q : MetAt (settled s).core plain n r
-  q = mode_met (settled s) n mode r k.fit k.verifies row small other
 
   -- no checkpoint covers the page of the body
   away : In r.page (sheet_numbers ck) → ⊥

@@ -2,6 +2,7 @@
 use Rattle.std.proofs.Common.{◌≡◌, ℕ, zero, suc, ◌+◌, ◌*◌, ◌<◌, ◌≤◌, Bool, true, false, cond, ◌&&◌, not, eqb, min, List, [], ◌∷◌, ◌++◌, map, length, Option, Some, None, Ok, slice_get, sym, refl, ap, ◌∙◌, subst, inl, inr, ◌⊎◌, arith, filter, find, unwrap_or}
 use Rattle.std.specs.List.{AllByRecursion}
 use Rattle.std.proofs.lemmas.Bool.{and_parts, and_from, eqb-true, eq-eqb, both_ways, or_left, or_right, not-true, ne_eqb, cases_eq, false_from_ne_true}
+use Rattle.std.proofs.lemmas.Option.{same_Some}
 use Rattle.trio_nodes.specs.declared.grant.GrantKind.{GrantKind}
 use Rattle.trio_nodes.specs.declared.grant.GrantKind.TheVariants.{Write, Hold}
 use Rattle.trio_nodes.specs.declared.answers.ReleaseAnswer.TheVariants.{Accepted as IsAccepted}
@@ -59,9 +60,6 @@ use Rattle.trio_laws.proofs.history.Listing.{listing, met_at, body_met, tables_o
 use Rattle.trio_laws.proofs.history.RawGiven.{is_in, given_grant, given_is, grants_end, handed_is, files_from}
 use Rattle.trio_laws.proofs.history.ModeNodes.{name_root}
 use Rattle.trio_laws.proofs.history.ToldFiles.{tells_these}
-
-one_of : {X : Type 0} (x y : X) → Some x ≡ Some y → x ≡ y
-one_of x y e = cc e
 
 module _ (s s' : State) (k : Kept s) (k' : Kept s') (whole : LentWhole s) (lib : ℕ) (h : Handed) (given : GivenTo s lib (bundle_handed h)) (accepted : is_accepted (settled s) (creds_of s lib) (bundle_handed h) ≡ true) (e : Ends s lib (bundle_handed h) (next (settled s) (bundle_handed h)) s') (marked : (w : HandedFile) → In w h.writes → IsMarked s lib w) where
   abbrev b : Bundle
@@ -122,7 +120,7 @@ module _ (s s' : State) (k : Kept s) (k' : Kept s') (whole : LentWhole s) (lib :
   stays_by n r r' row row' un (Stayed q row_q kind body unw) =
       let w = at_now n r' row' in
       let m0 = met_at image k.fit k.verifies n r row in
-      let q_r : q ≡ r = one_of q r (sym row_q ∙ ap (row_at image) w.number ∙ row) in
+      let q_r : q ≡ r = same_Some q r (sym row_q ∙ ap (row_at image) w.number ∙ row) in
       let kinds : w.met.kind ≡ m0.met.kind = kind ∙ ap (λ (x : Row). x.kind) q_r ∙ ap (λ (x : Row). x.kind) m0.row in
       let bodies : w.met.body ≡ m0.met.body = body ∙ ap (settled_body image) w.number ∙ body_met image k.fit k.verifies n r row in
       let un0 : Unwritten b m0.met.ino = λ x i j. unw x i (j ∙ m0.number ∙ sym w.number) in
@@ -189,7 +187,7 @@ module _ (s s' : State) (k : Kept s) (k' : Kept s') (whole : LentWhole s) (lib :
       let root = root_is_met i.core plain fit v.sound in
       let f = read_met i.core plain fit v.sound (root_of i.core) root in
       let there : row_at i 1 ≡ Some (row_by (root_of i.core) f.0.body) = row_at_is i.core plain fit v.sound i (tables_of i fit v) 1 ∙ row_met i.core plain fit v.sound (root_of i.core) f.0 root f.1 in
-      ap (λ (x : Row). x.parent) (one_of r (row_by (root_of i.core) f.0.body) (sym row ∙ ap (row_at i) one ∙ there))
+      ap (λ (x : Row). x.parent) (same_Some r (row_by (root_of i.core) f.0.body) (sym row ∙ ap (row_at i) one ∙ there))
 
   live_above : (n : ℕ) (r : Row) → row_at s.home n ≡ Some r → n ≡ 0 → ⊥
   live_above n r row z =
@@ -234,7 +232,7 @@ module _ (s s' : State) (k : Kept s) (k' : Kept s') (whole : LentWhole s) (lib :
   in_dir dir (Some q) =
       elim (cases_eq q.parent dir) [
         | inl same ↦ inl (q, refl, same)
-        | inr differ ↦ inr (λ x f p. differ (ap (λ (y : Row). y.parent) (one_of q x f) ∙ p))
+        | inr differ ↦ inr (λ x f p. differ (ap (λ (y : Row). y.parent) (same_Some q x f) ∙ p))
       ]
 
   -- each entry of a file that stays is one after it, and the other way round
@@ -272,7 +270,7 @@ module _ (s s' : State) (k : Kept s) (k' : Kept s') (whole : LentWhole s) (lib :
   -- the rights of one that is met after it
   rights_of : (n : ℕ) (r r' : Row) → row_at s.home n ≡ Some r → row_at after n ≡ Some r' → (t : Bool) → is_among n b.holds ≡ t → (r'.kind ≡ r.kind) × (r'.mode ≡ r.mode) × (r'.uid ≡ r.uid) × (r'.gid ≡ r.gid)
   rights_of n r r' row row' false un =
-      let same : r ≡ r' = one_of r r' (sym (unheld_row n r row un) ∙ row') in
+      let same : r ≡ r' = same_Some r r' (sym (unheld_row n r row un) ∙ row') in
       (ap (λ (x : Row). x.kind) (sym same), ap (λ (x : Row). x.mode) (sym same), ap (λ (x : Row). x.uid) (sym same), ap (λ (x : Row). x.gid) (sym same))
   rights_of n r r' row row' true held =
       held_rights s k lib (creds_of s lib) b given accepted n r r' (is_among-In n b.holds held) row
@@ -305,7 +303,7 @@ module _ (s s' : State) (k : Kept s) (k' : Kept s') (whole : LentWhole s) (lib :
       ∙ a
     where
       write_same : (t : GrantKind) → same_kind t Write ≡ is_write t
-      write_same x0 = search arith
+      write_same t = search arith
 
   others_out : (n : ℕ) → is_others gs lib n ≡ true → (is_written b n ≡ false) × (is_among n b.holds ≡ false)
   others_out n t = (
@@ -364,7 +362,7 @@ module _ (s s' : State) (k : Kept s) (k' : Kept s') (whole : LentWhole s) (lib :
             let three : entry_in r.parent (Some (node_of after n (writer_of s' n) r)) ≡ Some (name_of after n r, r.kind) = ap (λ t. cond t (Some (name_of after n r, r.kind)) None) here in
             let four : entry_in r.parent (Some (node_of image n (writer_of s n) r)) ≡ Some (name_of image n r, r.kind) = ap (λ t. cond t (Some (name_of image n r, r.kind)) None) here in
             let both : Some (name_of after n r, r.kind) ≡ Some (name_of image n r, r.kind) = sym three ∙ sym one ∙ same ∙ two ∙ four in
-            ap (λ (p : List ℕ × Kind). p.0) (one_of (name_of after n r, r.kind) (name_of image n r, r.kind) both)
+            ap (λ (p : List ℕ × Kind). p.0) (same_Some (name_of after n r, r.kind) (name_of image n r, r.kind) both)
       ]
 
   name_by_cases : (n : ℕ) (x : Node) → node_at (nodes_of s) n ≡ Some x → (t u : Bool) → is_among n b.holds ≡ t → (l : Live s n x) → is_written b l.row.parent ≡ u → (stands gs lib x.parent Write ≡ true) ⊎ HasNameOf x (node_at (nodes_of s') n)
@@ -417,7 +415,7 @@ module _ (s s' : State) (k : Kept s) (k' : Kept s') (whole : LentWhole s) (lib :
       new_cases n y none there' (Some r) o' row row' = (let wrong : Some (node_of image n (writer_of s n) r) ≡ None = sym (was n ∙ ap (node_by image n (writer_of s n)) row) ∙ none in absurd (cc wrong))
       new_cases n y none there' None None row row' = (let wrong : None ≡ Some y = sym (now_is n None row') ∙ there' in absurd (cc wrong))
       new_cases n y none there' None (Some r') row row' =
-          let same : node_of after n (writer_of s' n) r' ≡ y = one_of (node_of after n (writer_of s' n) r') y (sym (now_is n (Some r') row') ∙ there') in
+          let same : node_of after n (writer_of s' n) r' ≡ y = same_Some (node_of after n (writer_of s' n) r') y (sym (now_is n (Some r') row') ∙ there') in
           let o = new_owner n r' row' row (file_is s k lib (creds_of s lib) b given accepted (at_now n r' row').met (at_now n r' row').stands) in
           (ap (λ (z : Node). z.uid) (sym same) ∙ o.0, ap (λ (z : Node). z.gid) (sym same) ∙ o.1)
 
@@ -437,7 +435,7 @@ module _ (s s' : State) (k : Kept s) (k' : Kept s') (whole : LentWhole s) (lib :
   told_has : (n at : ℕ) (pages : List ℕ) (i page : ℕ) → slice_get pages i ≡ Some page → is_block_told image after h n (at + i) page ≡ true → (x : ToldBlock) × In x (told_blocks image after h n at pages) × (x.ino ≡ n) × (x.at ≡ at + i)
   told_has n at [] i page get t = absurd cc
   told_has n at (p ∷ ps) zero page get t =
-      let same : p ≡ page = one_of p page get in
+      let same : p ≡ page = same_Some p page get in
       let e : at + 0 ≡ at = omega arith in
       let x : ToldBlock = record { ino = n; at = at; bytes = unwrap_or (page_of after.core p) [] } in
       let told : is_block_told image after h n at p ≡ true = ap (is_block_told image after h n at) same ∙ ap (λ m. is_block_told image after h n m page) (sym e) ∙ t in
@@ -494,14 +492,14 @@ module _ (s s' : State) (k : Kept s) (k' : Kept s') (whole : LentWhole s) (lib :
           inr (old (row_at s.home n) refl u.same u.counted)
         where
           old : (o : Option Row) → row_at s.home n ≡ o → slice_get (block_numbers image n (row_at image n)) at ≡ Some page → min (size_of after n) (4096 * at + 4096) ≤ size_of image n → min f.size (4096 * at + 4096) ≤ length (bytes_in (node_at (nodes_of s) f.ino))
-          old x0 x1 found counted = search (arith, live, rights_of, old_size)
+          old o h found counted = search (arith, live, rights_of, old_size)
 
   -- one that is gone
   known_gone : (n : ℕ) (q : Row) (f : RawFile) → row_at s.home n ≡ Some q → told_file image b n true q ≡ f → Known f
   known_gone n q f row same at regular inside = search (arith, old_size)
 
   known_by : (n : ℕ) (f : RawFile) (t : Bool) (o o' : Option Row) → row_at s.home n ≡ o → row_at after n ≡ o' → cond t (told_by image after b n o o') None ≡ Some f → In f these → Known f
-  known_by n f t o o' row row' q i = search (arith, known_there, one_of, known_gone)
+  known_by n f t o o' row row' q i = search (arith, known_there, same_Some, known_gone)
 
   known_at : (f : RawFile) → In f these → Known f
   known_at f i = search (arith, files_from, known_by)

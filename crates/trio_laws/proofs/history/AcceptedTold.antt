@@ -5,6 +5,7 @@ use Rattle.std.specs.Option.{option_map}
 use Rattle.std.specs.Str.{bytes_eq}
 use Rattle.std.proofs.lemmas.Bool.{both_ways, cases_Bool, false_from_ne_true, or_cases, or_from, or_left, or_right}
 use Rattle.std.proofs.lemmas.Slice.Eq.{bytes_eq-Decides}
+use Rattle.std.proofs.lemmas.List.{map-id}
 use Rattle.trio_lists.specs.Lists.{In, are_new, is_among}
 use Rattle.trio_lists.proofs.Members.{In-cases, In-is_among, In-left, In-map, In-right, is_among-In, map-In}
 use Rattle.trio_lists.proofs.Sorting.{sorted_new}
@@ -41,7 +42,7 @@ use Rattle.trio_laws.proofs.history.AcceptedFiles.{unheld_now}
 use Rattle.trio_laws.proofs.history.AcceptedNames.{at_now, entry_now, fit_after, name_kept, size_listed, size_written, verifies_after}
 use Rattle.trio_laws.proofs.history.Listing.{listing as listed_now, name_listed, slot_named}
 use Rattle.trio_laws.proofs.history.RawParts.{raw_number}
-use Rattle.trio_laws.proofs.history.RefusedTold.{made_of, map_self}
+use Rattle.trio_laws.proofs.history.RefusedTold.{made_of}
 use Rattle.trio_laws.proofs.history.RisingKeys.{counted_sorted, in_made, joined_new, made_in, made_new, made_number}
 use Rattle.trio_laws.proofs.history.ToldNoted.{noted_name_is, noted_size_is}
 
@@ -293,7 +294,7 @@ module _ (s : State) (lib : ℕ) (b : Bundle) (j : IsJudgeable s lib b) (acc : i
   gone_new : are_new [] (map ino gone) ≡ true
   gone_new =
       made_new ino (λ n. n) (told_gone cs l notes) number_of_gone l.held
-      (sorted_new (λ n. n) b.holds (ap (are_new []) (map_self b.holds) ∙ j.given.holds_once))
+      (sorted_new (λ n. n) b.holds (ap (are_new []) (map-id b.holds) ∙ j.given.holds_once))
 
   is_entry : (n : ℕ) → In n (map ino entries) → is_listed l n ≡ true
   is_entry n i =

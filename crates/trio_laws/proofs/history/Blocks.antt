@@ -3,7 +3,7 @@ use Rattle.std.proofs.Common.{◌≡◌, ℕ, zero, suc, ◌+◌, ◌-◌, ◌*�
 use Rattle.std.specs.List.{cons_option}
 use Rattle.std.specs.Option.{option_map, option_and_then}
 use Rattle.std.proofs.lemmas.Bool.{cases_lt}
-use Rattle.std.proofs.lemmas.List.{take-append-le}
+use Rattle.std.proofs.lemmas.List.{take-append-le, nil_from_length}
 use Rattle.trio_layout.specs.declared.range.CoreRange.{CoreRange}
 use Rattle.trio_layout.specs.declared.body.Body.{Body}
 use Rattle.trio_layout.specs.Index.{Index, index_of, numbers_in}
@@ -14,7 +14,7 @@ use Rattle.trio_layout.specs.Image.{Image}
 use Rattle.trio_rights.specs.Sheets.{Sheet}
 use Rattle.trio_layout.specs.Pages.{sheets_of}
 use Rattle.trio_lists.proofs.Members.{result_then-Ok, result_map-Ok, option_and_then-Some, there_or-Ok}
-use Rattle.trio_laws.proofs.history.Told.{Count, block_bytes, take_over, none_long}
+use Rattle.trio_laws.proofs.history.Told.{Count, block_bytes, take_over}
 
 numbers_long : (n : ℕ) (bytes : List ℕ) → length (numbers_in n bytes) ≡ n
 numbers_long zero bytes = refl
@@ -78,7 +78,7 @@ drop_cut size a f full =
     elim (cases_lt size 4096) [
       | inl short ↦
           let l = length-take size (a ++ f) in
-          let none : drop 4096 (take size (a ++ f)) ≡ [] = none_long (drop 4096 (take size (a ++ f))) (let d = length-drop 4096 (take size (a ++ f)) in omega (arith, d, l, short)) in
+          let none : drop 4096 (take size (a ++ f)) ≡ [] = nil_from_length (drop 4096 (take size (a ++ f))) (let d = length-drop 4096 (take size (a ++ f)) in omega (arith, d, l, short)) in
           let z : size - 4096 ≡ 0 = omega (arith, short) in
           none ∙ sym (ap (λ n. take n f) z)
       | inr long ↦

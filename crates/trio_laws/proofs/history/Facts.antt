@@ -2,6 +2,7 @@
 use Rattle.std.proofs.Common.{◌≡◌, ℕ, Bool, true, false, cond, ◌||◌, ◌+◌, ◌<◌, List, [], ◌∷◌, ◌++◌, Some, None, sym, refl, ap, ◌∙◌, inl, inr, arith, find, filter}
 use Rattle.std.specs.List.{list_any}
 use Rattle.std.proofs.lemmas.Bool.{cases_lt, false_from_ne_true, both_ways}
+use Rattle.std.proofs.lemmas.Option.{same_Some}
 use Rattle.trio_lists.specs.Lists.{In, tabulated}
 use Rattle.trio_rights.specs.Row.{Row}
 use Rattle.trio_layout.specs.Image.{row_at}
@@ -63,9 +64,6 @@ module _ (s : State) (k : Kept s) where
 pub nodes_by_one : (s s' : State) → s'.home.core.inodes ≡ s.home.core.inodes → ((n : ℕ) → node_in s' n ≡ node_in s n) → nodes_of s' ≡ nodes_of s
 nodes_by_one s s' count h = ap (λ c. tabulated (node_in s') (c + 1)) count ∙ tabulated-same (node_in s') (node_in s) (s.home.core.inodes + 1) h
 
-one_of : {X : Type 0} (x y : X) → Some x ≡ Some y → x ≡ y
-one_of x y e = cc e
-
 -- a live node, by its row
 pub record Live (s : State) (n : ℕ) (x : Node) : Type 0 where
   pub row : Row
@@ -73,4 +71,4 @@ pub record Live (s : State) (n : ℕ) (x : Node) : Type 0 where
   pub before : x ≡ node_of (settled s) n (writer_of s n) row
 
 pub live : (s : State) → Kept s → (n : ℕ) (x : Node) → node_at (nodes_of s) n ≡ Some x → Live s n x
-live s k n x there = search (arith, Live, node_is, one_of)
+live s k n x there = search (arith, Live, node_is, same_Some)

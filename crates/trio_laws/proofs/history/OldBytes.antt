@@ -72,7 +72,7 @@ module _ (s : State) (k : Kept s) (whole : LentWhole s) (n : ℕ) (r : Row) (row
       (λ g j w same. both_ways (writes n g) (none_found (writes n) s.open_grants g none j) (and_from (eqb g.ino n) (is_write g.kind) (eq-eqb g.ino n (same ∙ m.number)) (write_kept g.kind w)))
     where
       write_kept : (t : GrantKind) → t ≡ Write → is_write t ≡ true
-      write_kept x0 e = search arith
+      write_kept t e = search arith
 
   long_by : (o : Option OpenGrant) → writer_of s n ≡ o → length (bytes_of_sheets (size_of (settled s) n) (blocks_of (settled s) n r o)) ≡ size_of (settled s) n
   long_by (Some g) e =

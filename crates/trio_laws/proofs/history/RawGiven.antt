@@ -1,7 +1,7 @@
 -- Which files of a release were given, and which grants end with it.
-use Rattle.std.proofs.Common.{◌≡◌, ℕ, zero, suc, ◌+◌, ◌<◌, ◌≤◌, Bool, true, false, cond, ◌&&◌, ◌||◌, not, eqb, List, [], ◌∷◌, map, Option, Some, None, is_some, sym, refl, ap, ◌∙◌, inl, inr, ◌⊎◌, arith, filter, filter_map, find}
+use Rattle.std.proofs.Common.{◌≡◌, ℕ, Bool, true, false, cond, ◌&&◌, ◌||◌, not, eqb, List, [], ◌∷◌, map, Option, Some, None, is_some, sym, refl, ap, ◌∙◌, inl, inr, ◌⊎◌, arith, filter, filter_map, find}
 use Rattle.std.specs.List.{list_any, cons_option}
-use Rattle.std.proofs.lemmas.Bool.{and_parts, and_from, eqb-true, eq-eqb, or_cases, or_left, or_right, cases_eq}
+use Rattle.std.proofs.lemmas.Bool.{and_parts, and_from, eqb-true, eq-eqb, or_cases, or_left, or_right}
 use Rattle.trio_rights.specs.Row.{Row}
 use Rattle.trio_lists.specs.Lists.{In, is_among}
 use Rattle.trio_lists.specs.Counting.{count_up}
@@ -15,6 +15,7 @@ use Rattle.trio_state.specs.State.{OpenGrant, State, settled}
 use Rattle.trio_lists.proofs.Filters.{find-In, list_any-In, In-list_any, list_any-map, filter-same, filter-map}
 use Rattle.trio_surveys.proofs.Images.{some_of, met_numbered}
 use Rattle.trio_lists.proofs.Members.{is_among-In}
+use Rattle.trio_lists.proofs.Counting.{count_in}
 use Rattle.trio_laws.proofs.StateFacts.{alone, write_alone}
 use Rattle.trio_layout.specs.Survey.{plain}
 use Rattle.trio_nodes.specs.Handed.{Handed}
@@ -30,16 +31,6 @@ use Rattle.trio_laws.proofs.history.RawParts.{raw_number}
 
 pub bool_same : (a b : Bool) → (a ≡ true → b ≡ true) → (b ≡ true → a ≡ true) → a ≡ b
 bool_same a b f g = search arith
-
--- ---- members
-
-pub count_has : (from c m : ℕ) → from ≤ m → m < from + c → In m (count_up from c)
-count_has from zero m low high = absurd (omega (arith, low, high))
-count_has from (suc c) m low high =
-    elim (cases_eq m from) [
-      | inl same ↦ inl same
-      | inr differ ↦ inr (count_has (suc from) c m (omega (arith, low, differ)) (omega (arith, high)))
-    ]
 
 files_step : (rf : ℕ → Option RawFile) (x : ℕ) (o : Option RawFile) (rest : List RawFile) (f : RawFile) → rf x ≡ o → In f (cons_option o rest) → (rf x ≡ Some f) ⊎ In f rest
 files_step rf x o rest f e h = search arith
@@ -136,7 +127,7 @@ module _ (s : State) (k : Kept s) (lib : ℕ) (b : Bundle) (given : GivenTo s li
             let low = q.0 in
             let high = q.1 in
             let e = m.number in
-            let i = files_has (raw_file (settled s) after b) (count_up 1 s.home.core.inodes) n f.0 (count_has 1 s.home.core.inodes n (omega (arith, low, e)) (omega (arith, high, e))) f.1 in
+            let i = files_has (raw_file (settled s) after b) (count_up 1 s.home.core.inodes) n f.0 (count_in 1 s.home.core.inodes n (omega (arith, low, e)) (omega (arith, high, e))) f.1 in
             In-list_any (λ (f : RawFile). eqb f.ino n && f.given) f.0 (raw_files (settled s) after b) i
             (and_from (eqb f.0.ino n) f.0.given (eq-eqb f.0.ino n (raw_number (settled s) after b n f.0 f.1)) (given_step (settled s) after b n (is_told (settled s) after b n) f.0 f.1 ∙ t))
 

@@ -1,10 +1,12 @@
 -- What a refused release tells, by the images before and after, is what the bundle and the notes tell.
-use Rattle.std.proofs.Common.{◌≡◌, ℕ, ◌+◌, ◌<◌, ◌≤◌, Bool, true, false, cond, ◌&&◌, ◌||◌, not, List, [], ◌∷◌, ◌++◌, Option, Some, None, slice_get, sym, refl, ap, ◌∙◌, subst, inl, inr, arith, filter_map}
+use Rattle.std.proofs.Common.{◌≡◌, ℕ, ◌+◌, ◌<◌, ◌≤◌, Bool, true, false, cond, ◌&&◌, ◌||◌, not, List, [], ◌++◌, Option, Some, None, slice_get, sym, refl, ap, ◌∙◌, subst, inl, inr, arith, filter_map}
 use Rattle.std.specs.Prelude.{is_some, map}
 use Rattle.std.specs.Option.{option_map, option_map_or}
 use Rattle.std.specs.Str.{bytes_eq}
 use Rattle.std.proofs.lemmas.Bool.{cases_Bool, or_cases, or_left, or_right}
 use Rattle.std.proofs.lemmas.Slice.Eq.{bytes_eq-Decides}
+use Rattle.std.proofs.lemmas.List.{map-id}
+use Rattle.std.proofs.Math.Bool.{or-false}
 use Rattle.trio_lists.specs.Lists.{In, are_new, is_among}
 use Rattle.trio_lists.proofs.Members.{In-cases, In-is_among, In-left, In-map, In-right, flat_map-same, is_among-In, map-In}
 use Rattle.trio_rights.specs.declared.kind.Kind.{Kind}
@@ -38,14 +40,6 @@ use Rattle.trio_laws.proofs.history.RisingKeys.{counted_in, counted_sorted, in_m
 use Rattle.trio_laws.proofs.history.Still.{chain_still, name_still, size_still}
 use Rattle.trio_laws.proofs.history.ToldBlocks.{block_alike, blocks_lent, clean_block, numbers_were, same_blocks, told_alike}
 use Rattle.trio_laws.proofs.history.ToldNoted.{noted_name_is, noted_size_is}
-
-pub map_self : (xs : List ℕ) → map (λ n. n) xs ≡ xs
-map_self [] = refl
-map_self (x ∷ xs) = ap (λ l. x ∷ l) (map_self xs)
-
-or_false : (t : Bool) → (t || false) ≡ t
-or_false true = refl
-or_false false = refl
 
 -- what is there only where a test passes
 pub when_passed : {X : Type 0} (t : Bool) (o : Option X) (x : X) → cond t o None ≡ Some x → (t ≡ true) × (o ≡ Some x)
@@ -104,7 +98,7 @@ module _ (s : State) (lib : ℕ) (h : Handed) (j : IsJudgeable s lib (bundle_han
   unnamed n o row = search (arith, name_stays, bytes_eq-Decides)
 
   told_handed : (n : ℕ) → is_told I J b n ≡ is_handed b n
-  told_handed n = ap (λ t. is_handed b n || t) (unnamed n (row_at I n) refl) ∙ or_false (is_handed b n)
+  told_handed n = ap (λ t. is_handed b n || t) (unnamed n (row_at I n) refl) ∙ or-false (is_handed b n)
 
   same_by : (n : ℕ) (o : Option Row) → row_at I n ≡ o → told_by I J b n o o ≡ option_map (told_row b n false (noted_name notes n) (noted_size notes n)) o
   same_by n None row = refl
@@ -142,10 +136,10 @@ module _ (s : State) (lib : ℕ) (h : Handed) (j : IsJudgeable s lib (bundle_han
   handed_new : are_new [] (map (λ n. n) handed) ≡ true
   handed_new =
       let ws : List ℕ = map (λ (w : Written). w.ino) b.writes in
-      joined_new (λ n. n) ws b.holds (ap (are_new []) (map_self ws) ∙ j.given.writes_once) (ap (are_new []) (map_self b.holds) ∙ j.given.holds_once)
+      joined_new (λ n. n) ws b.holds (ap (are_new []) (map-id ws) ∙ j.given.writes_once) (ap (are_new []) (map-id b.holds) ∙ j.given.holds_once)
       (λ n i k.
-      let w = map-In (λ (w : Written). w.ino) n b.writes (subst (λ l. In n l) (map_self ws) i) in
-      held_apart s lib b j n (subst (λ l. In n l) (map_self b.holds) k) w.0 w.1 (sym w.2))
+      let w = map-In (λ (w : Written). w.ino) n b.writes (subst (λ l. In n l) (map-id ws) i) in
+      held_apart s lib b j n (subst (λ l. In n l) (map-id b.holds) k) w.0 w.1 (sym w.2))
 
   abbrev of_handed : List RawFile
   of_handed = filter_map (told_same cs notes) handed

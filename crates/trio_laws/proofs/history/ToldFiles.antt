@@ -1,7 +1,7 @@
 -- The entry of a release tells of the files that were handed in, that are new or that have another name, each once.
 use Rattle.std.proofs.Common.{◌≡◌, ℕ, ◌<◌, Bool, true, false, cond, ◌&&◌, ◌||◌, not, eqb, List, [], ◌∷◌, map, Option, Some, None, is_some, sym, refl, ap, ◌∙◌, inl, inr, arith}
 use Rattle.std.specs.Str.{bytes_eq}
-use Rattle.std.proofs.lemmas.Bool.{both_ways, eqb-true, eq-eqb, false≢true, or_cases, or_left, or_right}
+use Rattle.std.proofs.lemmas.Bool.{both_ways, eqb-true, eq-eqb, or_cases, or_left, or_right, or_parts}
 use Rattle.std.proofs.lemmas.Slice.Eq.{bytes_eq-Decides}
 use Rattle.trio_rights.specs.Bundle.{Bundle}
 use Rattle.trio_rights.specs.Row.{Row}
@@ -43,17 +43,11 @@ rising_new key (x ∷ xs) r =
       | inr none ↦ none
     ])
 
--- ---- files of which nothing is told
-
-either_not : (a b : Bool) → (a || b) ≡ false → (a ≡ false) × (b ≡ false)
-either_not true b e = absurd (false≢true (sym e))
-either_not false b e = (refl, e)
-
 -- they stay as they are
 untold_stays : (blocks : List ToldBlock) (files : List RawFile) (nodes : Nodes) (n : ℕ) → tells_of files n ≡ false → node_at (raw_nodes blocks files nodes) n ≡ node_at nodes n
 untold_stays blocks [] nodes n t = refl
 untold_stays blocks (f ∷ fs) nodes n t =
-    let p = either_not (eqb f.ino n) (tells_of fs n) t in
+    let p = or_parts (eqb f.ino n) (tells_of fs n) t in
     untold_stays blocks fs (with_node nodes f.ino (raw_node blocks f (node_at nodes f.ino))) n p.1
     ∙ with_node-else nodes f.ino n (raw_node blocks f (node_at nodes f.ino)) (λ e. both_ways (eqb f.ino n) p.0 (eq-eqb f.ino n (sym e)))
 
@@ -61,7 +55,7 @@ untold_stays blocks (f ∷ fs) nodes n t =
 untold_ungiven : (files : List RawFile) (n : ℕ) → tells_of files n ≡ false → is_given files n ≡ false
 untold_ungiven [] n t = refl
 untold_ungiven (f ∷ fs) n t =
-    let p = either_not (eqb f.ino n) (tells_of fs n) t in
+    let p = or_parts (eqb f.ino n) (tells_of fs n) t in
     ap (λ x. (x && f.given) || is_given fs n) p.0 ∙ untold_ungiven fs n p.1
 
 -- what stays as it is is neither new nor renamed

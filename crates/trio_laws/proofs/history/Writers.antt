@@ -41,7 +41,7 @@ pub none_found : {X : Type 0} (p : X → Bool) (xs : List X) (x : X) → find p 
 none_found p (z ∷ zs) x e i = step (p z) refl e i (λ f j. none_found p zs x f j)
   where
     step : (b : Bool) → p z ≡ b → cond b (Some z) (find p zs) ≡ None → (x ≡ z) ⊎ In x zs → (find p zs ≡ None → In x zs → p x ≡ false) → p x ≡ false
-    step x0 t f x3 h = search arith
+    step b t f i h = search arith
 none_found p [] x e i = absurd i
 
 write_unheld : (t : GrantKind) → t ≡ Write → is_hold t ≡ false

@@ -46,7 +46,7 @@ lists_directory core pick x m i =
     by_kind x.kind refl q.file.chain.blocks q.file.entries q.entry (reads_from core x q.file q.read).entries q.listed
   where
     by_kind : (k : Kind) → x.kind ≡ k → (blocks : List ℕ) (es : List Listed) (l : Listed) → entries_of_kind core x.kind blocks ≡ Ok es → In l es → x.kind ≡ Directory
-    by_kind x0 e blocks es l r j = search arith
+    by_kind k e blocks es l r j = search arith
 
 stays_cases : (f h k : Bool) → (not f || h || k) ≡ true → f ≡ true → h ≡ false → k ≡ true
 stays_cases f h k e a d = search (arith, false≢true)

@@ -2,7 +2,7 @@
 use Rattle.std.proofs.Common.{◌≡◌, ℕ, Bool, true, false, cond, not, ◌&&◌, ◌||◌, eqb, ltb, List, [], ◌∷◌, take, drop, Option, Some, None, is_some, Result, Err, sym, refl, ap, ◌∙◌, subst, inl, inr, arith}
 use Rattle.std.specs.Prelude.{MatchBool}
 use Rattle.std.specs.Option.{ok_or}
-use Rattle.std.proofs.lemmas.Bool.{false≢true}
+use Rattle.std.proofs.lemmas.Bool.{false≢true, and_right}
 use Rattle.std.proofs.lemmas.Slice.Eq.{bytes_eq-Decides}
 use Rattle.trio_rights.specs.declared.kind.Kind.TheVariants.{Regular, Directory}
 use Rattle.trio_rights.specs.declared.rights.Creds.{Creds}
@@ -45,12 +45,6 @@ same_path-self (name ∷ path) = ap (λ t. cond t (same_path path path) false) (
 pub needs_write : NeedsWrite
 needs_write writes path i = ap (λ t. cond t ToWrite ToRead) (In-list_any (same_path path) path writes i (same_path-self path))
 
--- ---- what is refused, and makes nothing
-
-and-false : (t u : Bool) → u ≡ false → (t && u) ≡ false
-and-false true u e = e
-and-false false u e = refl
-
 -- a reply that a check gives is no answer
 none-undone : (reply : Reply) → None ≡ Some reply → is_done reply ≡ false
 none-undone reply e = absurd (let wrong : None ≡ Some reply = e in cc wrong)
@@ -68,7 +62,7 @@ module _ (desk : DeskSeen) (d : Done) (nodes : Nodes) (none : d.made ≡ 0) wher
   refused-does makes e = does_as desk d nodes (makes_nothing nodes d makes none) (refused nodes d.reply) e refl (inr refl)
 
   undone-does : is_done d.reply ≡ false → applied nodes desk.creds d.call d.made ≡ refused nodes d.reply → DoesCall desk d nodes nodes
-  undone-does undone e = refused-does (and-false (makes_file d.call) (is_done d.reply) undone) e
+  undone-does undone e = refused-does (and_right (makes_file d.call) (is_done d.reply) undone) e
 
 -- ---- refusals by a path
 
@@ -265,7 +259,7 @@ lacks-undone call reply l = search arith
 
 pub no_room_to_make : NoRoomToMake
 no_room_to_make desk d nodes path dir c makes f lacks' none =
-    lacks_as desk d nodes (makes_nothing nodes d (and-false (makes_file d.call) (is_done d.reply) (lacks-undone d.call d.reply lacks')) none) lacks'
+    lacks_as desk d nodes (makes_nothing nodes d (and_right (makes_file d.call) (is_done d.reply) (lacks-undone d.call d.reply lacks')) none) lacks'
     (ap (λ (a : Applied). is_done a.reply) (comes_in nodes desk.creds d.call d.made path dir c ∙ name-free nodes desk.creds d.made path dir d.call c.on makes f))
 
 -- ---- renames

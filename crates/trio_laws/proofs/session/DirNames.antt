@@ -5,7 +5,7 @@ use Rattle.std.specs.Cmp.Lexicographic.{slice_cmp, texts_ties}
 use Rattle.std.specs.Ordering.{nat_cmp, is_le, is_lt, is_eq, ordering_reverse}
 use Rattle.std.specs.declared.cmp.Ordering.{Ordering}
 use Rattle.std.specs.declared.cmp.Ordering.TheVariants.{Equal}
-use Rattle.std.proofs.lemmas.Bool.{eqb-true, false≢true}
+use Rattle.std.proofs.lemmas.Bool.{eqb-true, false≢true, not-true}
 use Rattle.std.proofs.lemmas.Cmp.{nat_list_cmp_total}
 use Rattle.std.proofs.lemmas.List.{length-append, length-map}
 use Rattle.std.proofs.lemmas.List.Sorted.{ranks_by}
@@ -28,10 +28,6 @@ turned_le o = search arith
 one_way : (o : Ordering) → (o ≡ Equal → ⊥) → is_le o ≡ not (is_le (ordering_reverse o))
 one_way o differ = search arith
 
-not_true : (t : Bool) → not t ≡ true → t ≡ false
-not_true true e = absurd (false≢true e)
-not_true false e = refl
-
 module _ {X : Type 0} (name : X → List ℕ) where
   abbrev le : X → X → Bool
   le x y = is_le (slice_cmp nat_cmp (name x) (name y))
@@ -40,7 +36,7 @@ module _ {X : Type 0} (name : X → List ℕ) where
   le-lt x y = ap is_le (nat_list_cmp_total.antisymm (name x) (name y)) ∙ turned_le (slice_cmp nat_cmp (name y) (name x))
 
   le-trans : (x y z : X) → le x y ≡ true → le y z ≡ true → le x z ≡ true
-  le-trans x y z a b = search (arith, le-lt, ranks_by, nat_list_cmp_total, not_true)
+  le-trans x y z a b = search (arith, le-lt, ranks_by, nat_list_cmp_total, not-true)
 
   le-one : (x y : X) → (name x ≡ name y → ⊥) → le y x ≡ not (le x y)
   le-one x y differ =
@@ -59,7 +55,7 @@ module _ {X : Type 0} (name : X → List ℕ) where
     where
       by : (a b : Bool) → le x z ≡ a → le y z ≡ b → inserted_by_name name x (inserted_by_name name y zs) ≡ inserted_by_name name y (inserted_by_name name x zs)
           → inserted_by_name name x (inserted_by_name name y (z ∷ zs)) ≡ inserted_by_name name y (inserted_by_name name x (z ∷ zs))
-      by x0 x1 p q again = search (arith, false≢true, le-trans)
+      by a b p q again = search (arith, false≢true, le-trans)
 
   inserted-inserted : (x y : X) → (name x ≡ name y → ⊥) → (l : List X) → inserted_by_name name x (inserted_by_name name y l) ≡ inserted_by_name name y (inserted_by_name name x l)
   inserted-inserted x y differ l = search (arith, below, le-one)
@@ -155,7 +151,7 @@ entries_count dir (o ∷ nodes) = by o (entries_count dir nodes) ∙ sym (sum_by
   where
     by : (p : Option Node) → length (filter_map (entry_in dir) nodes) ≡ count_by (is_in dir) nodes
         → length (cons_option (entry_in dir p) (filter_map (entry_in dir) nodes)) ≡ cond (is_in dir p) 1 0 + count_by (is_in dir) nodes
-    by x0 ih = search arith
+    by p ih = search arith
 
 pub names_in_order : NamesInOrder
 names_in_order nodes dir entries tree lists =

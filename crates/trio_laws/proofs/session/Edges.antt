@@ -205,7 +205,7 @@ module _ (c : Case) (nodes nodes' : Nodes) (tree : IsTree nodes) (tree' : IsTree
   held_left n i = by (naming_of c n) refl
     where
       by : (o : Option Naming) → naming_of c n ≡ o → leaves_none (listing c) c.rows n ≡ true
-      by x0 h = search (arith, or_left, is_there, or_right, not_from_false, false_from_ne_true, list_any-In, child_row, in_rows, no_child)
+      by o h = search (arith, or_left, is_there, or_right, not_from_false, false_from_ne_true, list_any-In, child_row, in_rows, no_child)
 
   none_dropped : list_all (leaves_none (listing c) c.rows) (listing c).held ≡ true
   none_dropped = list_all-each (leaves_none (listing c) c.rows) (listing c).held (λ n i. held_left n (held_from c n i))

@@ -55,14 +55,14 @@ module _ (c : Case) (nodes nodes' : Nodes) (tree : IsTree nodes) (tree' : IsTree
       by : (t : Bool) → row_in c.rows e.listed.entry.ino ≡ Some r → (is_kept c (met_of e) ≡ true) ⊎ (In n c.bundle.holds ⊎ In n c.bundle.numbers) → is_kept c (met_of e) ≡ t
           → cond t (has_kind e.listed.entry.kind (row_in c.rows e.listed.entry.ino)) (not (is_among e.listed.entry.ino c.bundle.holds) || (has_kind e.listed.entry.kind (row_in c.rows e.listed.entry.ino) && bytes_eq e.listed.body (lent_body c e.listed.entry.ino))) ≡ true
           → e.listed.entry.ino ≡ n → e.listed.entry.kind ≡ r.kind
-      by x0 there x2 t k number = search (arith, has_kind_is, both_ways, met_of, new_dead, or_cases, In-is_among, false≢true, not_from_true, and_parts)
+      by h there i t k number = search (arith, has_kind_is, both_ways, met_of, new_dead, or_cases, In-is_among, false≢true, not_from_true, and_parts)
 
   pub listed_as : (e : Naming) (n : ℕ) → naming_of c n ≡ Some e → IsListedAs (node_at nodes' n) e
   listed_as e n h =
       subst (λ o. IsListedAs o e) (sym (s.each n ∙ ap (λ o. option_map (with_bytes (bytes_now c n)) (node_left c n o (node_at nodes n))) h)) (by (node_at nodes n) refl)
     where
       by : (o : Option Node) → node_at nodes n ≡ o → IsListedAs (option_map (with_bytes (bytes_now c n)) (node_listed e o)) e
-      by x0 t = search (arith, with_as, node_row, kind_kept)
+      by o t = search (arith, with_as, node_row, kind_kept)
 
   listed_in : (directory n : ℕ) → is_among directory (numbers (judged_files c)) ≡ true → (o : Option Naming) → naming_of c n ≡ o → entry_in directory (node_at nodes' n) ≡ listed_now directory o
   listed_in directory n i (Some e) h =

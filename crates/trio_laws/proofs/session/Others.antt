@@ -20,7 +20,7 @@ use Rattle.trio_nodes.specs.GrantKinds.{same_kind}
 use Rattle.trio_nodes.specs.After.{batch_nodes, moded_node, moded_nodes, bytes_in}
 use Rattle.trio_nodes.specs.Libraries.{creds_in}
 use Rattle.trio_nodes.proofs.LibraryFacts.{batch_either}
-use Rattle.trio_nodes.specs.Legal.{Past, past_after, LegalCalls, SameContent, HasRightsOf, HasPlaceOf, SparesOthers, IsWithinGrants, is_owner, parent_in, KeepsRights}
+use Rattle.trio_nodes.specs.Legal.{Past, past_after, LegalCalls, SameContent, HasRightsOf, SparesOthers, IsWithinGrants, is_owner, parent_in, KeepsRights}
 use Rattle.trio_nodes.specs.Tree.{IsTree}
 use Rattle.trio_desk.specs.Contents.{Sizes, Rights, rights_of, rights_in, ShownEntry, entry_of_node}
 use Rattle.trio_desk.specs.Agrees.{Leases, Agrees, HasRights, HasContent, HasFile, HasHeld, HasStanding, AllStand}
@@ -168,10 +168,6 @@ module _ (nodes : Nodes) (grants : List Standing) (lib : ℕ) (sizes : Sizes) (r
       agrees_spared nodes' root_rights (λ n x y e f. w.rights n x y e f)
       (λ n x e s. spared_by grants by nodes nodes' n x e (others_here grants lib by n other s) w.others)
     where
-      place_live : (o : Option Node) → HasPlaceOf t.root.0 o → (y : Node) × (o ≡ Some y)
-      place_live None h = absurd h
-      place_live (Some y) h = (y, refl)
-
       root_rights : HasRightsOf t.root.0 (node_at nodes' 1)
       root_rights = search (arith, list_any-In, and_parts, hold_is, eqb-true)
 
