@@ -19,11 +19,11 @@ up_to_at p (suc n) j h low high =
     ]
 
 pub same_kind_is : (a b : Kind) → same_kind a b ≡ true → a ≡ b
-same_kind_is x0 x1 e = search (arith, false≢true)
+same_kind_is a b e = search (arith, false≢true)
 
 row_same : (r q : Row) → r.kind ≡ q.kind → r.mode.0 ≡ q.mode.0 → r.uid ≡ q.uid → r.gid ≡ q.gid → r.parent ≡ q.parent → r.page ≡ q.page → r.slot ≡ q.slot → r ≡ q
 row_same r q kind mode uid gid parent page slot = search arith
 
 -- rows that pass as the same are
 pub same_row_is : (r : Row) (o : Option Row) → same_row (Some r) o ≡ true → o ≡ Some r
-same_row_is r x1 e = search (arith, false≢true, and_parts, row_same, same_kind_is, eqb-true)
+same_row_is r o e = search (arith, false≢true, and_parts, row_same, same_kind_is, eqb-true)

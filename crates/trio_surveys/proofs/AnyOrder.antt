@@ -25,7 +25,7 @@ abbrev pub HasPlace : ℕ → ℕ → List Met → Type 0
 HasPlace p s ms = (c : Met) × In c ms × (c.page ≡ p) × (c.slot ≡ s)
 
 first_place : (p s : ℕ) (m : Met) (ms : List Met) → ((m.page ≡ p) × (m.slot ≡ s) → ⊥) → (HasPlace p s ms → ⊥) → HasPlace p s (m ∷ ms) → ⊥
-first_place p s m ms here later x6 = search arith
+first_place p s m ms here later h = search arith
 
 pub place_cases : (p s : ℕ) (ms : List Met) → HasPlace p s ms ⊎ (HasPlace p s ms → ⊥)
 place_cases p s [] = inr (λ h. h.1)

@@ -22,14 +22,14 @@ abbrev NoneOn : ℕ → List Met → Type 0
 NoneOn p ms = (m : Met) → In m ms → m.page ≡ p → ⊥
 
 put_none : (p : ℕ) (ms : List Met) (o : Option (Option (List ℕ))) → NoneOn p ms → put_at p ms o ≡ o
-put_none p ms x2 none = search (arith, put_on-none)
+put_none p ms o none = search (arith, put_on-none)
 
 put_on-append : (p : ℕ) (ms ks : List Met) (bytes : List ℕ) → put_on p (ms ++ ks) bytes ≡ put_on p ks (put_on p ms bytes)
 put_on-append p [] ks bytes = refl
 put_on-append p (m ∷ ms) ks bytes = put_on-append p ms ks (cond (eqb m.page p) (with_body_in m.slot m.body bytes) bytes)
 
 put_both : (p : ℕ) (ms ks : List Met) (o : Option (Option (List ℕ))) → put_at p (ms ++ ks) o ≡ put_at p ks (put_at p ms o)
-put_both p ms ks x3 = search (arith, put_on-append)
+put_both p ms ks o = search (arith, put_on-append)
 
 same_places : (a b : Pages) (n : ℕ) (x : Option (List ℕ)) → length a ≡ length b → option_map (λ _. x) (slice_get a n) ≡ option_map (λ _. x) (slice_get b n)
 same_places [] [] n x e = refl

@@ -60,7 +60,7 @@ gathered_local core pages (b ∷ bs) h =
     ∙ ap (both (page_entries core b)) (gathered_local core pages bs (λ p k. h p (inr k)))
 
 entries_local : (core : Core) (pages : List (Option (List ℕ))) (kind : Kind) (f : FileRead) → ((p : ℕ) → In p (pages_read kind f) → page_of (with_other core pages) p ≡ page_of core p) → entries_of_kind (with_other core pages) kind f.chain.blocks ≡ entries_of_kind core kind f.chain.blocks
-entries_local core pages x2 f h = search (arith, gathered_local, In-right)
+entries_local core pages kind f h = search (arith, gathered_local, In-right)
 
 index_read : (kind : Kind) (f : FileRead) (p : ℕ) → In p f.chain.index → In p (pages_read kind f)
 index_read Regular f p k = k

@@ -27,7 +27,7 @@ use Rattle.trio_layout.proofs.WithinCore.{listed_within_core}
 
 -- a row that names a place
 pub place_parts : (d p s : ℕ) (o : Option Row) → is_place_of d p s o ≡ true → (r : Row) × (o ≡ Some r) × (r.parent ≡ d) × (r.page ≡ p) × (r.slot ≡ s)
-place_parts d p s x3 e = search (arith, false≢true, and_parts, eqb-true)
+place_parts d p s o e = search (arith, false≢true, and_parts, eqb-true)
 
 pub place_from : (d p s : ℕ) (o : Option Row) (r : Row) → o ≡ Some r → r.parent ≡ d → r.page ≡ p → r.slot ≡ s → is_place_of d p s o ≡ true
 place_from d p s o r e a b c = search (arith, and_from, eq-eqb)

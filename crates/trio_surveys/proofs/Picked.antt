@@ -36,14 +36,14 @@ abbrev pub all_listed : Core → Pick → List Met
 all_listed core pick = flat_map (children core pick) (survey core pick)
 
 pub listed_picked : (pick : Pick) (d p s : ℕ) (body' body : List ℕ) (r : SlotRead) → ((e : EntryPart) → r ≡ Entry e → body' ≡ pick d p s e.ino body) → listed_at p s body' r ≡ result_map (map (picked pick d)) (listed_at p s body r)
-listed_picked pick d p s body' body x6 h = search arith
+listed_picked pick d p s body' body r h = search arith
 
 map_append : {X Y : Type 0} (k : X → Y) (xs ys : List X) → map k xs ++ map k ys ≡ map k (xs ++ ys)
 map_append k [] ys = refl
 map_append k (x ∷ xs) ys = ap (λ l. k x ∷ l) (map_append k xs ys)
 
 both_map : {X E : Type 0} (k : X → X) (q r : Result (List X) E) → both (result_map (map k) q) (result_map (map k) r) ≡ result_map (map k) (both q r)
-both_map k x1 x2 = search (arith, map_append)
+both_map k q r = search (arith, map_append)
 
 pub below_map : {X E : Type 0} (f g : ℕ → Result (List X) E) (k : X → X) (n : ℕ) → ((s : ℕ) → s < n → g s ≡ result_map (map k) (f s)) → gathered_below g n ≡ result_map (map k) (gathered_below f n)
 below_map f g k zero h = refl

@@ -70,7 +70,7 @@ abbrev pub at_place : EntryPart → ℕ → ℕ → List ℕ → Listed
 at_place e page slot body = record { entry = e; page = page; slot = slot; body = body }
 
 listed_from : (page slot : ℕ) (body : List ℕ) (r : SlotRead) (es : List Listed) (l : Listed) → listed_at page slot body r ≡ Ok es → In l es → (e : EntryPart) × (r ≡ Entry e) × (l ≡ at_place e page slot body)
-listed_from page slot body x3 es l e h = search arith
+listed_from page slot body r es l e h = search arith
 
 listed_has : (page slot : ℕ) (body : List ℕ) (r : SlotRead) (es : List Listed) (e : EntryPart) → listed_at page slot body r ≡ Ok es → r ≡ Entry e → In (at_place e page slot body) es
 listed_has page slot body r es e h k = search arith
@@ -83,7 +83,7 @@ directory_gathers : (core : Core) (blocks : List ℕ) (es : List Listed) → ent
 directory_gathers core blocks es e = search (arith, result_then-Ok, apart_ok)
 
 pub gathers : (core : Core) (kind : Kind) (blocks : List ℕ) (es : List Listed) (l : Listed) → entries_of_kind core kind blocks ≡ Ok es → In l es → gathered (page_entries core) blocks ≡ Ok es
-gathers core x1 blocks es l e h = search (arith, directory_gathers)
+gathers core kind blocks es l e h = search (arith, directory_gathers)
 
 pub gathers_directory : (core : Core) (blocks : List ℕ) (es : List Listed) → entries_of_kind core Directory blocks ≡ Ok es → (gathered (page_entries core) blocks ≡ Ok es) × (repeated_name [] es ≡ None)
 gathers_directory core blocks es e = directory_gathers core blocks es e
@@ -117,7 +117,7 @@ slot_has core blocks es p s bytes e g i q k says =
     a.2 _ (b.2 _ (listed_has p s (body_in_slot s bytes) (slot_of core.inodes (slot_bytes s bytes)) b.0 e b.1 says))
 
 entry_case : (zero' good : Bool) (e e' : EntryPart) → cond zero' Empty (cond good (Entry e) Bad) ≡ Entry e' → (good ≡ true) × (e ≡ e')
-entry_case x0 x1 e e' h = search arith
+entry_case zero' good e e' h = search arith
 
 -- an entry's number is one of the table
 pub entry_numbered : (inodes : ℕ) (bytes : List ℕ) (e : EntryPart) → slot_of inodes bytes ≡ Entry e → (0 < e.ino) × (e.ino ≤ inodes)

@@ -17,10 +17,10 @@ put_on p [] bytes = bytes
 put_on p (m ∷ ms) bytes = put_on p ms (cond (eqb m.page p) (with_body_in m.slot m.body bytes) bytes)
 
 here_put : (p : ℕ) (m : Met) (ms : List Met) (o : Option (Option (List ℕ))) → eqb m.page p ≡ true → option_map (option_map (put_on p ms)) (option_map (λ _. option_map (with_body_in m.slot m.body) (option_and_then (λ x. x) o)) o) ≡ option_map (option_map (put_on p (m ∷ ms))) o
-here_put p m ms x3 e = search arith
+here_put p m ms o e = search arith
 
 there_put : (p : ℕ) (m : Met) (ms : List Met) (o : Option (Option (List ℕ))) → eqb m.page p ≡ false → option_map (option_map (put_on p ms)) o ≡ option_map (option_map (put_on p (m ∷ ms))) o
-there_put p m ms x3 e = search arith
+there_put p m ms o e = search arith
 
 pub with_bodies-get : (p : ℕ) (ms : List Met) (pages : List (Option (List ℕ))) → ((m : Met) → In m ms → m.ino ≡ 1 → ⊥) → slice_get (with_bodies ms pages) p ≡ option_map (option_map (put_on p ms)) (slice_get pages p)
 with_bodies-get p [] pages h = search (arith, slice_index_or, ne_eqb, cases_eq, eq-eqb, get-set_same, page_at, here_put, get-set_other, there_put)
@@ -42,7 +42,7 @@ with_bodies-get p (m ∷ ms) pages h =
     ]
 
 page_put : (b : Bool) (f : List ℕ → List ℕ) (o : Option (Option (List ℕ))) → cond b (option_and_then (λ x. x) (option_map (option_map f) o)) None ≡ option_map f (cond b (option_and_then (λ x. x) o) None)
-page_put x0 f x2 = search arith
+page_put b f o = search arith
 
 pub page_of-bodies : (core : Core) (p : ℕ) (ms : List Met) → ((m : Met) → In m ms → m.ino ≡ 1 → ⊥) → page_of (with_other core (with_bodies ms core.pages)) p ≡ option_map (put_on p ms) (page_of core p)
 page_of-bodies core p ms h = search (arith, page_of_at, with_bodies-get, page_put)

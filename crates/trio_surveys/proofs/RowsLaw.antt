@@ -54,7 +54,7 @@ met_same m x ino kind parent page slot body = search arith
 
 module _ (core : Core) (pick : Pick) (rows : List (Option Row)) where
   live_from_at : (n : ℕ) (o : Option Row) (m : Met) → row_in rows n ≡ o → In m (live_at core pick n o) → (r : Row) × (row_in rows n ≡ Some r) × (m ≡ file_at_row core pick n r)
-  live_from_at n x1 m e x4 = search arith
+  live_from_at n o m e h = search arith
 
   pub live_from : (m : Met) → In m (live_files core pick rows) → (r : Row) × (row_in rows m.ino ≡ Some r) × (m ≡ file_at_row core pick m.ino r)
   live_from m i = search (arith, flat_map-In, live_from_at)

@@ -77,7 +77,7 @@ with_pages_from (s ∷ ss) pages n bytes e =
     ]
 
 page_inv : (b : Bool) (o : Option (Option (List ℕ))) (bytes : List ℕ) → cond b (option_and_then (λ x. x) o) None ≡ Some bytes → (b ≡ true) × (o ≡ Some (Some bytes))
-page_inv x0 x1 bytes e = search arith
+page_inv b o bytes e = search arith
 
 pub page_there : (core : Core) (p : ℕ) (bytes : List ℕ) → page_of core p ≡ Some bytes → (is_core core.range p ≡ true) × (slice_get core.pages p ≡ Some (Some bytes))
 page_there core p bytes e = page_inv (is_core core.range p) (slice_get core.pages p) bytes (sym (page_of_at core p) ∙ e)

@@ -26,7 +26,7 @@ pub record Child (core : Core) (pick : Pick) (m c : Met) : Type 0 where
   pub is : c ≡ met_in pick m.ino entry
 
 child_in : (core : Core) (pick : Pick) (m c : Met) (o : Result FileRead Location) → file_of core m ≡ o → In c (children_in pick m.ino o) → Child core pick m c
-child_in core pick m c x4 e h = search (arith, map-In)
+child_in core pick m c o e h = search (arith, map-In)
 
 pub child_from : (core : Core) (pick : Pick) (m c : Met) → In c (children core pick m) → Child core pick m c
 child_from core pick m c h = child_in core pick m c (file_of core m) refl h

@@ -35,7 +35,7 @@ chain_whole core (suc n) blocks at c e there =
     whole_step core n blocks at c (page_of core at) refl (λ i r k t. chain_whole core n (blocks - 511) i.next r k t) e there
 
 part_step : (core : Core) (n blocks at : ℕ) (c : Chain) (o : Option (List ℕ)) → page_of core at ≡ o → ((i : Index) (r : Chain) → chain_from core n (blocks - 511) i.next ≡ Ok r → rest_of core n blocks i ≡ Ok r) → result_then (λ i. result_map (with_index at i) (chain_from core n (blocks - 511) i.next)) (there_or (at_page at) (option_and_then (index_of (min blocks 511) (eqb n 0) core.range) o)) ≡ Ok c → index_within core at (min blocks 511) (eqb n 0) (rest_of core n blocks) o ≡ Ok c
-part_step core n blocks at c x5 page more e = search (arith, min, result_then-Ok, result_map-Ok)
+part_step core n blocks at c o page more e = search (arith, min, result_then-Ok, result_map-Ok)
 
 chain_part : (core : Core) (n blocks at : ℕ) (c : Chain) → chain_from core n blocks at ≡ Ok c → chain_within core n blocks at ≡ Ok c
 chain_part core zero blocks at c e = e
