@@ -1,7 +1,7 @@
 -- What an edit of one open file leaves of the others: which files are open, by which chains, with which bodies.
-use Rattle.std.proofs.Common.{◌≡◌, ℕ, ◌+◌, ◌<◌, Bool, cond, eqb, not, ltb, List, [], ◌∷◌, length, Option, Some, None, sym, refl, ap, ◌∙◌, subst, inl, inr, arith}
+use Rattle.std.proofs.Common.{◌≡◌, ℕ, ◌<◌, Bool, eqb, [], length, Option, Some, None, sym, refl, ap, ◌∙◌, inl, inr, arith}
 use Rattle.std.specs.Prelude.{map, slice_get, slice_index_or, slice_set}
-use Rattle.std.specs.List.{find, position, position_or_len}
+use Rattle.std.specs.List.{find, position}
 use Rattle.std.specs.Option.{option_map, option_map_or, option_or}
 use Rattle.std.proofs.lemmas.Bool.{cases_eq, eqb-true}
 use Rattle.std.proofs.lemmas.List.{get_or-set_other, get_or-set_same, length-map}
@@ -17,7 +17,7 @@ use Rattle.trio_laws.specs.session.FileEdits.{bare_file}
 use Rattle.trio_laws.proofs.session.EditedWalk.{find-same}
 use Rattle.trio_laws.proofs.session.Namings.{find_map}
 use Rattle.trio_session.specs.Seen.{MadeFile, SessionSeen, body_in, chain_in, made_body, made_file, no_chain, open_kind, place_in, with_chain, written_file}
-use Rattle.trio_session.proofs.Found.{find-position}
+use Rattle.trio_session.proofs.Found.{find-position, position-map}
 use Rattle.trio_session.proofs.Lists.{map_alike}
 use Rattle.trio_edit_laws.proofs.Opens.{OpenWritten, chain-made, chain-written, chains-made, chains-written, made-written, made_file-here, made_file-other, opened, with_chain-written}
 use Rattle.trio_edit_laws.proofs.Touches.{bare_files}
@@ -39,17 +39,6 @@ pub record IsAnew (s s' : SessionSeen) (ino' : ℕ) (chain' : Chain) : Type 0 wh
   pub made : s'.made ≡ (with_chain ino' chain' s).made
   pub cleared : s'.cleared ≡ s.cleared
   pub indexed : s'.indexed ≡ s.indexed
-
--- ---- the first place
-
-position-map : {X Y : Type 0} (p : Y → Bool) (f : X → Y) (xs : List X) → position p (map f xs) ≡ position (λ x. p (f x)) xs
-position-map {X} {Y} p f xs =
-    let place : ℕ → ℕ → Option ℕ = λ i n. cond (ltb i n) (Some i) None in
-    ap (λ i. place i (length (map f xs))) (before xs) ∙ ap (place (position_or_len (λ x. p (f x)) xs)) (length-map xs f)
-  where
-    before : (xs : List X) → position_or_len p (map f xs) ≡ position_or_len (λ x. p (f x)) xs
-    before [] = refl
-    before (x ∷ xs) = ap (λ n. cond (not (p (f x))) (1 + n) 0) (before xs)
 
 map-option : {X Y Z : Type 0} (f : X → Y) (g : Y → Z) (o : Option X) → option_map g (option_map f o) ≡ option_map (λ x. g (f x)) o
 map-option f g None = refl
@@ -110,9 +99,7 @@ module _ (b b' : Parcel) (ino : ℕ) (a : FilesAnew b b' ino) where
     where
       by : (q : Option LentFile) → find (number_is n) b.writes ≡ q → option_map (λ (f : LentFile). f.stands) q ≡ None → (r : Option LentFile)
           → option_map bare_of r ≡ option_map a.change (option_map bare_of (find (number_is n) b.writes)) → option_map (λ (f : LentFile). f.stands) r ≡ None
-      by q e out None is = refl
-      by None e out (Some f) is = absurd (let wrong : Some (bare_of f) ≡ None = is ∙ ap (λ q. option_map a.change (option_map bare_of q)) e in cc wrong)
-      by (Some g) e out (Some f) is = absurd (let wrong : Some g.stands ≡ None = out in cc wrong)
+      by q e out r is = search arith
 
   pub place_anew : (n : ℕ) → position (number_is n) b'.writes ≡ position (number_is n) b.writes
   place_anew n =
@@ -146,15 +133,7 @@ module _ (s s' : SessionSeen) (ino : ℕ) (chain : Chain) (a : IsAnew s s' ino c
   made_none none = ap (find (λ (m : MadeFile). eqb m.ino ino)) (a.made ∙ made-written s ino chain none) ∙ none
 
   made_kind : (n : ℕ) → option_map (λ (m : MadeFile). m.kind) (made_file s' n) ≡ option_map (λ (m : MadeFile). m.kind) (made_file s n)
-  made_kind n =
-      elim (cases_eq n ino) [
-        | inr d ↦ ap (option_map (λ (m : MadeFile). m.kind)) (made_other n d)
-        | inl e ↦ subst (λ k. option_map (λ (m : MadeFile). m.kind) (made_file s' k) ≡ option_map (λ (m : MadeFile). m.kind) (made_file s k)) (sym e) (here (made_file s ino) refl)
-      ]
-    where
-      here : (o : Option MadeFile) → made_file s ino ≡ o → option_map (λ (m : MadeFile). m.kind) (made_file s' ino) ≡ option_map (λ (m : MadeFile). m.kind) (made_file s ino)
-      here None e = ap (option_map (λ (m : MadeFile). m.kind)) (made_none e) ∙ sym (ap (option_map (λ (m : MadeFile). m.kind)) e)
-      here (Some m) e = ap (option_map (λ (m : MadeFile). m.kind)) (made_here m e) ∙ sym (ap (option_map (λ (m : MadeFile). m.kind)) e)
+  made_kind n = search (arith, cases_eq, made_other, made_none, made_here)
 
   written_kind : (x : SessionSeen) (n : ℕ) → option_map (λ (f : Shown). f.kind) (written_file x n) ≡ option_map (λ (f : LentFile). f.stands.kind) (find (number_is n) x.parcel.writes)
   written_kind x n = map-option (λ (f : LentFile). f.stands) (λ (f : Shown). f.kind) (find (number_is n) x.parcel.writes)
@@ -201,11 +180,7 @@ module _ (s s' : SessionSeen) (ino : ℕ) (chain : Chain) (a : IsAnew s s' ino c
 
   -- a body is as it was where the slot of a file that was made has it still
   pub written_body : (x : SessionSeen) (n : ℕ) → option_map_or (λ (f : Shown). f.body) (written_file x n) [] ≡ option_map_or (λ (v : Written). v.body) (option_map bare_of (find (number_is n) x.parcel.writes)) []
-  written_body x n = by (find (number_is n) x.parcel.writes)
-    where
-      by : (o : Option LentFile) → option_map_or (λ (f : Shown). f.body) (option_map (λ (f : LentFile). f.stands) o) [] ≡ option_map_or (λ (v : Written). v.body) (option_map bare_of o) []
-      by None = refl
-      by (Some f) = refl
+  written_body x n = search arith
 
   pub body_other : (n : ℕ) → (n ≡ ino → ⊥) → ((m : MadeFile) → made_file s n ≡ Some m → made_body s' m ≡ made_body s m) → body_in s' n ≡ body_in s n
   body_other n d same =

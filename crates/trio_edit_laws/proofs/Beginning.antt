@@ -1,10 +1,9 @@
 -- A session that has nothing yet.
-use Rattle.std.proofs.Common.{◌≡◌, ℕ, zero, suc, ◌≤◌, List, [], None, Some, refl, sym, ap, subst}
+use Rattle.std.proofs.Common.{◌≡◌, ℕ, zero, suc, ◌≤◌, List, [], None, Some, refl, sym, ap, subst, arith}
 use native.Mathlib.Omega.{arith}
 use Rattle.trio_lists.specs.Lists.{In}
-use Rattle.trio_layout.specs.Case.{Case}
-use Rattle.trio_layout.specs.JudgedFiles.{fronts, judged_files, new_entries}
-use Rattle.trio_layout.specs.Survey.{Front, Met, descend}
+use Rattle.trio_layout.specs.JudgedFiles.{fronts, judged_files}
+use Rattle.trio_layout.specs.Survey.{Met, descend}
 use Rattle.trio_lease.specs.Shown.{Shown}
 use Rattle.trio_desk.specs.Call.{DeskSeen}
 use Rattle.trio_desk.specs.Out.{OutAlike, nothing_out}
@@ -20,16 +19,7 @@ use Rattle.trio_edit_laws.specs.TakingLaws.{Begins, BeginsToEdit}
 -- where nothing is out nothing is handed in
 hands_in-nothing : (desk : DeskSeen) → OutAlike desk.out nothing_out → HandsInAll desk.out nothing []
 hands_in-nothing desk none = record {
-  given = record {
-    writes = λ w i. absurd i;
-    holds = λ h i. absurd i;
-    pages = λ p i. absurd i;
-    numbers = λ n i. absurd i;
-    writes_once = refl;
-    holds_once = refl;
-    pages_once = refl;
-    numbers_once = refl;
-  };
+  given = search arith;
   writes = λ w i. subst (λ l. In w l) none.writes i;
   reads = λ r. (λ i. subst (λ l. In r l) none.reads i, λ i. absurd i);
   reads_once = refl;
@@ -49,8 +39,7 @@ fronts-none kids (suc k) = ap (descend kids) (fronts-none kids k)
 
 judged-nothing : (desk : DeskSeen) (back : List Shown) → judged_files (case_as_stands desk (record { parcel = nothing; back = back })) ≡ []
 unfolding judged_files
-judged-nothing desk back =
-    let c : Case = case_as_stands desk (record { parcel = nothing; back = back }) in ap (λ (f : Front). f.passed) (fronts-none (new_entries c) (suc c.inodes))
+judged-nothing desk back = search (arith, fronts-none)
 
 -- of a session whose fields are empty
 emptied-may : (desk : DeskSeen) (s : SessionSeen) → Begins desk s → MayEdit desk (emptied s)
@@ -66,15 +55,7 @@ emptied-may desk s b = record {
   own = λ page i. absurd i;
   once = refl;
   placed = zero_least;
-  made = record {
-    numbers = λ mf i. absurd i;
-    gone = λ mf i. absurd i;
-    once = refl;
-    apart = λ mf i. absurd i;
-    slots = λ mf i. absurd i;
-    judged = λ nodes rows p mf i. absurd i;
-    only = λ nodes rows p x i new. absurd new;
-  };
+  made = search arith;
   entries = λ nodes rows x file l p i reads j out. absurd (subst (λ z. In x z) (judged-nothing desk []) i);
   held = λ h nodes rows i p. absurd i;
 }

@@ -1,23 +1,19 @@
 -- A directory that has blank pages behind its others: they list nothing.
-use Rattle.std.proofs.Common.{◌≡◌, ℕ, zero, suc, ◌+◌, ◌-◌, ◌*◌, ◌<◌, List, [], ◌∷◌, ◌++◌, Some, Result, Ok, refl, ap, ◌∙◌, sym, inl, inr, arith}
-use Rattle.std.specs.Int.{w32}
-use Rattle.trio_page.specs.Field.{number_at, zeros}
+use Rattle.std.proofs.Common.{◌≡◌, ℕ, zero, suc, ◌<◌, List, [], ◌∷◌, ◌++◌, Some, Result, Ok, refl, ap, ◌∙◌, inl, inr, arith}
+use Rattle.trio_page.specs.Field.{zeros}
 use Rattle.trio_page.proofs.Zeros.{number32_zeros, slice-zeros}
 use Rattle.trio_rights.specs.declared.kind.Kind.TheVariants.{Directory}
-use Rattle.trio_lists.specs.Lists.{In, both, gathered, gathered_below, result_then}
+use Rattle.trio_lists.specs.Lists.{In, both, gathered, gathered_below}
 use Rattle.trio_layout.specs.declared.slot.SlotRead.TheVariants.{Empty}
-use Rattle.trio_layout.specs.Core.{Core, Location, page_of}
-use Rattle.trio_layout.specs.Entries.{Listed, body_in_slot, entries_on, listed_at, slot_bytes, slot_entries, with_names_apart}
+use Rattle.trio_layout.specs.Core.{Core, page_of}
+use Rattle.trio_layout.specs.Entries.{body_in_slot, entries_on, listed_at, slot_bytes, slot_entries}
 use Rattle.trio_layout.specs.Slot.{slot_of}
-use Rattle.trio_layout.specs.Within.{entries_where, entries_within}
+use Rattle.trio_layout.specs.Within.{entries_within}
 use Rattle.trio_layout.proofs.SlotLemmas.{empty_value}
 
 -- each slot of a page of zeros is empty
 pub slot_of-zeros : (inodes t : ℕ) → t < 16 → slot_of inodes (slot_bytes t (zeros 4096)) ≡ Empty
-slot_of-zeros inodes t lt =
-    let size : 256 * t + 256 - 256 * t ≡ 256 = omega arith in
-    let bytes : slot_bytes t (zeros 4096) ≡ zeros 256 = slice-zeros 4096 (256 * t) (256 * t + 256) (omega arith) ∙ ap zeros size in
-    sym (empty_value inodes (slot_bytes t (zeros 4096)) (ap (number_at w32 0) bytes ∙ number32_zeros 0 256 (omega arith)))
+slot_of-zeros inodes t lt = search (arith, slice-zeros, empty_value, number32_zeros)
 
 below-none : {Y E : Type 0} (f : ℕ → Result (List Y) E) (n : ℕ) → ((k : ℕ) → k < n → f k ≡ Ok []) → gathered_below f n ≡ Ok []
 below-none f zero h = refl
@@ -40,9 +36,4 @@ gathered-more f f' (x ∷ xs) more same blank =
 -- the entries of a directory whose pages are as they were stay, where blank ones come behind them
 pub entries_within-blank : (core core' : Core) (blocks more : List ℕ) → core'.inodes ≡ core.inodes → ((n : ℕ) → In n blocks → page_of core' n ≡ page_of core n) → ((n : ℕ) → In n more → page_of core' n ≡ Some (zeros 4096))
     → entries_within core' Directory (blocks ++ more) ≡ entries_within core Directory blocks
-entries_within-blank core core' blocks more inodes same blank =
-    let f : ℕ → Result (List Listed) Location = λ page. entries_where core.inodes page (page_of core page) in
-    let f' : ℕ → Result (List Listed) Location = λ page. entries_where core'.inodes page (page_of core' page) in
-    ap (result_then with_names_apart)
-    (gathered-more f f' blocks more (λ n i. ap (λ k. entries_where k n (page_of core' n)) inodes ∙ ap (entries_where core.inodes n) (same n i))
-    (λ n i. ap (entries_where core'.inodes n) (blank n i) ∙ entries_on-zeros core'.inodes n))
+entries_within-blank core core' blocks more inodes same blank = search (arith, gathered-more, entries_on-zeros)

@@ -13,8 +13,9 @@ use Rattle.trio_session.specs.Layout.{Home, InSlot, Leased, page_in, with_body, 
 use Rattle.trio_session.specs.Seen.{MadeFile, SessionSeen, home_in, made_file}
 use Rattle.trio_edit_laws.specs.Written.{MayEdit}
 use Rattle.trio_edit_laws.proofs.Keeps.{IsSlotPage, bodied_files, made_at, slot_held}
-use Rattle.trio_edit_laws.proofs.Pages.{length-page_in, page_in-with_body, page_in-with_page_else, page_in-with_page_same}
+use Rattle.trio_edit_laws.proofs.Pages.{length-page_in}
 use Rattle.trio_edit_laws.proofs.Touches.{Alters, Touches, alters_bodied, alters_more, bare_files, touches_page, touches_then}
+use Rattle.trio_session.proofs.Pages.{page_in-with_body, page_in-with_page_else, page_in-with_page_same}
 
 -- where the body of a file stands
 abbrev home_of : Option MadeFile → ℕ → Home
@@ -47,11 +48,7 @@ module _ (desk : DeskSeen) (s : SessionSeen) (ino : ℕ) (body : List ℕ) (touc
 
   -- a page that isn't that slot's is as it was written
   pub page_bodied : (n : ℕ) → ((mf : MadeFile) → made_file s ino ≡ Some mf → n ≡ mf.page → ⊥) → page_in (with_body_at (home_in s ino) body written) n ≡ page_in written n
-  page_bodied n none = by (made_file s ino) refl
-    where
-      by : (q : Option MadeFile) → made_file s ino ≡ q → page_in (with_body_at (home_of q ino) body written) n ≡ page_in written n
-      by None k = page_in-with_body ino n body written
-      by (Some mf) found = page_in-with_page_else mf.page n (with_part (256 * mf.slot + 192) body (page_in written mf.page)) written (λ same. none mf found same)
+  page_bodied n none = search (arith, page_in-with_body, page_in-with_page_else)
 
   -- and the slot has the body
   pub slot_bodied : (mf : MadeFile) → made_file s ino ≡ Some mf → page_in (with_body_at (home_in s ino) body written) mf.page ≡ with_body_in mf.slot body (page_in s.parcel mf.page)

@@ -1,5 +1,5 @@
 -- Numbers that the elements of a list have, each once, where one element is replaced.
-use Rattle.std.proofs.Common.{◌≡◌, ℕ, zero, suc, true, List, [], ◌∷◌, ◌++◌, Some, sym, refl, ap, ◌∙◌, subst, inl, inr, ◌⊎◌}
+use Rattle.std.proofs.Common.{◌≡◌, ℕ, zero, suc, true, List, [], ◌∷◌, ◌++◌, Some, sym, refl, ap, ◌∙◌, subst, inl, inr, ◌⊎◌, arith}
 use Rattle.std.specs.Prelude.{slice_get, slice_set}
 use Rattle.std.specs.List.{flat_map}
 use Rattle.std.proofs.lemmas.Bool.{and_from, and_parts}
@@ -17,9 +17,7 @@ pub record AreApart (xs ys : List ℕ) : Type 0 where
   pub apart : (n : ℕ) → In n xs → In n ys → ⊥
 
 pub apart_from : (xs ys : List ℕ) → are_new [] (xs ++ ys) ≡ true → AreApart xs ys
-apart_from xs ys new =
-    let p = and_parts (are_new [] xs) (are_new xs ys) (sym (are_new-append [] xs ys) ∙ new) in
-    record { left = p.0; right = are_new-fewer [] xs ys (λ n i. absurd i) p.1; apart = λ n i j. are_new-before n xs ys p.1 j i }
+apart_from xs ys new = search (arith, and_parts, are_new-append, are_new-fewer, are_new-before)
 
 pub apart_to : (xs ys : List ℕ) → AreApart xs ys → are_new [] (xs ++ ys) ≡ true
 apart_to xs ys a = are_new-append [] xs ys ∙ and_from (are_new [] xs) (are_new xs ys) a.left (new_beside xs ys a.right (λ n i j. a.apart n j i))
@@ -28,17 +26,12 @@ module _ {X : Type 0} (g : X → List ℕ) where
   -- the numbers of one element differ
   pub place_new : (xs : List X) (i : ℕ) (x : X) → are_new [] (flat_map g xs) ≡ true → slice_get xs i ≡ Some x → are_new [] (g x) ≡ true
   place_new [] i x new e = absurd (slice_get-In [] i x e)
-  place_new (z ∷ zs) zero x new e =
-      let same : Some z ≡ Some x = e in
-      ap (λ w. are_new [] (g w)) (sym (let t : z ≡ x = cc same in t)) ∙ (apart_from (g z) (flat_map g zs) new).left
+  place_new (z ∷ zs) zero x new e = search (arith, slice_get-In, apart_from)
   place_new (z ∷ zs) (suc i) x new e = place_new zs i x (apart_from (g z) (flat_map g zs) new).right e
 
   -- elements at two places have no number in common
   pub places_apart : (xs : List X) (i j : ℕ) (x y : X) (n : ℕ) → are_new [] (flat_map g xs) ≡ true → slice_get xs i ≡ Some x → slice_get xs j ≡ Some y → (i ≡ j → ⊥) → In n (g x) → In n (g y) → ⊥
-  places_apart [] i j x y n new ei ej d a b = absurd (none i ei)
-    where
-      none : (k : ℕ) → slice_get [] k ≡ Some x → ⊥
-      none k e = slice_get-In [] k x e
+  places_apart [] i j x y n new ei ej d a b = search (arith, slice_get-In, apart_from, In-flat)
   places_apart (z ∷ zs) zero zero x y n new ei ej d a b = absurd (d refl)
   places_apart (z ∷ zs) zero (suc j) x y n new ei ej d a b =
       let same : Some z ≡ Some x = ei in

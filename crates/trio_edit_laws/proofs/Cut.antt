@@ -1,5 +1,5 @@
 -- The index pages of a file that was cut.
-use Rattle.std.proofs.Common.{◌≡◌, ℕ, suc, ◌+◌, ◌-◌, ◌*◌, ◌/◌, ◌%◌, ◌<◌, ◌≤◌, true, List, [], length, take, drop, get_or, sym, ap, ◌∙◌, subst, inl, inr, arith}
+use Rattle.std.proofs.Common.{◌≡◌, ℕ, suc, ◌+◌, ◌-◌, ◌*◌, ◌/◌, ◌%◌, ◌<◌, ◌≤◌, true, List, [], length, take, drop, get_or, sym, ap, ◌∙◌, subst, arith}
 use Rattle.std.specs.Int.{w64}
 use Rattle.std.proofs.lemmas.Bool.{cases_lt}
 use Rattle.std.proofs.lemmas.List.{get_or-take, get_or_past, length-take}
@@ -28,13 +28,7 @@ says-cut b index blocks c s once are many le =
     let within : left ≤ length index = omega arith in
     let fits : c + (length blocks - c) ≤ 511 * length index = omega arith in
     let b1 : Parcel = unnamed index c (length blocks - c) b in
-    let s1 : IndexSays (page_in b1) index (λ j. get_or (take c blocks) j 0) (λ k. get_or index (suc k) 0) =
-    says-unnamed index c (length blocks - c) b (λ j. get_or blocks j 0) (λ j. get_or (take c blocks) j 0) (λ k. get_or index (suc k) 0) s once are fits
-    (λ j a l. take_at_past blocks c j a)
-    (λ j out. elim (cases_lt j c) [
-      | inl l ↦ get_or-take c blocks j 0 l
-      | inr g ↦ take_at_past blocks c j g ∙ sym (get_or_past blocks j 0 (elim out [ inl l ↦ omega arith | inr more ↦ omega arith ]))
-    ]) in
+    let s1 : IndexSays (page_in b1) index (λ j. get_or (take c blocks) j 0) (λ k. get_or index (suc k) 0) = search (arith, says-unnamed, take_at_past, cases_lt, get_or-take, get_or_past) in
     let are1 : AreInHand b1 index =
     unnamed-through index (λ b b'. (ns : List ℕ) → AreInHand b ns → AreInHand b' ns) (in_hand-through index) index c (length blocks - c) b fits (λ n h. h) index are in
     let link : ℕ → ℕ = λ k. get_or (take left index) (suc k) 0 in

@@ -1,5 +1,5 @@
 -- A file that is cut.
-use Rattle.std.proofs.Common.{◌≡◌, ℕ, ◌^◌, ◌<◌, ◌≤◌, List, [], length, take, get_or, Some, refl, sym, ap, ◌∙◌, subst, inl, inr, ◌⊎◌, arith}
+use Rattle.std.proofs.Common.{◌≡◌, ℕ, ◌^◌, ◌<◌, ◌≤◌, List, [], length, take, Some, refl, sym, ap, ◌∙◌, subst, inl, inr, ◌⊎◌, arith}
 use Rattle.std.specs.List.{flat_map}
 use Rattle.std.proofs.lemmas.Bool.{cases_lt}
 use Rattle.std.proofs.lemmas.List.{get_or-take, get_or_past, length-take}
@@ -9,7 +9,7 @@ use Rattle.trio_lists.proofs.Members.{In-cases, In-left, In-right, flat_map-same
 use Rattle.trio_lists.proofs.New.{are_new-take}
 use Rattle.trio_layout.specs.declared.body.Body.{Body}
 use Rattle.trio_layout.specs.Body.{block_count}
-use Rattle.trio_layout.specs.Chain.{Chain, index_count}
+use Rattle.trio_layout.specs.Chain.{index_count}
 use Rattle.trio_nodes.specs.Apply.{resized}
 use Rattle.trio_desk.specs.Call.{DeskSeen}
 use Rattle.trio_desk.specs.Out.{Parcel}
@@ -93,24 +93,14 @@ module _ (desk : DeskSeen) (s : SessionSeen) (ino size : ℕ) (m : MayEdit desk 
           apart = λ n i j. apart.apart n (In-take (index_count (block_count size)) n index i) (In-take (block_count size) n blocks j);
         });
         from = λ n i. inl (elim (In-cases n index_left blocks_left i) [ inl a ↦ in_index n a | inr b ↦ in_blocks n b ]);
-        small_head = elim (cases_lt 0 (index_count (block_count size))) [
-          | inl some ↦ (let e : get_or index_left 0 0 ≡ c.body.head = get_or-take (index_count (block_count size)) index 0 0 some ∙ sym c.head in omega (arith, head, e))
-          | inr none ↦ (let e : get_or index_left 0 0 ≡ 0 = get_or_past index_left 0 0 (omega (arith, index_many, none)) in omega (arith, e))
-        ];
+        small_head = search (arith, cases_lt, c, get_or-take, get_or_past, index_many);
         small_size = (let n = narrow.1 in omega (arith, n, was, le));
         whole_size = refl;
       }
 
   bodied : IsBodied s (cut ino size s) ino size index_left blocks_left written
   unfolding cut
-  bodied =
-      let chain' : Chain = record { index = index_left; blocks = blocks_left } in
-      let k = with_chain-beside s ino chain' in
-      record {
-        parcel = refl;
-        anew = record { lib = k.lib; creds = k.creds; reads = k.reads; chains = refl; made = refl; cleared = k.cleared; indexed = k.indexed };
-        placed = subst (λ n. n ≤ length s.parcel.pages) (sym k.placed) m.placed;
-      }
+  bodied = search (arith, with_chain-beside)
 
   none_grows : Regular ≡ Directory → GrowsBlank s (cut ino size s) ino (record { index = index_left; blocks = blocks_left }) index
   none_grows e = absurd (let wrong : Regular ≡ Directory = e in cc wrong)

@@ -1,5 +1,5 @@
 -- An edit of one open file: the nodes that it shows, and that all that a session keeps holds after it.
-use Rattle.std.proofs.Common.{◌≡◌, ◌≢◌, ℕ, true, false, eqb, Bool, List, [], take, Option, Some, Ok, sym, refl, ap, ◌∙◌, subst, inl, inr}
+use Rattle.std.proofs.Common.{◌≡◌, ◌≢◌, ℕ, true, false, eqb, Bool, List, [], take, Option, Some, Ok, sym, refl, ap, ◌∙◌, subst, inl, inr, arith}
 use Rattle.std.specs.Prelude.{is_some, map, if◌then◌else◌}
 use Rattle.std.specs.List.{find, flat_map}
 use Rattle.std.specs.Option.{unwrap_or}
@@ -56,9 +56,6 @@ module _ (desk : DeskSeen) (s s' : SessionSeen) (ino : ℕ) (kind : Kind) (m : M
   abbrev c : Case
   c = case_as_stands desk (in_hand s)
 
-  abbrev c' : Case
-  c' = case_as_stands desk (in_hand s')
-
   abbrev core' : Core
   core' = core_in_hand desk (in_hand s')
 
@@ -72,9 +69,6 @@ module _ (desk : DeskSeen) (s s' : SessionSeen) (ino : ℕ) (kind : Kind) (m : M
 
     abbrev pub met : Met
     met = r.is.met
-
-    abbrev then' : FileRead
-    then' = record { body = e.read; chain = e.chain; entries = r.file.entries }
 
     old_pages : pages_listed r.file ≡ pages_of_chain (chain_in s ino)
     old_pages = ap pages_of_chain r.chain
@@ -220,9 +214,7 @@ module _ (desk : DeskSeen) (s s' : SessionSeen) (ino : ℕ) (kind : Kind) (m : M
   met_then x directory i w =
       let y : MadeFile = w.was in
       let met' : ℕ → Kind → ℕ → ℕ → List ℕ → Met = λ n k p t b. record { ino = n; kind = k; parent = directory; page = p; slot = t; body = b } in
-      let same : (b : List ℕ) → met' y.ino y.kind y.page y.slot b ≡ met' x.ino x.kind x.page x.slot b =
-      λ b. ap (λ n. met' n y.kind y.page y.slot b) (sym w.ino_is) ∙ ap (λ k. met' x.ino k y.page y.slot b) (sym w.kind_is)
-      ∙ ap (λ p. met' x.ino x.kind p y.slot b) (sym w.page_is) ∙ ap (λ t. met' x.ino x.kind x.page t b) (sym w.slot_is) in
+      let same : (b : List ℕ) → met' y.ino y.kind y.page y.slot b ≡ met' x.ino x.kind x.page x.slot b = search arith in
       let body : body_in_slot y.slot (page_in s'.parcel y.page) ≡ made_body s' x =
       ap (λ t. body_in_slot t (page_in s'.parcel y.page)) (sym w.slot_is) ∙ ap (λ p. body_in_slot x.slot (page_in s'.parcel p)) (sym w.page_is) in
       elim (cases_eq y.ino ino) [
@@ -319,9 +311,7 @@ module _ (desk : DeskSeen) (s s' : SessionSeen) (ino : ℕ) (kind : Kind) (m : M
               let y = map-In (listed_with n e.body) l f.entries k in
               elim (cases_eq y.0.entry.ino n) [
                 | inr d ↦ subst (λ z. In z f.entries) (sym (y.2 ∙ if_other y.0.entry.ino n (record y.0 { body = e.body }) y.0 d)) y.1
-                | inl same ↦
-                    let at : l.entry.ino ≡ n = ap (λ (z : Listed). z.entry.ino) (y.2 ∙ if_same y.0.entry.ino n (record y.0 { body = e.body }) y.0 same) ∙ same in
-                    absurd (not_new (subst (λ z. In z (ino_numbers s.parcel.inodes)) (sym at) (is_among-In n (ino_numbers s.parcel.inodes) new)))
+                | inl same ↦ search (arith, if_same, is_among-In)
               ]
 
   -- ---- all that is kept

@@ -1,5 +1,5 @@
 -- What a desk gives now is none of what a session has in hand.
-use Rattle.std.proofs.Common.{ℕ, List, ◌++◌, sym, ◌∙◌, subst}
+use Rattle.std.proofs.Common.{ℕ, List, ◌++◌, sym, ◌∙◌, subst, arith}
 use Rattle.std.specs.Prelude.{map}
 use Rattle.trio_lists.specs.Lists.{In}
 use Rattle.trio_lists.proofs.Members.{In-left, In-map, In-right, map-In}
@@ -31,7 +31,4 @@ module _ (out : LibOut) (b : Parcel) (back : List Shown) (all : HandsInAll out b
 
   -- and one that is read
   pub read_out : (n : ℕ) → In n (map (λ (f : Shown). f.ino) back) → In n (files_out out)
-  read_out n i =
-      let f = map-In (λ (x : Shown). x.ino) n back i in
-      In-left n (writes ++ reads) (hold_numbers out.holds)
-      (In-right n writes reads (subst (λ k. In k reads) (sym f.2) (In-map (λ (r : Shown). r.ino) f.0 out.reads ((all.reads f.0).1 f.1))))
+  read_out n i = search (arith, map-In, In-left, In-right, In-map)

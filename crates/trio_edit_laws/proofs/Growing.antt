@@ -17,9 +17,8 @@ use Rattle.trio_lists.proofs.Members.{In-cases, In-left, In-right, flat_map-same
 use Rattle.trio_lists.proofs.New.{are_new-take}
 use Rattle.trio_layout.specs.declared.body.Body.{Body}
 use Rattle.trio_layout.specs.Body.{block_count, size_fits}
-use Rattle.trio_layout.specs.Chain.{Chain, index_count}
+use Rattle.trio_layout.specs.Chain.{index_count}
 use Rattle.trio_lease.specs.Views.{fresh_sheet}
-use Rattle.trio_lease.specs.declared.parts.FreshParts.{FreshParts}
 use Rattle.trio_nodes.specs.Apply.{largest_size, resized}
 use Rattle.trio_desk.specs.Call.{DeskSeen}
 use Rattle.trio_desk.specs.Contents.{AreWithinLimits}
@@ -150,9 +149,7 @@ module _ (desk : DeskSeen) (s : SessionSeen) (ino : ℕ) (kind : Kind) (size : �
   apart = apart_from index blocks c.once
 
   apart_more : AreApart index_more blocks_more
-  apart_more =
-      apart_from index_more blocks_more
-      (ap (are_new []) (take-append-drop more taken) ∙ are_new-take (growth (length blocks) (block_count size)) [] (spare_pages s) (new-drop s.placed (page_numbers s.parcel.pages) m.all.given.pages_once))
+  apart_more = search (arith, apart_from, take-append-drop, are_new-take, new-drop)
 
   index_once : are_new [] index_now ≡ true
   index_once = apart_to index index_more (record { left = apart.left; right = apart_more.left; apart = λ n i j. apart_taken n (In-left n index blocks i) (in_index n j) })
@@ -286,14 +283,7 @@ module _ (desk : DeskSeen) (s : SessionSeen) (ino : ℕ) (kind : Kind) (size : �
 
   pub bodied : IsBodied s (grown ino size s) ino size index_now blocks_now written
   unfolding grown
-  bodied =
-      let chain' : Chain = record { index = index_now; blocks = blocks_now } in
-      let k = with_chain-beside s ino chain' in
-      record {
-        parcel = refl;
-        anew = record { lib = k.lib; creds = k.creds; reads = k.reads; chains = refl; made = refl; cleared = k.cleared; indexed = k.indexed };
-        placed = (let all : length (page_numbers s.parcel.pages) ≡ length s.parcel.pages = length-map s.parcel.pages (λ (x : FreshParts). x.no.0) in let q = m.placed in omega (arith, all, q, room, length-drop s.placed (page_numbers s.parcel.pages)));
-      }
+  bodied = search (arith, with_chain-beside, length-map, length-drop)
 
   -- a page that is no slot's is as it was written
   pub page_after : (n : ℕ) → ((mf : MadeFile) → made_file s ino ≡ Some mf → n ≡ mf.page → ⊥) → page_in (grown ino size s).parcel n ≡ page_in written n

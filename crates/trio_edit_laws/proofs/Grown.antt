@@ -15,18 +15,11 @@ use Rattle.trio_edit_laws.proofs.Links.{AreInHand, AreWhole, Kept, in_hand-throu
 
 pub small-zeros : (n : ℕ) → IsBytes (zeros n)
 unfolding zeros
-small-zeros n i =
-    elim (cases_lt i n) [
-      | inl lt ↦ (let e : get_or (zeros n) i 0 ≡ 0 = get_or-replicate n i 0 0 lt in omega (arith, e))
-      | inr le ↦ (let e : get_or (zeros n) i 0 ≡ 0 = get_or_past (zeros n) i 0 (omega (arith, length-zeros n)) in omega (arith, e))
-    ]
+small-zeros n i = search (arith, cases_lt, get_or-replicate, get_or_past, length-zeros)
 
 -- an index page of a chain and of further index pages is one of either
 at_either : (page : ℕ → List ℕ) (index more : List ℕ) (k : ℕ) → ((n : ℕ) → In n more → page n ≡ zeros 4096) → length index ≤ k → k < length (index ++ more) → page (get_or (index ++ more) k 0) ≡ zeros 4096
-at_either page index more k clear le lt =
-    let e : get_or (index ++ more) k 0 ≡ get_or more (k - length index) 0 = get_or-append_right index more (length index) k 0 refl le in
-    let within : k - length index < length more = omega (arith, length-append index more) in
-    ap page e ∙ clear (get_or more (k - length index) 0) (get_or-In more (k - length index) 0 within)
+at_either page index more k clear le lt = search (arith, get_or-append_right, length-append, get_or-In)
 
 -- further index pages that are all zero say no numbers and no links
 pub says-more : (page : ℕ → List ℕ) (index more blocks : List ℕ) → IndexSays page index (λ j. get_or blocks j 0) (λ k. get_or index (suc k) 0) → ((n : ℕ) → In n more → page n ≡ zeros 4096)

@@ -27,7 +27,8 @@ use Rattle.trio_laws.proofs.session.LentFiles.{lent_page}
 use Rattle.trio_session.specs.Layout.{page_in}
 use Rattle.trio_session.specs.Seen.{SessionSeen, in_hand}
 use Rattle.trio_edit_laws.specs.Written.{MayEdit}
-use Rattle.trio_edit_laws.proofs.Pages.{page_of-hand, sheet_at}
+use Rattle.trio_edit_laws.proofs.Pages.{page_of-hand}
+use Rattle.trio_session.proofs.Pages.{sheet_at}
 
 pub lent_is_core : (sizes : Sizes) (f : Shown) (n : ℕ) → IsWellLent sizes f → In n (numbers_of_file f) → is_core sizes.range n ≡ true
 lent_is_core sizes f n well i =

@@ -1,13 +1,12 @@
 -- All that is in hand stays, but for bytes: what is possible, that it is in order, and that it is all that is out.
-use Rattle.std.proofs.Common.{◌≡◌, ℕ, ◌≤◌, length, List, [], ◌++◌, Some, sym, ap, ◌∙◌, subst, inl, inr}
+use Rattle.std.proofs.Common.{◌≡◌, ℕ, ◌≤◌, length, List, [], Some, sym, ap, ◌∙◌, subst, inl, inr, arith}
 use Rattle.std.specs.Prelude.{◌↔◌, map}
 use Rattle.std.proofs.lemmas.List.{length-map}
 use Rattle.std.proofs.lemmas.Simd.{map-map}
 use Rattle.trio_rights.specs.Bundle.{Written}
 use Rattle.trio_lists.specs.Lists.{In, are_new}
 use Rattle.trio_layout.specs.Core.{page_of}
-use Rattle.trio_lease.specs.Shown.{Shown, LentFile}
-use Rattle.trio_lease.specs.Views.{written_in}
+use Rattle.trio_lease.specs.Shown.{Shown}
 use Rattle.trio_lease.specs.declared.parts.FreshParts.{FreshParts}
 use Rattle.trio_lease.specs.declared.parts.HoldParts.{HoldParts}
 use Rattle.trio_lease.specs.declared.parts.InoParts.{InoParts}
@@ -55,16 +54,10 @@ module _ (desk : DeskSeen) (s s' : SessionSeen) (m : MayEdit desk s) (h : HandSt
       ]
 
   pub takes_more : TakesMore desk (in_hand s) (in_hand s')
-  takes_more =
-      possible_with_less desk s.parcel s'.parcel s.reads s'.reads
-      (λ x i. subst (λ l. In x (l ++ s'.reads)) (sym h.lent) (subst (λ l. In x (lent_files s.parcel.writes ++ l)) (sym h.reads) i))
-      (λ k i. subst (λ l. In k l) (sym h.holds) i) (λ n i. subst (λ (l : List InoParts). In n (ino_numbers l)) (sym h.inodes) i)
+  takes_more = search (arith, possible_with_less)
 
   bundle_numbers : map (λ (x : Written). x.ino) (bundle_of s'.parcel).writes ≡ map (λ (x : Written). x.ino) (bundle_of s.parcel).writes
-  bundle_numbers =
-      map-map (λ (x : Written). x.ino) (λ (x : LentFile). written_in x.stands) s'.parcel.writes
-      ∙ h.numbers
-      ∙ sym (map-map (λ (x : Written). x.ino) (λ (x : LentFile). written_in x.stands) s.parcel.writes)
+  bundle_numbers = search (arith, map-map)
 
   pub in_order : IsInOrder desk (in_hand s')
   in_order = record {
@@ -86,13 +79,7 @@ module _ (desk : DeskSeen) (s s' : SessionSeen) (m : MayEdit desk s) (h : HandSt
   is_on = record {
     lib = h.lib ∙ m.on.lib;
     creds = h.creds ∙ m.on.creds;
-    out = record {
-      writes = m.on.out.writes ∙ sym h.lent;
-      reads = m.on.out.reads ∙ sym h.reads;
-      holds = m.on.out.holds ∙ sym h.holds;
-      pages = λ n. subst (λ l. In n desk.out.pages ↔ In n l) (sym h.fresh) (m.on.out.pages n);
-      numbers = λ n. subst (λ (l : List InoParts). In n desk.out.numbers ↔ In n (ino_numbers l)) (sym h.inodes) (m.on.out.numbers n);
-    };
+    out = search arith;
     writes = λ x i. m.on.writes x (subst (λ l. In x l) h.lent i);
     reads = λ x i. m.on.reads x (subst (λ l. In x l) h.reads i);
     core = λ n i. m.on.core n (subst (λ l. In n l) h.fresh i);
@@ -121,9 +108,7 @@ module _ (desk : DeskSeen) (s s' : SessionSeen) (m : MayEdit desk s) (h : HandSt
       ((λ j. a.0 (subst (λ l. In f.ino l) h.numbers j)), (λ j. a.1 (subst (λ l. In f.ino (hold_numbers l)) h.holds j)))
 
   pub chains_beside : length s'.chains ≡ length s'.parcel.writes
-  chains_beside =
-      h.chains ∙ m.beside
-      ∙ sym (length-map s.parcel.writes (λ (x : LentFile). x.lent)) ∙ ap (λ (l : List Shown). length l) (sym h.lent) ∙ length-map s'.parcel.writes (λ (x : LentFile). x.lent)
+  chains_beside = search (arith, length-map)
 
   pub within_pages : (n : ℕ) → n ≤ length s.parcel.pages → n ≤ length s'.parcel.pages
   within_pages n le = subst (λ k. n ≤ k)

@@ -1,5 +1,5 @@
 -- All that is out is in hand, each thing once: on its desk a session has it so, by what it has alone.
-use Rattle.std.proofs.Common.{◌≡◌, ℕ, true, List, [], ◌++◌, length, sym, ap, ◌∙◌, subst, inl, inr}
+use Rattle.std.proofs.Common.{◌≡◌, ℕ, true, List, [], ◌++◌, length, sym, ◌∙◌, subst, inl, inr, arith}
 use Rattle.std.specs.Prelude.{map}
 use Rattle.std.specs.List.{flat_map}
 use Rattle.std.proofs.lemmas.List.{map-append}
@@ -17,7 +17,7 @@ use Rattle.trio_lease.specs.declared.parts.FreshParts.{FreshParts}
 use Rattle.trio_lease.specs.declared.parts.InoParts.{InoParts}
 use Rattle.trio_desk.specs.Call.{DeskSeen}
 use Rattle.trio_desk.specs.Contents.{Sizes}
-use Rattle.trio_desk.specs.Out.{AreWhole, IsFreshAllotment, IsFreshLease, LibOut, Parcel, SameFile, file_numbers, hold_numbers, ino_numbers, numbers_of_file, page_numbers, pages_out, zero_page}
+use Rattle.trio_desk.specs.Out.{AreWhole, IsFreshAllotment, IsFreshLease, LibOut, Parcel, SameFile, file_numbers, hold_numbers, ino_numbers, numbers_of_file, page_numbers, pages_out}
 use Rattle.trio_desk.specs.Ready.{HandsInAll}
 use Rattle.trio_session.specs.Seen.{SessionSeen, IsOn}
 
@@ -74,20 +74,7 @@ hands_in desk s on is = record {
 
 -- a write lease stands as it was lent
 pub fresh_stands : (lib : LibNo) (ino : ℕ) (sizes : Sizes) (out : LibOut) (f : LentFile) → IsFreshLease lib ino sizes out (Write f) → StandsAsLent f
-fresh_stands lib ino sizes out f fresh =
-    let e = fresh.is.as_lent in
-    record {
-      same = record {
-        lib = ap (λ (x : Shown). x.lib) e;
-        ino = ap (λ (x : Shown). x.ino) e;
-        kind = ap (λ (x : Shown). x.kind) e;
-        entry = ap (λ (x : Shown). x.entry) e;
-        index = ap (λ (x : Shown). map (λ p. p.no) x.index) e;
-        blocks = ap (λ (x : Shown). map (λ p. p.no) x.blocks) e;
-      };
-      index = subst (λ (x : Shown). AreWhole x.index) (sym e) fresh.is.well.index;
-      blocks = subst (λ (x : Shown). AreWhole x.blocks) (sym e) fresh.is.well.blocks;
-    }
+fresh_stands lib ino sizes out f fresh = search arith
 
 -- what is handed in stays sound with an allotment
 module _ (lib : LibNo) (sizes : Sizes) (out : LibOut) (b : Parcel) (back : List Shown) (all : HandsInAll out b back) (given : Allotted) (fresh : IsFreshAllotment lib sizes out given) where
@@ -109,9 +96,7 @@ module _ (lib : LibNo) (sizes : Sizes) (out : LibOut) (b : Parcel) (back : List 
   number_there n i = let p = map-In (λ (x : InoParts). x.no) n b.inodes i in subst (λ m. In m out.numbers) (sym p.2) (all.given.numbers p.0 p.1)
 
   zero_whole : (p : FreshParts) → In p given.pages.items → length p.page ≡ 4096
-  zero_whole p i =
-      let z = map-In (zero_page lib) p pages (subst (λ l. In p l) fresh.pages_are i) in
-      ap (λ (x : FreshParts). length x.page) z.2 ∙ length-zeros 4096
+  zero_whole p i = search (arith, map-In, length-zeros)
 
   pub sound_allotted : IsSound (record b { pages = b.pages ++ given.pages.items; inodes = b.inodes ++ given.inodes.items }) back
   sound_allotted =
@@ -121,11 +106,7 @@ module _ (lib : LibNo) (sizes : Sizes) (out : LibOut) (b : Parcel) (back : List 
         whole = λ p i. elim (In-cases p b.pages given.pages.items i) [ inl j ↦ was.whole p j | inr j ↦ zero_whole p j ];
         files_once = was.files_once;
         holds_once = was.holds_once;
-        pages_once =
-            ap (are_new []) (map-append (λ (x : FreshParts). x.no.0) b.pages given.pages.items)
-            ∙ once (page_numbers b.pages) pages was.pages_once (are_new-fewer (page_numbers b.pages) (pages_out out) pages page_there fresh.pages);
-        numbers_once =
-            ap (are_new []) (map-append (λ (x : InoParts). x.no) b.inodes given.inodes.items)
-            ∙ once (ino_numbers b.inodes) numbers was.numbers_once (are_new-fewer (ino_numbers b.inodes) out.numbers numbers number_there fresh.numbers);
+        pages_once = search (arith, map-append, once, are_new-fewer, page_there);
+        numbers_once = search (arith, map-append, once, are_new-fewer, number_there);
         reads_once = was.reads_once;
       }

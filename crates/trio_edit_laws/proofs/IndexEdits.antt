@@ -44,26 +44,14 @@ module _ (page page' : ℕ → List ℕ) (index : List ℕ) (number link : ℕ �
   within = let w = s.whole k lt in omega (arith, w)
 
   pub put_whole : (i : ℕ) → i < length index → length (page' (get_or index i 0)) ≡ 4096
-  put_whole i l = elim (now i l) [
-    | inl e ↦ ap (λ j. length (page' (get_or index j 0))) e ∙ ap length puts.here ∙ length-with_number w64 at v (page (get_or index k 0)) within ∙ s.whole k lt
-    | inr d ↦ ap length d.1 ∙ s.whole i l
-  ]
+  put_whole i l = search (arith, now, length-with_number, within)
 
   pub put_small : (i : ℕ) → i < length index → IsBytes (page' (get_or index i 0))
-  put_small i l = elim (now i l) [
-    | inl e ↦ subst IsBytes (sym (ap (λ j. page' (get_or index j 0)) e ∙ puts.here)) (small-with_number at v (page (get_or index k 0)) within (s.small k lt))
-    | inr d ↦ subst IsBytes (sym d.1) (s.small i l)
-  ]
+  put_small i l = search (arith, now, small-with_number, within)
 
   -- another field, and the field that was written
   pub put_field : (i f : ℕ) → i < length index → (i ≡ k → (f + 8 ≤ at) ⊎ (at + 8 ≤ f)) → number_at w64 f (page' (get_or index i 0)) ≡ number_at w64 f (page (get_or index i 0))
-  put_field i f l apart = elim (now i l) [
-    | inl e ↦ ap (λ j. number_at w64 f (page' (get_or index j 0))) e ∙ ap (number_at w64 f) puts.here ∙ (elim (apart e) [
-      | inl below ↦ number_at-below w64 w64 at f v (page (get_or index k 0)) within below
-      | inr above ↦ number_at-above w64 w64 at f v (page (get_or index k 0)) within above
-    ]) ∙ ap (λ j. number_at w64 f (page (get_or index j 0))) (sym e)
-    | inr d ↦ ap (number_at w64 f) d.1
-  ]
+  put_field i f l apart = search (arith, now, number_at-below, within, number_at-above)
 
   pub put_here : v < 2 ^ 64 → number_at w64 at (page' (get_or index k 0)) ≡ v
   put_here small = ap (number_at w64 at) puts.here ∙ number64_again at v (page (get_or index k 0)) within small
@@ -72,41 +60,10 @@ module _ (page page' : ℕ → List ℕ) (index : List ℕ) (number link : ℕ �
 pub says-number : (page page' : ℕ → List ℕ) (index : List ℕ) (number link number' : ℕ → ℕ) (k v : ℕ) → IndexSays page index number link → are_new [] index ≡ true → k < 511 * length index → v < 2 ^ 64
     → Puts page page' (get_or index (k / 511) 0) (with_number w64 (8 * (k % 511)) v (page (get_or index (k / 511) 0)))
     → number' k ≡ v → ((j : ℕ) → (j ≡ k → ⊥) → number' j ≡ number j) → IndexSays page' index number' link
-says-number page page' index number link number' k v s once lt small puts same other =
-    let q : ℕ = k / 511 in
-    let at : ℕ = 8 * (k % 511) in
-    let below : q < length index = omega arith in
-    let fits : at + 8 ≤ 4096 = omega arith in
-    record {
-      whole = put_whole page page' index number link q at v s once below fits puts;
-      small = put_small page page' index number link q at v s once below fits puts;
-      numbers = λ j l. elim (cases_eq j k) [
-        | inl e ↦
-            ap (λ i. number_at w64 (8 * (i % 511)) (page' (get_or index (i / 511) 0))) e
-            ∙ put_here page page' index number link q at v s once below fits puts small ∙ sym same ∙ ap number' (sym e)
-        | inr d ↦
-            put_field page page' index number link q at v s once below fits puts (j / 511) (8 * (j % 511)) (omega arith) (λ e. elim (cases_lt (j % 511) (k % 511)) [
-              | inl less ↦ inl (omega arith)
-              | inr more ↦ elim (cases_eq (j % 511) (k % 511)) [ inl f ↦ absurd (d (omega arith)) | inr ne ↦ inr (omega arith) ]
-            ])
-            ∙ s.numbers j l ∙ sym (other j d)
-      ];
-      links = λ i l. put_field page page' index number link q at v s once below fits puts i 4088 l (λ e. inr (omega arith)) ∙ s.links i l;
-    }
+says-number page page' index number link number' k v s once lt small puts same other = search (arith, Puts, put_whole, put_small, cases_eq, put_here, put_field, cases_lt)
 
 -- a link is written
 pub says-link : (page page' : ℕ → List ℕ) (index : List ℕ) (number link link' : ℕ → ℕ) (k v : ℕ) → IndexSays page index number link → are_new [] index ≡ true → k < length index → v < 2 ^ 64
     → Puts page page' (get_or index k 0) (with_number w64 4088 v (page (get_or index k 0)))
     → link' k ≡ v → ((j : ℕ) → (j ≡ k → ⊥) → link' j ≡ link j) → IndexSays page' index number link'
-says-link page page' index number link link' k v s once lt small puts same other =
-    let fits : 4088 + 8 ≤ 4096 = omega arith in
-    record {
-      whole = put_whole page page' index number link k 4088 v s once lt fits puts;
-      small = put_small page page' index number link k 4088 v s once lt fits puts;
-      numbers = λ j l. put_field page page' index number link k 4088 v s once lt fits puts (j / 511) (8 * (j % 511)) (omega arith) (λ e. inl (omega arith)) ∙ s.numbers j l;
-      links = λ i l. elim (cases_eq i k) [
-        | inl e ↦ ap (λ j. number_at w64 4088 (page' (get_or index j 0))) e ∙ put_here page page' index number link k 4088 v s once lt fits puts small ∙ sym same ∙ ap link' (sym e)
-        | inr d ↦
-            put_field page page' index number link k 4088 v s once lt fits puts i 4088 l (λ e. absurd (d e)) ∙ s.links i l ∙ sym (other i d)
-      ];
-    }
+says-link page page' index number link link' k v s once lt small puts same other = search (arith, Puts, put_whole, put_small, put_field, cases_eq, put_here)

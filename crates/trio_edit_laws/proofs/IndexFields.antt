@@ -1,14 +1,13 @@
 -- The fields of a file's index pages, by the numbers of these pages: what index pages say, and index pages that say it.
-use Rattle.std.proofs.Common.{◌≡◌, ℕ, zero, suc, ◌+◌, ◌-◌, ◌*◌, ◌/◌, ◌%◌, ◌^◌, ◌<◌, ◌≤◌, ◌&&◌, nat_lt, Bool, true, false, eqb, min, List, [], ◌∷◌, ◌++◌, length, take, drop, get_or, Option, Some, refl, sym, ap, ◌∙◌, subst, inl, inr, arith, eq-eqb}
+use Rattle.std.proofs.Common.{◌≡◌, ℕ, zero, suc, ◌+◌, ◌-◌, ◌*◌, ◌/◌, ◌%◌, ◌^◌, ◌<◌, ◌≤◌, nat_lt, Bool, true, eqb, min, List, [], ◌∷◌, ◌++◌, length, take, drop, get_or, Option, Some, refl, sym, ap, ◌∙◌, subst, inl, inr, arith, eq-eqb}
 use Rattle.std.specs.Int.{w64, to_le_bytes}
 use Rattle.std.specs.List.{list_all, flat_map}
-use Rattle.std.specs.Str.{bytes_eq}
 use Rattle.std.proofs.lemmas.Bool.{and_parts, cases_lt, lt-ltb, ne_eqb}
 use Rattle.std.proofs.lemmas.Option.{cond_some}
 use Rattle.std.proofs.lemmas.List.{get_or-drop, get_or-take, get_or_default, get_or_past, length-take, length-drop, length-append, get_or_append_left, get_or-append_right}
 use Rattle.std.proofs.lemmas.List.Sums.{list_all-from_AllPass}
 use Rattle.std.proofs.lemmas.Grind.{same_number_lists}
-use Rattle.trio_page.specs.Field.{number_at, with_number, with_part, zeros}
+use Rattle.trio_page.specs.Field.{number_at, with_number, with_part}
 use Rattle.trio_page.proofs.Fields.{get_or-with_part_above, get_or-with_part_below, get_or-with_part_in, length-to_le_bytes}
 use Rattle.trio_page.proofs.Cursor.{IsBytes, length-zeros, number_at-lt, wide64}
 use Rattle.trio_lists.specs.Lists.{In}
@@ -17,7 +16,7 @@ use Rattle.trio_layout.specs.declared.range.CoreRange.{CoreRange}
 use Rattle.trio_layout.specs.Chain.{index_count}
 use Rattle.trio_layout.specs.Core.{Core, page_of}
 use Rattle.trio_layout.specs.Range.{is_core}
-use Rattle.trio_layout.specs.Index.{Index, index_at, index_bytes, index_fits, index_of, link_fits, numbers_in}
+use Rattle.trio_layout.specs.Index.{Index, index_bytes, index_of, link_fits, numbers_in}
 use Rattle.trio_layout.specs.inner.Fields.{AreNumbers}
 use Rattle.trio_layout.proofs.Reading.{bytes_eq-true}
 use Rattle.trio_layout.proofs.IndexPages.{found, index_value, length-numbers_in, numbers_in-at, only}
@@ -43,11 +42,7 @@ small-to_le_bytes n (suc (suc (suc (suc (suc (suc (suc zero))))))) = omega arith
 small-to_le_bytes n (suc (suc (suc (suc (suc (suc (suc (suc i)))))))) = omega arith
 
 small-append : (xs ys : List ℕ) → IsBytes xs → IsBytes ys → IsBytes (xs ++ ys)
-small-append xs ys a b i =
-    elim (cases_lt i (length xs)) [
-      | inl lt ↦ rw (get_or_append_left xs ys 0 i lt) (a i)
-      | inr le ↦ rw (get_or-append_right xs ys (length xs) i 0 refl le) (b (i - length xs))
-    ]
+small-append xs ys a b i = search (arith, cases_lt, get_or_append_left, get_or-append_right)
 
 pub small-with_part : (at : ℕ) (part bytes : List ℕ) → at + length part ≤ length bytes → IsBytes part → IsBytes bytes → IsBytes (with_part at part bytes)
 small-with_part at part bytes fits a b i =
@@ -77,22 +72,11 @@ length-flat_map (n ∷ ns) = omega (arith, length-append (to_le_bytes w64 n) (fl
 
 small-index_bytes : (i : Index) → IsBytes (index_bytes i)
 unfolding index_bytes
-small-index_bytes i =
-    small-append (flat_map (to_le_bytes w64) (i.numbers ++ zeros (511 - length i.numbers))) (to_le_bytes w64 i.next)
-    (small-flat_map (i.numbers ++ zeros (511 - length i.numbers))) (small-to_le_bytes i.next)
+small-index_bytes i = search (arith, small-append, small-flat_map, small-to_le_bytes)
 
 length-index_bytes : (i : Index) → length i.numbers ≤ 511 → length (index_bytes i) ≡ 4096
 unfolding index_bytes
-length-index_bytes i room =
-    let ns : List ℕ = i.numbers ++ zeros (511 - length i.numbers) in
-    omega (
-      arith,
-      length-append (flat_map (to_le_bytes w64) ns) (to_le_bytes w64 i.next),
-      length-to_le_bytes w64 i.next,
-      length-flat_map ns,
-      length-append i.numbers (zeros (511 - length i.numbers)),
-      length-zeros (511 - length i.numbers),
-    )
+length-index_bytes i room = search (arith, length-append, length-to_le_bytes, length-flat_map, length-zeros)
 
 -- ---- one index page
 
@@ -113,41 +97,14 @@ narrow-numbers_in used bytes small =
 -- what an index page says that is read
 pub says-index_of : (used : ℕ) (last : Bool) (range : CoreRange) (bytes : List ℕ) (i : Index) → used ≤ 511 → index_of used last range bytes ≡ Some i → PageSays bytes i.numbers i.next
 unfolding index_of
-says-index_of used last range bytes i room e =
-    let x : Index = index_at used bytes in
-    let c = cond_some (bytes_eq bytes (index_bytes x) && index_fits used last range x) x i e in
-    let p = and_parts (bytes_eq bytes (index_bytes x)) (index_fits used last range x) c.0 in
-    let spelled : bytes ≡ index_bytes x = bytes_eq-true bytes (index_bytes x) p.0 in
-    let many : length x.numbers ≡ used = length-numbers_in used bytes in
-    let whole : length bytes ≡ 4096 = ap length spelled ∙ length-index_bytes x (omega (arith, many)) in
-    let small : IsBytes bytes = subst IsBytes (sym spelled) (small-index_bytes x) in
-    let are = (only used last range bytes x room (record {
-      spelled = spelled;
-      narrow = narrow-numbers_in used bytes small;
-      narrow_next = number_at-lt w64 (2 ^ 64) wide64 4088 bytes small;
-      fits = p.1;
-    })).numbers in
-    let here : PageSays bytes x.numbers x.next =
-    record {
-      whole = whole;
-      small = small;
-      numbers_at = λ k lt. elim (cases_lt k used) [
-        | inl below ↦ sym (numbers_in-at used k bytes below)
-        | inr above ↦ (are k lt).1 above ∙ sym (get_or_past (numbers_in used bytes) k 0 (omega (arith, many)))
-      ];
-      link_at = refl;
-    } in
-    subst (λ (y : Index). PageSays bytes y.numbers y.next) c.1 here
+says-index_of used last range bytes i room e = search (arith, cond_some, and_parts, bytes_eq-true, length-numbers_in, length-index_bytes, small-index_bytes, only, narrow-numbers_in, number_at-lt, wide64, PageSays, cases_lt, numbers_in-at, get_or_past)
 
 -- a page that says what fits is read
 pub index_of-says : (used : ℕ) (last : Bool) (range : CoreRange) (bytes ns : List ℕ) (next : ℕ) → used ≤ 511 → PageSays bytes ns next → length ns ≡ used
     → ((n : ℕ) → In n ns → is_core range n ≡ true) → link_fits last range next ≡ true
     → index_of used last range bytes ≡ Some (record { numbers = ns; next = next })
 index_of-says used last range bytes ns next room s many core fits =
-    let are : AreNumbers used range bytes = λ i lt. (
-      λ below. ap (is_core range) (s.numbers_at i lt) ∙ core (get_or ns i 0) (get_or-In ns i 0 (omega (arith, many))),
-      λ above. s.numbers_at i lt ∙ get_or_past ns i 0 (omega (arith, many)),
-    ) in
+    let are : AreNumbers used range bytes = search (arith, get_or-In, get_or_past) in
     let is = found used last range bytes s.small s.whole room are (ap (link_fits last range) s.link_at ∙ fits) in
     let len = length-numbers_in used bytes in
     let same : numbers_in used bytes ≡ ns =
@@ -201,15 +158,7 @@ pub named-says : (core : Core) (page : ℕ → List ℕ) (index blocks : List �
 named-says core page index blocks many at core_index core_blocks s = record { many = many; each = one }
   where
     fits : (k : ℕ) → k < length index → link_fits (eqb (suc k) (length index)) core.range (get_or index (suc k) 0) ≡ true
-    fits k lt =
-        elim (cases_lt (suc k) (length index)) [
-          | inl more ↦
-              let ne : eqb (suc k) (length index) ≡ false = ne_eqb (suc k) (length index) (λ e. omega arith) in
-              ap (λ t. link_fits t core.range (get_or index (suc k) 0)) ne ∙ core_index (get_or index (suc k) 0) (get_or-In index (suc k) 0 more)
-          | inr end ↦
-              let here : suc k ≡ length index = omega arith in
-              ap (λ t. link_fits t core.range (get_or index (suc k) 0)) (eq-eqb (suc k) (length index) here) ∙ eq-eqb (get_or index (suc k) 0) 0 (get_or_past index (suc k) 0 end)
-        ]
+    fits k lt = search (arith, cases_lt, ne_eqb, get_or-In, eq-eqb, get_or_past)
 
     one : (k : ℕ) → k < length index → NamesShare core index blocks k
     one k lt =
@@ -240,12 +189,4 @@ named-says core page index blocks many at core_index core_blocks s = record { ma
 
 -- what other bytes of other pages leave
 pub says-same : (page page' : ℕ → List ℕ) (index : List ℕ) (number link : ℕ → ℕ) → ((n : ℕ) → In n index → page' n ≡ page n) → IndexSays page index number link → IndexSays page' index number link
-says-same page page' index number link same s = record {
-  whole = λ k lt. ap length (at k lt) ∙ s.whole k lt;
-  small = λ k lt. subst IsBytes (sym (at k lt)) (s.small k lt);
-  numbers = λ j lt. ap (number_at w64 (8 * (j % 511))) (at (j / 511) (omega arith)) ∙ s.numbers j lt;
-  links = λ k lt. ap (number_at w64 4088) (at k lt) ∙ s.links k lt;
-}
-  where
-    at : (k : ℕ) → k < length index → page' (get_or index k 0) ≡ page (get_or index k 0)
-    at k lt = same (get_or index k 0) (get_or-In index k 0 lt)
+says-same page page' index number link same s = search (arith, get_or-In)

@@ -1,5 +1,5 @@
 -- An edit of one open file, written or made: what it shows, and that the session may go on.
-use Rattle.std.proofs.Common.{◌≡◌, ℕ, ◌<◌, ◌≤◌, true, false, eqb, length, List, [], ◌++◌, get_or, Option, Some, None, sym, refl, ap, ◌∙◌, subst, inl, inr, ◌⊎◌}
+use Rattle.std.proofs.Common.{◌≡◌, ℕ, ◌<◌, ◌≤◌, true, false, eqb, length, List, [], ◌++◌, get_or, Option, Some, None, sym, refl, ap, ◌∙◌, subst, inl, inr, ◌⊎◌, arith}
 use Rattle.std.specs.Prelude.{map, slice_set, if◌then◌else◌}
 use Rattle.std.specs.List.{find, flat_map}
 use Rattle.std.specs.Option.{option_map, option_map_or}
@@ -35,7 +35,7 @@ use Rattle.trio_laws.specs.session.Listed.{listed_in_hand}
 use Rattle.trio_laws.specs.session.Takes.{pages_in_hand}
 use Rattle.trio_laws.proofs.session.JudgedReads.{map-fixed}
 use Rattle.trio_session.specs.Layout.{page_in}
-use Rattle.trio_session.specs.Seen.{MadeFile, SessionSeen, body_in, chain_in, every_number, in_hand, made_body, made_chained, made_file, open_kind, with_chain, written_file}
+use Rattle.trio_session.specs.Seen.{MadeFile, SessionSeen, body_in, chain_in, every_number, in_hand, made_body, made_chained, made_file, open_kind, written_file}
 use Rattle.trio_session.proofs.Lists.{if_other, if_same}
 use Rattle.trio_edit_laws.specs.Written.{ChainsRead, IsInSlot, MayEdit, ReadsBy, chained}
 use Rattle.trio_edit_laws.proofs.Anew.{FilesAnew, IsAnew, bare_anew, bare_of, body-made, body_other, chain_here, chain_other, made_here, made_none, number_is, numbers_anew, open_anew, written_body}
@@ -185,11 +185,7 @@ module _ (desk : DeskSeen) (s s' : SessionSeen) (ino : ℕ) (kind : Kind) (m : M
   IsNoSlot n = (mf : MadeFile) → made_file s ino ≡ Some mf → n ≡ mf.page → ⊥
 
   pub page_stays : (n : ℕ) → (In n e.touched → ⊥) → IsNoSlot n → page_in s'.parcel n ≡ page_in s.parcel n
-  page_stays n out none =
-      e.alters.other n (λ k. elim k [
-        | inl t ↦ out t
-        | inr i ↦ (let q = slot_page (made_file s ino) n refl i in none q.0 q.1 q.2)
-      ])
+  page_stays n out none = search (arith, slot_page)
 
   -- a block of a directory is as it was, or has the body in a slot
   block_page : (d n : ℕ) → open_kind s d ≡ Some Directory → In n (chain_in s d).blocks
@@ -257,30 +253,14 @@ module _ (desk : DeskSeen) (s s' : SessionSeen) (ino : ℕ) (kind : Kind) (m : M
   }
 
   pub files_anew : FilesAnew s.parcel s'.parcel ino
-  files_anew = by (made_file s ino) refl
-    where
-      by : (q : Option MadeFile) → made_file s ino ≡ q → FilesAnew s.parcel s'.parcel ino
-      by None none = lease_anew none
-      by (Some mf) found = slot_anew mf found
+  files_anew = search (arith, slot_anew)
 
   pub numbers_now : file_numbers s'.parcel.writes ≡ file_numbers s.parcel.writes
   numbers_now = numbers_anew s.parcel s'.parcel ino files_anew
 
   -- all in hand stays
   pub hand_now : HandStays s s'
-  hand_now = record {
-    lib = e.anew.lib;
-    creds = e.anew.creds;
-    reads = e.anew.reads;
-    chains = ap (λ (l : List Chain). length l) e.anew.chains ∙ length-with_chain s ino e.chain;
-    numbers = numbers_now;
-    lent = e.alters.lent;
-    pages = e.alters.pages;
-    fresh = e.alters.fresh;
-    holds = e.alters.holds;
-    inodes = e.alters.inodes;
-    given = e.alters.given;
-  }
+  hand_now = search (arith, length-with_chain, numbers_now)
 
   pub core_stays : (n : ℕ) → (In n e.touched → ⊥) → IsNoSlot n → page_of (core_in_hand desk (in_hand s')) n ≡ page_of (core_in_hand desk (in_hand s)) n
   core_stays n out none = page_same desk s s' m hand_now n (page_stays n out none)
@@ -325,13 +305,7 @@ module _ (desk : DeskSeen) (s s' : SessionSeen) (ino : ℕ) (kind : Kind) (m : M
   -- ---- chains
 
   mine_reads : ReadsBy desk s' ino kind
-  mine_reads = record {
-    body = e.read;
-    is = ap (body_of kind desk.sizes.range) body_now ∙ e.is;
-    count = e.count ∙ ap (λ (c : Chain). length c.blocks) (sym chain_now);
-    head = e.head ∙ ap (λ (c : Chain). get_or c.index 0 0) (sym chain_now);
-    named = subst (λ (c : Chain). IsNamed (core_in_hand desk (in_hand s')) c.index c.blocks) (sym chain_now) e.named;
-  }
+  mine_reads = search (arith, body_now, chain_now)
 
   other_reads : (n : ℕ) (k : Kind) → open_kind s n ≡ Some k → (n ≡ ino → ⊥) → ReadsBy desk s' n k
   other_reads n k on d =
@@ -359,20 +333,10 @@ module _ (desk : DeskSeen) (s s' : SessionSeen) (ino : ℕ) (kind : Kind) (m : M
       }
 
   pub chains_now : ChainsRead desk s'
-  chains_now n k on' =
-      let on : open_kind s n ≡ Some k = sym (open_now n) ∙ on' in
-      elim (cases_eq n ino) [
-        | inr d ↦ other_reads n k on d
-        | inl same ↦
-            let is : k ≡ kind = some_one (open_kind s ino) k kind (ap (open_kind s) (sym same) ∙ on) o in
-            subst (λ x. ReadsBy desk s' x k) (sym same) (subst (ReadsBy desk s' ino) (sym is) mine_reads)
-      ]
+  chains_now n k on' = search (arith, open_now, cases_eq, other_reads, some_one, mine_reads)
 
   chained_now : open_chains s' ≡ slice_set (open_chains s) place.place e.chain
-  chained_now =
-      ap (λ l. l ++ map (λ (x : MadeFile). x.chain) s'.made) e.anew.chains
-      ∙ ap (λ l. (with_chain ino e.chain s).chains ++ map (λ (x : MadeFile). x.chain) l) e.anew.made
-      ∙ place.now e.chain
+  chained_now = search (arith, place)
 
   -- a page of the chains is one of the file's new chain, or of those before
   pub chained_from : (n : ℕ) → In n (chained s') → In n (pages_of_chain e.chain) ⊎ In n (chained s)
@@ -419,16 +383,7 @@ module _ (desk : DeskSeen) (s s' : SessionSeen) (ino : ℕ) (kind : Kind) (m : M
 
   -- a block of a directory is one of its blocks still
   block_now : (d n : ℕ) → open_kind s d ≡ Some Directory → In n (chain_in s d).blocks → In n (chain_in s' d).blocks
-  block_now d n od i =
-      elim (cases_eq d ino) [
-        | inr differ ↦ subst (λ (c : Chain). In n c.blocks) (sym (chain_else d differ)) i
-        | inl same ↦
-            let is : kind ≡ Directory = some_one (open_kind s ino) kind Directory o (ap (open_kind s) (sym same) ∙ od) in
-            let g = e.grows is in
-            subst (λ k. In n (chain_in s' k).blocks) (sym same)
-            (subst (λ (c : Chain). In n c.blocks) (sym chain_now)
-            (subst (λ l. In n l) (sym g.are) (In-left n (chain_in s ino).blocks g.more (subst (λ k. In n (chain_in s k).blocks) same i))))
-      ]
+  block_now d n od i = search (arith, cases_eq, chain_else, some_one, chain_now, In-left)
 
   pub slots_now : (x : MadeFile) → In x s'.made → IsInSlot s' x
   slots_now x i =
@@ -440,21 +395,13 @@ module _ (desk : DeskSeen) (s s' : SessionSeen) (ino : ℕ) (kind : Kind) (m : M
         block = subst (λ n. In n (chain_in s' at.directory).blocks) (sym w.page_is) (block_now at.directory w.was.page at.opens at.block);
         slot = subst (λ n. n < 16) (sym w.slot_is) at.slot;
         entry = at.entry;
-        says =
-            ap (λ n. slot_of every_number (slot_bytes x.slot (page_in s'.parcel n))) w.page_is
-            ∙ ap (λ k. slot_of every_number (slot_bytes k (page_in s'.parcel w.was.page))) w.slot_is
-            ∙ front_stays at.directory w.was.page at.opens at.block every_number w.was.slot
-            ∙ at.says;
+        says = search (arith, front_stays);
         number = at.number ∙ sym w.ino_is;
         kind = at.kind ∙ sym w.kind_is;
       }
 
   pub made_numbers_now : map (λ (x : MadeFile). x.ino) (s'.made ++ s'.cleared) ≡ map (λ (x : MadeFile). x.ino) (s.made ++ s.cleared)
-  made_numbers_now =
-      map-append (λ (x : MadeFile). x.ino) s'.made s'.cleared
-      ∙ ap (λ l. l ++ map (λ (x : MadeFile). x.ino) s'.cleared) (ap (map (λ (x : MadeFile). x.ino)) e.anew.made ∙ made_numbers-with_chain s ino e.chain)
-      ∙ ap (λ l. map (λ (x : MadeFile). x.ino) s.made ++ map (λ (x : MadeFile). x.ino) l) e.anew.cleared
-      ∙ sym (map-append (λ (x : MadeFile). x.ino) s.made s.cleared)
+  made_numbers_now = search (arith, map-append, made_numbers-with_chain)
 
   pub made_once_now : are_new [] (map (λ (x : MadeFile). x.ino) (s'.made ++ s'.cleared)) ≡ true
   made_once_now = ap (are_new []) made_numbers_now ∙ m.made.once

@@ -14,8 +14,8 @@ use Rattle.trio_desk.specs.Ready.{bundle_of}
 use Rattle.trio_session.specs.Layout.{linked, numbered, page_in, unlinked, unnamed, with_block_number, with_number_in, with_page}
 use Rattle.trio_edit_laws.proofs.IndexFields.{IndexSays}
 use Rattle.trio_edit_laws.proofs.IndexEdits.{Puts, says-link, says-number, with_at, with_at-here, with_at-other}
-use Rattle.trio_edit_laws.proofs.Pages.{page_in-with_page_else, page_in-with_page_same, pages-with_page}
 use Rattle.trio_edit_laws.proofs.Touches.{Touches, touches_nothing, touches_page, touches_then}
+use Rattle.trio_session.proofs.Pages.{page_in-with_page_else, page_in-with_page_same, pages-with_page}
 
 -- what holds through writes of these pages, one after another, each as long as it was
 pub record IsThrough (own : List ℕ) (R : Parcel → Parcel → Type 0) : Type 0 where
@@ -80,13 +80,7 @@ says-numbered index k (n ∷ rest) b blocks link s once are len le small =
     let w : List ℕ = with_number w64 (8 * (k % 511)) n (page_in b q) in
     let last : get_or (blocks ++ n ∷ []) k 0 ≡ n =
     get_or-append_right blocks (n ∷ []) (length blocks) k 0 refl (omega arith) ∙ (let z : k - length blocks ≡ 0 = omega arith in ap (λ i. get_or (n ∷ []) i 0) z) in
-    let others : (j : ℕ) → (j ≡ k → ⊥) → get_or (blocks ++ n ∷ []) j 0 ≡ get_or blocks j 0 =
-    λ j d. elim (cases_lt j k) [
-      | inl less ↦ get_or_append_left blocks (n ∷ []) 0 j (omega arith)
-      | inr more ↦
-          let past : k < j = elim (cases_lt k j) [ inl l ↦ l | inr g ↦ absurd (d (omega arith)) ] in
-          get_or_past (blocks ++ n ∷ []) j 0 (omega (arith, length-append blocks (n ∷ []))) ∙ sym (get_or_past blocks j 0 (omega arith))
-    ] in
+    let others : (j : ℕ) → (j ≡ k → ⊥) → get_or (blocks ++ n ∷ []) j 0 ≡ get_or blocks j 0 = search (arith, cases_lt, get_or_append_left, get_or_past, length-append) in
     let first = says-number (page_in b) (page_in (with_page q w b)) index (λ j. get_or blocks j 0) link (λ j. get_or (blocks ++ n ∷ []) j 0) k n s once (omega arith) (small n (inl refl))
     (puts-with_page q w b (are q (get_or-In index (k / 511) 0 below))) last others in
     let len' : length (blocks ++ n ∷ []) ≡ suc k = omega (arith, length-append blocks (n ∷ [])) in
@@ -97,12 +91,7 @@ says-numbered index k (n ∷ rest) b blocks link s once are len le small =
 pub says-unnamed : (index : List ℕ) (k more : ℕ) (b : Parcel) (number number' link : ℕ → ℕ) → IndexSays (page_in b) index number link → are_new [] index ≡ true → AreInHand b index
     → k + more ≤ 511 * length index → ((j : ℕ) → k ≤ j → j < k + more → number' j ≡ 0) → ((j : ℕ) → (j < k) ⊎ (k + more ≤ j) → number' j ≡ number j)
     → IndexSays (page_in (unnamed index k more b)) index number' link
-says-unnamed index k zero b number number' link s once are le zeroed same = record {
-  whole = s.whole;
-  small = s.small;
-  numbers = λ j l. s.numbers j l ∙ sym (same j (elim (cases_lt j k) [ inl a ↦ inl a | inr g ↦ inr (omega arith) ]));
-  links = s.links;
-}
+says-unnamed index k zero b number number' link s once are le zeroed same = search (arith, cases_lt, says-number, puts-with_page, get_or-In, with_at-here, with_at-other, in_hand-with_page, cases_eq)
 says-unnamed index k (suc more) b number number' link s once are le zeroed same =
     let q : ℕ = get_or index (k / 511) 0 in
     let below : k / 511 < length index = omega arith in
@@ -113,9 +102,7 @@ says-unnamed index k (suc more) b number number' link s once are le zeroed same 
     (λ j a c. zeroed j (omega arith) (omega arith))
     (λ j out. elim (cases_eq j k) [
       | inl e ↦ zeroed j (omega arith) (omega arith) ∙ sym (with_at-here k 0 number j e)
-      | inr d ↦
-          let apart : (j < k) ⊎ (k + suc more ≤ j) = elim out [ inl a ↦ inl (omega arith) | inr g ↦ inr (omega arith) ] in
-          same j apart ∙ sym (with_at-other k 0 number j d)
+      | inr d ↦ search (arith, with_at-other)
     ])
 
 -- ---- links
@@ -124,23 +111,11 @@ says-unnamed index k (suc more) b number number' link s once are le zeroed same 
 pub says-linked : (more : ℕ) (index : List ℕ) (i : ℕ) (b : Parcel) (number link : ℕ → ℕ) → IndexSays (page_in b) index number link → are_new [] index ≡ true → AreInHand b index
     → i + more ≡ length index → ((n : ℕ) → In n index → n < 2 ^ 64) → ((k : ℕ) → k < i → link k ≡ get_or index (suc k) 0) → ((k : ℕ) → suc k ≡ length index → link k ≡ 0)
     → IndexSays (page_in (linked (drop i index) b)) index number (λ k. get_or index (suc k) 0)
-says-linked zero index i b number link s once are many small before end =
-    let none : drop i index ≡ [] = drop_all i index (omega arith) in
-    subst (λ l. IndexSays (page_in (linked l b)) index number (λ k. get_or index (suc k) 0)) (sym none)
-    (record { whole = s.whole; small = s.small; numbers = s.numbers; links = λ k l. s.links k l ∙ before k (omega arith) })
+says-linked zero index i b number link s once are many small before end = search (arith, drop_all, drop-cons, cases_lt, get_or_past, says-link, get_or-In, puts-with_page, with_at-here, with_at-other, in_hand-with_page, cases_eq)
 says-linked (suc zero) index i b number link s once are many small before end =
     let one : drop i index ≡ get_or index i 0 ∷ [] =
     drop-cons index i 0 (omega arith) ∙ ap (λ l. get_or index i 0 ∷ l) (drop_all (suc i) index (omega arith)) in
-    subst (λ l. IndexSays (page_in (linked l b)) index number (λ k. get_or index (suc k) 0)) (sym one)
-    (record {
-      whole = s.whole;
-      small = s.small;
-      numbers = s.numbers;
-      links = λ k l. s.links k l ∙ (elim (cases_lt k i) [
-        | inl less ↦ before k less
-        | inr more ↦ end k (omega arith) ∙ sym (get_or_past index (suc k) 0 (omega arith))
-      ]);
-    })
+    search (arith, cases_lt, get_or_past)
 says-linked (suc (suc more)) index i b number link s once are many small before end =
     let n : ℕ = get_or index i 0 in
     let m : ℕ = get_or index (suc i) 0 in
@@ -163,10 +138,7 @@ says-linked (suc (suc more)) index i b number link s once are many small before 
 pub says-unlinked : (more : ℕ) (index : List ℕ) (i : ℕ) (b : Parcel) (number link link' : ℕ → ℕ) → IndexSays (page_in b) index number link → are_new [] index ≡ true → AreInHand b index
     → i + more ≡ length index → ((k : ℕ) → k < i → link' k ≡ link k) → ((k : ℕ) → i ≤ k → k < length index → link' k ≡ 0)
     → IndexSays (page_in (unlinked (drop i index) b)) index number link'
-says-unlinked zero index i b number link link' s once are many before behind =
-    let none : drop i index ≡ [] = drop_all i index (omega arith) in
-    subst (λ l. IndexSays (page_in (unlinked l b)) index number link') (sym none)
-    (record { whole = s.whole; small = s.small; numbers = s.numbers; links = λ k l. s.links k l ∙ sym (before k (omega arith)) })
+says-unlinked zero index i b number link link' s once are many before behind = search (arith, drop_all, says-link, puts-with_page, get_or-In, with_at-here, with_at-other, in_hand-with_page, cases_eq, drop-cons)
 says-unlinked (suc more) index i b number link link' s once are many before behind =
     let n : ℕ = get_or index i 0 in
     let within : i < length index = omega arith in
@@ -184,10 +156,7 @@ says-unlinked (suc more) index i b number link link' s once are many before behi
 -- ---- what else stays
 
 pub in_hand-through : (own : List ℕ) → IsThrough own (λ b b'. (ns : List ℕ) → AreInHand b ns → AreInHand b' ns)
-in_hand-through own = record {
-  none = λ b ns are. are;
-  step = λ n bytes b b' i keep then ns are. then ns (in_hand-with_page n bytes b ns are);
-}
+in_hand-through own = search (arith, in_hand-with_page)
 
 -- each of these pages has 4096 bytes
 abbrev pub AreWhole : Parcel → List ℕ → Type 0
@@ -204,10 +173,7 @@ kept-through own = record {
   none = λ b are whole. record { touches = touches_nothing (λ n. In n own) b; in_hand = are; whole = whole };
   step = λ n bytes b b' i keep then are whole.
       let one = touches_page (λ m. In m own) n bytes b i (keep (whole n i)) in
-      let still : AreWhole (with_page n bytes b) own = λ m j. elim (cases_eq m n) [
-        | inl e ↦ ap (λ k. length (page_in (with_page n bytes b) k)) e ∙ ap length (page_in-with_page_same n bytes b (are n i)) ∙ keep (whole n i)
-        | inr d ↦ ap length (page_in-with_page_else n m bytes b d) ∙ whole m j
-      ] in
+      let still : AreWhole (with_page n bytes b) own = search (arith, cases_eq, page_in-with_page_same, page_in-with_page_else) in
       let rest = then (in_hand-with_page n bytes b own are) still in
       record { touches = touches_then (λ m. In m own) b (with_page n bytes b) b' one rest.touches; in_hand = rest.in_hand; whole = rest.whole };
 }

@@ -20,7 +20,7 @@ use Rattle.trio_session.specs.Layout.{page_in}
 use Rattle.trio_session.specs.Seen.{SessionSeen, body_in, chain_in, in_hand}
 use Rattle.trio_edit_laws.specs.Written.{ReadsBy}
 use Rattle.trio_edit_laws.proofs.Opens.{pages_of_chain}
-use Rattle.trio_edit_laws.proofs.Pages.{sheet_at, sheets_of}
+use Rattle.trio_session.proofs.Pages.{sheet_at, sheets_of}
 
 -- what has all the pages of the first
 abbrev pub HasPagesOf : InHand → InHand → Type 0

@@ -2,7 +2,7 @@
 use Rattle.std.proofs.Common.{◌≡◌, ℕ, ◌+◌, ◌-◌, ◌<◌, Bool, true, false, eqb, List, [], ◌++◌, length, Option, Some, None, sym, refl, ap, ◌∙◌, subst, inl, inr, ◌⊎◌, arith}
 use Rattle.std.specs.Prelude.{map, is_some, slice_get, slice_index_or, slice_set, if◌then◌else◌}
 use Rattle.std.specs.List.{find, position}
-use Rattle.std.specs.Option.{option_map, option_map_or, option_or}
+use Rattle.std.specs.Option.{option_map, option_map_or}
 use Rattle.std.proofs.lemmas.Bool.{cases_eq, eqb-true}
 use Rattle.std.proofs.lemmas.List.{length-map, length-set, map-set, set-append_left, set-append_right}
 use Rattle.std.proofs.lemmas.Option.{slice_get-get_or, slice_get-map, slice_get_within}
@@ -94,12 +94,7 @@ made_found s ino kind m found is =
     record { file = m; found = found; among = f.0; number = eqb-true m.ino ino f.1; kind_is = is }
 
 pub opened : (s : SessionSeen) (ino : ℕ) (kind : Kind) → open_kind s ino ≡ Some kind → OpenWritten s ino kind ⊎ OpenMade s ino kind
-opened s ino kind e = by (made_file s ino) refl e
-  where
-    by : (o : Option MadeFile) → made_file s ino ≡ o → option_or (option_map (λ (m : MadeFile). m.kind) o) (option_map (λ (f : Shown). f.kind) (written_file s ino)) ≡ Some kind
-        → OpenWritten s ino kind ⊎ OpenMade s ino kind
-    by None none e = inl (written_found s ino kind none e)
-    by (Some m) found e = inr (made_found s ino kind m found (let t : Some m.kind ≡ Some kind = e in cc t))
+opened s ino kind e = search (arith, OpenWritten, OpenMade, written_found, made_found)
 
 -- ---- another chain of a file that was made
 
@@ -112,17 +107,13 @@ pub with_chain-made : (s : SessionSeen) (ino : ℕ) (chain : Chain) (m : MadeFil
 with_chain-made s ino chain m found = ap (λ o. rechained ino chain s (is_some o)) found
 
 pub with_chain-written : (s : SessionSeen) (ino : ℕ) (chain : Chain) (place : ℕ) → made_file s ino ≡ None → place_in s ino ≡ Some place → with_chain ino chain s ≡ record s { chains = slice_set s.chains place chain }
-with_chain-written s ino chain place none at =
-    ap (λ o. rechained ino chain s (is_some o)) none
-    ∙ ap (λ o. record s { chains = option_map_or (λ i. slice_set s.chains i chain) o s.chains }) at
+with_chain-written s ino chain place none at = search arith
 
 chained-ino : (ino : ℕ) (chain : Chain) (m : MadeFile) → (made_chained ino chain m).ino ≡ m.ino
 chained-ino ino chain m = elim (eqb m.ino ino) as (λ v. (if v then record m { chain = chain } else m).ino ≡ m.ino) [ true ↦ refl | false ↦ refl ]
 
 find-chained : (ino : ℕ) (chain : Chain) (n : ℕ) (ms : List MadeFile) → find (made_number n) (map (made_chained ino chain) ms) ≡ option_map (made_chained ino chain) (find (made_number n) ms)
-find-chained ino chain n ms =
-    find_map (made_number n) (made_chained ino chain) ms
-    ∙ ap (option_map (made_chained ino chain)) (find-same (λ m. eqb (made_chained ino chain m).ino n) (made_number n) ms (λ m. ap (λ k. eqb k n) (chained-ino ino chain m)))
+find-chained ino chain n ms = search (arith, find_map, find-same, chained-ino)
 
 -- every other file that was made is as it was
 pub made_file-other : (s : SessionSeen) (ino n : ℕ) (chain : Chain) → (n ≡ ino → ⊥) → made_file (with_chain ino chain s) n ≡ made_file s n
@@ -159,11 +150,7 @@ chains-made s ino chain m found = ap (λ v. (rechained ino chain s (is_some v)).
 -- all else of the session stays
 with_chain-keeps : {X : Type 0} (f : SessionSeen → X) (s : SessionSeen) (ino : ℕ) (chain : Chain) → ((ms : List MadeFile) → f (record s { made = ms }) ≡ f s) → ((cs : List Chain) → f (record s { chains = cs }) ≡ f s)
     → f (with_chain ino chain s) ≡ f s
-with_chain-keeps {X} f s ino chain made chains = by (is_some (made_file s ino))
-  where
-    by : (t : Bool) → f (rechained ino chain s t) ≡ f s
-    by true = made (map (made_chained ino chain) s.made)
-    by false = chains (option_map_or (λ i. slice_set s.chains i chain) (place_in s ino) s.chains)
+with_chain-keeps {X} f s ino chain made chains = search arith
 
 -- the session as an edit of one file leaves it, but for its chain
 pub record StaysBeside (s s' : SessionSeen) : Type 0 where
@@ -175,36 +162,15 @@ pub record StaysBeside (s s' : SessionSeen) : Type 0 where
   pub placed : s'.placed ≡ s.placed
 
 pub with_chain-beside : (s : SessionSeen) (ino : ℕ) (chain : Chain) → StaysBeside s (with_chain ino chain s)
-with_chain-beside s ino chain = record {
-  lib = with_chain-keeps (λ x. x.lib) s ino chain (λ ms. refl) (λ cs. refl);
-  creds = with_chain-keeps (λ x. x.creds) s ino chain (λ ms. refl) (λ cs. refl);
-  reads = with_chain-keeps (λ x. x.reads) s ino chain (λ ms. refl) (λ cs. refl);
-  cleared = with_chain-keeps (λ x. x.cleared) s ino chain (λ ms. refl) (λ cs. refl);
-  indexed = with_chain-keeps (λ x. x.indexed) s ino chain (λ ms. refl) (λ cs. refl);
-  placed = with_chain-keeps (λ x. x.placed) s ino chain (λ ms. refl) (λ cs. refl);
-}
+with_chain-beside s ino chain = search (arith, with_chain-keeps)
 
 -- as many chains stand beside the written files
 pub length-with_chain : (s : SessionSeen) (ino : ℕ) (chain : Chain) → length (with_chain ino chain s).chains ≡ length s.chains
-length-with_chain s ino chain = by (made_file s ino) refl (place_in s ino)
-  where
-    set : (q : Option ℕ) → length (option_map_or (λ i. slice_set s.chains i chain) q s.chains) ≡ length s.chains
-    set None = refl
-    set (Some i) = length-set s.chains i chain
-
-    by : (o : Option MadeFile) → made_file s ino ≡ o → (q : Option ℕ) → length (with_chain ino chain s).chains ≡ length s.chains
-    by (Some m) found q = ap (λ (l : List Chain). length l) (chains-made s ino chain m found)
-    by None none q = ap (λ (l : List Chain). length l) (chains-written s ino chain none) ∙ set (place_in s ino)
+length-with_chain s ino chain = search (arith, length-set, chains-made, chains-written)
 
 -- the numbers of those that were made stay
 pub made_numbers-with_chain : (s : SessionSeen) (ino : ℕ) (chain : Chain) → map (λ (m : MadeFile). m.ino) (with_chain ino chain s).made ≡ map (λ (m : MadeFile). m.ino) s.made
-made_numbers-with_chain s ino chain = by (made_file s ino) refl
-  where
-    by : (o : Option MadeFile) → made_file s ino ≡ o → map (λ (m : MadeFile). m.ino) (with_chain ino chain s).made ≡ map (λ (m : MadeFile). m.ino) s.made
-    by None none = ap (map (λ (m : MadeFile). m.ino)) (made-written s ino chain none)
-    by (Some m) found =
-        ap (λ (x : SessionSeen). map (λ (m : MadeFile). m.ino) x.made) (with_chain-made s ino chain m found)
-        ∙ map-map (λ (m : MadeFile). m.ino) (made_chained ino chain) s.made ∙ map_alike (λ m. (made_chained ino chain m).ino) (λ m. m.ino) s.made (chained-ino ino chain)
+made_numbers-with_chain s ino chain = search (arith, made-written, with_chain-made, map-map, map_alike, chained-ino)
 
 -- ---- the place of an open file among the chains
 
@@ -216,9 +182,7 @@ pub record OpenPlace (s : SessionSeen) (ino' : ℕ) : Type 0 where
   pub now : (other : Chain) → open_chains (with_chain ino' other s) ≡ slice_set (open_chains s) place other
 
 pub chain-written : (s : SessionSeen) (ino place : ℕ) → made_file s ino ≡ None → place_in s ino ≡ Some place → chain_in s ino ≡ slice_index_or s.chains place no_chain
-chain-written s ino place none at =
-    ap (λ o. option_map_or (λ (m : MadeFile). m.chain) o (option_map_or (λ i. slice_index_or s.chains i no_chain) (place_in s ino) no_chain)) none
-    ∙ ap (λ o. option_map_or (λ i. slice_index_or s.chains i no_chain) o no_chain) at
+chain-written s ino place none at = search arith
 
 pub chain-made : (s : SessionSeen) (ino : ℕ) (m : MadeFile) → made_file s ino ≡ Some m → chain_in s ino ≡ m.chain
 chain-made s ino m found = ap (λ o. option_map_or (λ (m : MadeFile). m.chain) o (option_map_or (λ i. slice_index_or s.chains i no_chain) (place_in s ino) no_chain)) found
@@ -231,9 +195,7 @@ written_place s ino kind beside w =
       number =
           left_at (file_numbers s.parcel.writes) (map (λ (m : MadeFile). m.ino) s.made) w.place ino
           (slice_get-map (λ (f : LentFile). f.stands.ino) s.parcel.writes w.place ∙ ap (option_map (λ (f : LentFile). f.stands.ino)) w.there ∙ ap Some w.number);
-      chain =
-          left_at s.chains (map (λ (m : MadeFile). m.chain) s.made) w.place (chain_in s ino)
-          (slice_get-get_or s.chains w.place no_chain lt ∙ ap Some (sym (chain-written s ino w.place w.none w.at)));
+      chain = search (arith, left_at, slice_get-get_or, chain-written);
       now = λ other. ap open_chains (with_chain-written s ino other w.place w.none w.at) ∙ sym (set-append_left s.chains (map (λ (m : MadeFile). m.chain) s.made) w.place other lt);
     }
 
@@ -297,12 +259,7 @@ pub with_chain-same : (s : SessionSeen) (ino : ℕ) (kind : Kind) → length s.c
     → ((with_chain ino (chain_in s ino) s).chains ≡ s.chains) × ((with_chain ino (chain_in s ino) s).made ≡ s.made)
 with_chain-same s ino kind beside once e =
     elim (opened s ino kind e) [
-      | inl w ↦
-          let lt : w.place < length s.chains = (let l = slice_get_within s.parcel.writes w.place w.file w.there in omega (arith, l, beside)) in (
-            ap (λ (x : SessionSeen). x.chains) (with_chain-written s ino (chain_in s ino) w.place w.none w.at)
-                ∙ set_same s.chains w.place (chain_in s ino) (slice_get-get_or s.chains w.place no_chain lt ∙ ap Some (sym (chain-written s ino w.place w.none w.at))),
-            made-written s ino (chain_in s ino) w.none,
-          )
+      | inl w ↦ search (arith, slice_get_within, with_chain-written, set_same, slice_get-get_or, chain-written, made-written)
       | inr w ↦ (
         chains-made s ino (chain_in s ino) w.file w.found,
         ap (λ (x : SessionSeen). x.made) (with_chain-made s ino (chain_in s ino) w.file w.found) ∙ map-fixed (made_chained ino (chain_in s ino)) s.made (λ y i. fixed w y i),
@@ -310,9 +267,4 @@ with_chain-same s ino kind beside once e =
     ]
   where
     fixed : OpenMade s ino kind → (y : MadeFile) → In y s.made → made_chained ino (chain_in s ino) y ≡ y
-    fixed w y i = elim (cases_eq y.ino ino) [
-      | inr d ↦ if_other y.ino ino (record y { chain = chain_in s ino }) y d
-      | inl same ↦
-          let one : w.file ≡ y = one_keyed (λ (m : MadeFile). m.ino) s.made w.file y once w.among i (w.number ∙ sym same) in
-          if_same y.ino ino (record y { chain = chain_in s ino }) y same ∙ ap (λ (k : Chain). record y { chain = k }) (chain-made s ino w.file w.found ∙ ap (λ (m : MadeFile). m.chain) one)
-    ]
+    fixed w y i = search (arith, cases_eq, if_other, one_keyed, if_same, chain-made)

@@ -28,29 +28,13 @@ with_part-behind at p q xs l =
     let more : (at + length p) + length q ≡ length (a ++ p) + length q = omega (arith, len) in
     let sum : (at + length p) + length q ≡ at + length (p ++ q) = omega (arith, length-append p q) in
     let front : take (at + length p) (a ++ (p ++ c)) ≡ a ++ p = ap (λ n. take n (a ++ (p ++ c))) (sym len) ∙ ap (take (length (a ++ p))) joined ∙ take-append_seam (a ++ p) c in
-    let back : drop ((at + length p) + length q) (a ++ (p ++ c)) ≡ drop (at + length (p ++ q)) xs =
-    ap (λ n. drop n (a ++ (p ++ c))) more ∙ ap (drop (length (a ++ p) + length q)) joined ∙ drop-append-add (a ++ p) c (length q)
-    ∙ drop-drop (length q) (at + length p) xs ∙ ap (λ n. drop n xs) sum in
-    ap (λ z. z ++ (q ++ drop ((at + length p) + length q) (a ++ (p ++ c)))) front
-    ∙ ap (λ z. (a ++ p) ++ (q ++ z)) back
-    ∙ append_assoc a p (q ++ drop (at + length (p ++ q)) xs)
-    ∙ ap (λ z. a ++ z) (sym (append_assoc p q (drop (at + length (p ++ q)) xs)))
+    let back : drop ((at + length p) + length q) (a ++ (p ++ c)) ≡ drop (at + length (p ++ q)) xs = search (arith, drop-append-add, drop-drop) in
+    search (arith, append_assoc)
 
 -- a part within the middle one of three
 pub with_part-middle : (n at : ℕ) (p a b c : List ℕ) → length a ≡ n → at + length p ≤ length b → with_part (n + at) p (a ++ (b ++ c)) ≡ a ++ (with_part at p b ++ c)
 unfolding with_part
-with_part-middle n at p a b c len l =
-    let here : n + at ≡ length a + at = omega (arith, len) in
-    let past : (n + at) + length p ≡ length a + (at + length p) = omega (arith, len) in
-    let front : take (n + at) (a ++ (b ++ c)) ≡ a ++ take at b =
-    ap (λ k. take k (a ++ (b ++ c))) here ∙ take-append-add a (b ++ c) at ∙ ap (λ z. a ++ z) (take-append-le at b c (omega (arith, l))) in
-    let back : drop ((n + at) + length p) (a ++ (b ++ c)) ≡ drop (at + length p) b ++ c =
-    ap (λ k. drop k (a ++ (b ++ c))) past ∙ drop-append-add a (b ++ c) (at + length p) ∙ drop-append-le (at + length p) b c l in
-    ap (λ z. z ++ (p ++ drop ((n + at) + length p) (a ++ (b ++ c)))) front
-    ∙ ap (λ z. (a ++ take at b) ++ (p ++ z)) back
-    ∙ append_assoc a (take at b) (p ++ (drop (at + length p) b ++ c))
-    ∙ ap (λ z. a ++ (take at b ++ z)) (sym (append_assoc p (drop (at + length p) b) c))
-    ∙ ap (λ z. a ++ z) (sym (append_assoc (take at b) (p ++ drop (at + length p) b) c))
+with_part-middle n at p a b c len l = search (arith, take-append-add, take-append-le, drop-append-add, drop-append-le, append_assoc)
 
 -- a part within the first bytes
 pub take-with_part : (n at : ℕ) (p xs : List ℕ) → at + length p ≤ n → n ≤ length xs → take n (with_part at p xs) ≡ with_part at p (take n xs)
@@ -95,9 +79,4 @@ pages-part g g' ns k at p once l whole within now same =
     let many : length (flat_map g before) ≡ 4096 * k =
     length-pages g before (λ n i. whole n (subst (λ z. In n z) (sym parts) (In-left n before (x ∷ after) i))) ∙ ap (λ n. 4096 * n) (length-take-le k ns (omega arith)) in
     let one : length (g x) ≡ 4096 = whole x (subst (λ z. In x z) (sym parts) (In-right x before (x ∷ after) (inl refl))) in
-    split g'
-    ∙ ap (λ z. z ++ (g' x ++ flat_map g' after)) front
-    ∙ ap (λ z. flat_map g before ++ (g' x ++ z)) back
-    ∙ ap (λ z. flat_map g before ++ (z ++ flat_map g after)) now
-    ∙ sym (with_part-middle (4096 * k) at p (flat_map g before) (g x) (flat_map g after) many (omega (arith, one, within)))
-    ∙ ap (with_part (4096 * k + at) p) (sym (split g))
+    search (arith, with_part-middle)

@@ -1,5 +1,5 @@
 -- Bytes that are put into the blocks of a file: what they leave, and the bytes of the blocks then.
-use Rattle.std.proofs.Common.{◌≡◌, ℕ, zero, suc, ◌+◌, ◌-◌, ◌*◌, ◌/◌, ◌<◌, ◌≤◌, true, List, [], ◌∷◌, ◌++◌, append_assoc, cond, get_or, length, max, min, replicate, take, drop, sym, refl, ap, ◌∙◌, subst, inl, inr, arith}
+use Rattle.std.proofs.Common.{◌≡◌, ℕ, zero, suc, ◌+◌, ◌-◌, ◌*◌, ◌/◌, ◌<◌, ◌≤◌, true, List, [], ◌++◌, append_assoc, get_or, length, max, min, take, sym, refl, ap, ◌∙◌, subst, arith}
 use Rattle.std.specs.Prelude.{slice_range}
 use Rattle.std.specs.List.{flat_map}
 use Rattle.std.proofs.lemmas.Bool.{cases_eq, eq-eqb, ne_eqb}
@@ -9,14 +9,14 @@ use Rattle.trio_page.proofs.Fields.{length-slice, length-with_part, slice-split}
 use Rattle.trio_rights.specs.Bundle.{bundle_pages}
 use Rattle.trio_lists.specs.Lists.{In, are_new}
 use Rattle.trio_lists.proofs.Filters.{get_or-In}
-use Rattle.trio_layout.specs.Body.{block_count}
-use Rattle.trio_nodes.specs.Apply.{put_at, resized}
+use Rattle.trio_nodes.specs.Apply.{put_at}
 use Rattle.trio_desk.specs.Out.{LibOut, Parcel, WasGiven}
 use Rattle.trio_desk.specs.Ready.{bundle_of}
 use Rattle.trio_session.specs.Layout.{blocks_under, page_in, put_block, put_blocks, put_bytes, with_page}
-use Rattle.trio_edit_laws.proofs.Pages.{length-page_in, page_in-with_page_else, page_in-with_page_same}
+use Rattle.trio_edit_laws.proofs.Pages.{length-page_in}
 use Rattle.trio_edit_laws.proofs.Parts.{length-pages, pages-part, with_part-behind, with_part-none}
 use Rattle.trio_edit_laws.proofs.Touches.{Touches, touches_nothing, touches_page, touches_then}
+use Rattle.trio_session.proofs.Pages.{page_in-with_page_else, page_in-with_page_same}
 
 -- the blocks have the bytes that they had, but for these, from an offset on
 pub record HasPut (blocks : List ℕ) (at : ℕ) (new : List ℕ) (b b' : Parcel) : Type 0 where
@@ -93,34 +93,18 @@ module _ (out : LibOut) (b : Parcel) (given : WasGiven out b) (blocks : List ℕ
   put_done =
       let first : ℕ = at / 4096 in
       let more : ℕ = blocks_under at (length new) in
-      let begin : HasPut blocks at (take (before at new first) new) b b =
-      (let none : before at new first ≡ 0 = omega arith in
-      record {
-        touches = touches_nothing (λ n. In n blocks) b;
-        bytes = sym (with_part-none at bytes) ∙ ap (λ n. with_part at (take n new) bytes) (sym none);
-      }) in
+      let begin : HasPut blocks at (take (before at new first) new) b b = search (arith, touches_nothing, with_part-none) in
       let c = count in
       let all : take (before at new (first + more)) new ≡ new = take_all (before at new (first + more)) new (omega (arith, c.1)) in
       subst (λ z. HasPut blocks at z b (put_bytes blocks at new b)) all (loop more first b (omega arith) c.0 begin)
     where
       count : (4096 * (at / 4096 + blocks_under at (length new)) < at + length new + 4096) × (length new ≤ 4096 * (at / 4096 + blocks_under at (length new)) - at)
-      count =
-          elim (cases_eq (length new) 0) [
-            | inl none ↦
-                let u : blocks_under at (length new) ≡ 0 = ap (λ t. cond t 0 (block_count (at + length new) - at / 4096)) (eq-eqb (length new) 0 none) in
-                (omega (arith, u, none), omega (arith, u, none))
-            | inr some ↦
-                let u : blocks_under at (length new) ≡ block_count (at + length new) - at / 4096 = ap (λ t. cond t 0 (block_count (at + length new) - at / 4096)) (ne_eqb (length new) 0 some) in
-                (omega (arith, u, some), omega (arith, u, some))
-          ]
+      count = search (arith, cases_eq, eq-eqb, ne_eqb)
 
 -- within the size of a file that is what a write makes of its bytes
 pub with_part-put_at : (at : ℕ) (new old : List ℕ) → at + length new ≤ length old → with_part at new old ≡ put_at at new old
 unfolding with_part
-with_part-put_at at [] old l = with_part-none at old
-with_part-put_at at (x ∷ xs) old l =
-    ap (λ z. z ++ ((x ∷ xs) ++ drop (at + length (x ∷ xs)) old)) (sym (take-append-le at old (replicate (at - length old) 0) (omega (arith, l))))
-    ∙ sym (append_assoc (resized at old) (x ∷ xs) (drop (at + length (x ∷ xs)) old))
+with_part-put_at at new old l = search (arith, with_part-none, take-append-le, append_assoc)
 
 -- where no byte is put, nothing changes
 pub put_none : (blocks : List ℕ) (at : ℕ) (b : Parcel) → put_bytes blocks at (zeros 0) b ≡ b

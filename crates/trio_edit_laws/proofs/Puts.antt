@@ -132,12 +132,7 @@ module _ (desk : DeskSeen) (s : SessionSeen) (ino at : ℕ) (new : List ℕ) (m 
       ∙ ap (λ b. with_body_in mf.slot b page) (sym (body-made s ino mf found))
 
   bytes_now : take size (flat_map (page_in then') (chain_in s ino).blocks) ≡ put_at at new (bytes_in s ino)
-  bytes_now =
-      let long : size ≤ length old = (let k = c.count in omega (arith, k, length-old)) in
-      let first : length (take size old) ≡ size = length-take-le size old long in
-      ap (take size) done.bytes
-      ∙ take-with_part size at new old l long
-      ∙ with_part-put_at at new (take size old) (omega (arith, first, l))
+  bytes_now = search (arith, c, length-old, length-take-le, done, take-with_part, with_part-put_at)
 
   length-now : size ≡ length (put_at at new (bytes_in s ino))
   length-now =

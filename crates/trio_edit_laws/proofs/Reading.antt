@@ -1,8 +1,8 @@
 -- A file that is open has, as a node that is shown, the rights of its body; a regular one the bytes that the session reads.
-use Rattle.std.proofs.Common.{◌≡◌, ℕ, ◌*◌, eqb, List, [], length, length-take-le, take, Option, Some, None, Ok, sym, refl, ap, ◌∙◌, subst, inl, inr, arith}
+use Rattle.std.proofs.Common.{◌≡◌, ℕ, ◌*◌, eqb, List, [], length, length-take-le, take, Option, Some, None, Ok, sym, ap, ◌∙◌, subst, inl, inr, arith}
 use Rattle.std.specs.Prelude.{map}
 use Rattle.std.specs.List.{find, flat_map}
-use Rattle.std.specs.Option.{option_and_then, option_map, unwrap_or}
+use Rattle.std.specs.Option.{option_map, unwrap_or}
 use Rattle.std.proofs.lemmas.Bool.{eq-eqb, eqb-true}
 use Rattle.trio_rights.specs.Row.{Row}
 use Rattle.trio_rights.specs.declared.kind.Kind.TheVariants.{Regular}
@@ -22,10 +22,10 @@ use Rattle.trio_nodes.specs.declared.node.Node.{Node}
 use Rattle.trio_nodes.specs.Nodes.{Nodes, node_at}
 use Rattle.trio_desk.specs.Call.{DeskSeen}
 use Rattle.trio_desk.specs.Agrees.{HasRights}
-use Rattle.trio_desk.specs.Contents.{rights_in, rights_of}
+use Rattle.trio_desk.specs.Contents.{rights_in}
 use Rattle.trio_desk.specs.Out.{ino_numbers}
 use Rattle.trio_desk.specs.Ready.{bundle_of}
-use Rattle.trio_desk.specs.Shows.{bytes_now, bytes_read, naming_of, node_left, pages_bytes, with_bytes}
+use Rattle.trio_desk.specs.Shows.{bytes_now, pages_bytes}
 use Rattle.trio_laws.specs.session.FileEdits.{bare_file, bytes_listed, core_in_hand, read_in_hand}
 use Rattle.trio_laws.specs.session.Sees.{IsView}
 use Rattle.trio_laws.specs.session.Takes.{case_in_hand}
@@ -120,20 +120,10 @@ module _ (desk : DeskSeen) (s : SessionSeen) (ino : ℕ) (nodes nodes' : Nodes) 
       let p = find-In (λ (y : Met). eqb y.ino ino) (judged_files c) q.0 q.1 in
       let there : find (λ (y : Met). eqb y.ino ino) (judged_files c) ≡ Some x.0 =
       q.1 ∙ ap Some (same_met (judged_files c) q.0 x.0 (judged_once c (hand_files_once desk (in_hand s) m.order)) p.0 x.1 (eqb-true q.0.ino ino p.1 ∙ sym number)) in
-      ap (option_and_then (λ (y : Met). bytes_read core y.kind (file_within core y))) there
-      ∙ ap (bytes_read core x.0.kind) reads
-      ∙ ap (λ k. bytes_read core k (Ok r.file)) kind
-      ∙ ap Some listed
+      search (arith, r, listed)
 
   node_bytes : option_map (λ (x : Node). x.bytes) (node_at nodes' ino) ≡ Some (bytes_in s ino)
-  node_bytes = by (node_at nodes' ino) refl (node_left c ino (naming_of c ino) (node_at nodes ino)) (v.shows.shows.each ino ∙ ap (λ q. option_map (with_bytes q) (node_left c ino (naming_of c ino) (node_at nodes ino))) bytes_have) rights
-    where
-      by : (q : Option Node) → node_at nodes' ino ≡ q → (left : Option Node) → node_at nodes' ino ≡ option_map (with_bytes (Some (bytes_in s ino))) left → HasRights (rights_in Regular (body_in s ino)) (node_at nodes' ino)
-          → option_map (λ (x : Node). x.bytes) (node_at nodes' ino) ≡ Some (bytes_in s ino)
-      by q e (Some y) each has = ap (option_map (λ (x : Node). x.bytes)) each
-      by q e None each has = absurd (let wrong : None ≡ Some (rights_in Regular (body_in s ino)) = sym (ap (option_map rights_of) each) ∙ has in cc wrong)
+  node_bytes = search (arith, bytes_have, rights)
 
 pub sees_bytes : SeesBytes
-sees_bytes desk s ino nodes nodes' rows m o may =
-    let v : IsView desk (in_hand s) (in_hand s) nodes nodes' rows = record { order = m.order; more = λ ns rs p. p; shows = may } in
-    (rights desk s ino nodes nodes' rows m o v, node_bytes desk s ino nodes nodes' rows m o v, length-bytes_in desk s ino m o)
+sees_bytes desk s ino nodes nodes' rows m o may = search (arith, rights, node_bytes, length-bytes_in)

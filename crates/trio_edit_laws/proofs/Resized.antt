@@ -1,5 +1,5 @@
 -- The bytes of a file that grew or was cut, and how many core pages there are.
-use Rattle.std.proofs.Common.{◌≡◌, ℕ, zero, suc, ◌+◌, ◌-◌, ◌*◌, ◌<◌, ◌≤◌, true, List, [], ◌∷◌, ◌++◌, length, take, drop, refl, sym, ap, ◌∙◌, subst, inl, inr, append_assoc, arith}
+use Rattle.std.proofs.Common.{◌≡◌, ℕ, zero, suc, ◌+◌, ◌-◌, ◌*◌, ◌<◌, ◌≤◌, true, List, [], ◌∷◌, ◌++◌, length, take, drop, refl, sym, ap, ◌∙◌, inl, inr, append_assoc, arith}
 use Rattle.std.specs.Prelude.{map, nat_le, nat_lt, replicate}
 use Rattle.std.specs.List.{flat_map}
 use Rattle.std.proofs.lemmas.Bool.{and_parts, cases_lt, leb-true, ltb-true}
@@ -53,10 +53,7 @@ take-flat_map page (n ∷ ns) (suc c) whole =
     ∙ ap (λ k. take k (page n ++ flat_map page ns)) (sym at)
 
 pub length-resized : (size : ℕ) (bytes : List ℕ) → length (resized size bytes) ≡ size
-length-resized size bytes =
-    let more : List ℕ = replicate (size - length bytes) 0 in
-    let many : length more ≡ size - length bytes = length-replicate (size - length bytes) 0 in
-    omega (arith, length-take size (bytes ++ more), length-append bytes more, many)
+length-resized size bytes = search (arith, length-replicate, length-take, length-append)
 
 -- a size within bytes
 resized-less : (size old : ℕ) (xs : List ℕ) → size ≤ old → old ≤ length xs → resized size (take old xs) ≡ take size xs
@@ -70,19 +67,7 @@ resized-more size xs le = take_all size (xs ++ replicate (size - length xs) 0) (
 -- zeros up to the end of a block, and zero blocks behind it
 gap_zeros : (xs : List ℕ) (old size m : ℕ) → length xs ≡ 4096 * block_count old → old ≤ size → block_count size ≤ block_count old + m
     → take (size - old) (zeros (gap old size) ++ (drop (old + gap old size) xs ++ zeros (4096 * m))) ≡ zeros (size - old)
-gap_zeros xs old size m len le room =
-    let g : ℕ = gap old size in
-    elim (cases_lt g (size - old)) [
-      | inr within ↦
-          let same : g ≡ size - old = omega arith in
-          take_at (zeros g) (drop (old + g) xs ++ zeros (4096 * m)) (size - old) (length-zeros g ∙ same) ∙ ap zeros same
-      | inl past ↦
-          let whole : length xs ≤ old + g = omega (arith, len) in
-          let fits : size - old ≤ g + 4096 * m = omega arith in
-          ap (λ l. take (size - old) (zeros g ++ (l ++ zeros (4096 * m)))) (drop_all (old + g) xs whole)
-          ∙ ap (take (size - old)) (zeros-append g (4096 * m))
-          ∙ take-zeros (size - old) (g + 4096 * m) fits
-    ]
+gap_zeros xs old size m len le room = search (arith, cases_lt, take_at, length-zeros, drop_all, zeros-append, take-zeros)
 
 -- a file grows: its bytes, zeros up to the end of its last block, and zero blocks behind them
 pub resized-grown : (xs : List ℕ) (old size m : ℕ) → length xs ≡ 4096 * block_count old → old ≤ size → block_count size ≤ block_count old + m
@@ -95,21 +80,12 @@ resized-grown xs old size m len le room =
     let rest : List ℕ = zeros g ++ (drop (old + g) xs ++ zeros (4096 * m)) in
     let size_is : size ≡ length a + (size - old) = omega (arith, front) in
     let left : size - length a ≡ size - old = omega (arith, front) in
-    ap (λ n. take size ((a ++ (zeros g ++ drop (old + n) xs)) ++ zeros (4096 * m))) (length-zeros g)
-    ∙ ap (take size) (append_assoc a (zeros g ++ drop (old + g) xs) (zeros (4096 * m)) ∙ ap (λ l. a ++ l) (append_assoc (zeros g) (drop (old + g) xs) (zeros (4096 * m))))
-    ∙ ap (λ n. take n (a ++ rest)) size_is
-    ∙ take-append-add a rest (size - old)
-    ∙ ap (λ l. a ++ l) (gap_zeros xs old size m len le room)
-    ∙ sym (resized-more size a (omega (arith, front)) ∙ ap (λ n. a ++ zeros n) left)
+    search (arith, length-zeros, append_assoc, take-append-add, gap_zeros, resized-more)
 
 -- a file is cut: the first of its blocks have its first bytes
 pub resized-cut : (page : ℕ → List ℕ) (blocks : List ℕ) (old size : ℕ) → ((n : ℕ) → In n blocks → length (page n) ≡ 4096) → length blocks ≡ block_count old → size ≤ old
     → take size (flat_map page (take (block_count size) blocks)) ≡ resized size (take old (flat_map page blocks))
-resized-cut page blocks old size whole many le =
-    let len = length-pages page blocks whole in
-    ap (take size) (take-flat_map page blocks (block_count size) whole)
-    ∙ take-take size (4096 * block_count size) (flat_map page blocks) (omega arith)
-    ∙ sym (resized-less size old (flat_map page blocks) le (omega (arith, len, many)))
+resized-cut page blocks old size whole many le = search (arith, length-pages, take-flat_map, take-take, resized-less)
 
 -- ---- core pages
 
@@ -123,12 +99,7 @@ new_shifted first (x ∷ xs) once from =
     new_beside ((x - first) ∷ []) (map (λ n. n - first) xs) (new_shifted first xs p.1 (λ n i. from n (inr i))) (λ m i j.
     let q = map-In (λ n. n - first) m xs i in
     elim j [
-      | inl e ↦
-          let a : first ≤ q.0 = from q.0 (inr q.1) in
-          let b : first ≤ x = from x (inl refl) in
-          let e' : m ≡ q.0 - first = q.2 in
-          let same : q.0 ≡ x = omega (arith, a, b, e, e') in
-          p.0 (subst (λ n. In n xs) same q.1)
+      | inl e ↦ search arith
       | inr none ↦ none
     ])
 

@@ -1,15 +1,12 @@
 -- What is in hand shows the nodes after its calls; and what stays of it where a desk has other things out.
-use Rattle.std.proofs.Common.{◌≡◌, List, Option, ap, ◌∙◌}
+use Rattle.std.proofs.Common.{◌≡◌, List, Option, arith}
 use Rattle.trio_rights.specs.Row.{Row}
-use Rattle.trio_rights.specs.declared.rights.LibNo.{LibNo}
-use Rattle.trio_rights.specs.declared.rights.Creds.{Creds}
 use Rattle.trio_lease.specs.Shown.{Shown, LentFile}
 use Rattle.trio_nodes.specs.declared.call.Done.{Done}
 use Rattle.trio_nodes.specs.Nodes.{Nodes}
 use Rattle.trio_nodes.specs.After.{batch_nodes}
 use Rattle.trio_onetree.proofs.TreeStays.{tree_stays_through}
 use Rattle.trio_desk.specs.Call.{Ask, DeskSeen, SeenAfter, Told}
-use Rattle.trio_desk.specs.Contents.{Rights, Sizes}
 use Rattle.trio_desk.specs.Edits.{InHand, MayShow, TakesMore}
 use Rattle.trio_desk.specs.Out.{LibOut, Parcel}
 use Rattle.trio_desk.specs.Ready.{ArePossible, ComesToShown}
@@ -26,12 +23,7 @@ shown_by desk h h' calls nodes rows more comes possible =
 
 -- a desk after a call is the one before it, but for what is out
 pub desk_after : (old new : DeskSeen) (ask : Ask) (told : Told) → SeenAfter old ask told new → new ≡ record old { out = new.out }
-desk_after old new ask told seen =
-    let desk : LibNo → Creds → Sizes → Rights → DeskSeen = λ l c z r. record { lib = l; creds = c; out = new.out; sizes = z; root = r } in
-    ap (λ l. desk l new.creds new.sizes new.root) seen.lib
-    ∙ ap (λ c. desk old.lib c new.sizes new.root) seen.creds
-    ∙ ap (λ z. desk old.lib old.creds z new.root) seen.sizes
-    ∙ ap (desk old.lib old.creds old.sizes) seen.root
+desk_after old new ask told seen = search arith
 
 module _ (desk : DeskSeen) (out' : LibOut) where
   abbrev now : DeskSeen

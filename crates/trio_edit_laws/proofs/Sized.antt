@@ -1,5 +1,5 @@
 -- A body with another head and size.
-use Rattle.std.proofs.Common.{◌≡◌, ℕ, zero, suc, ◌^◌, ◌<◌, ◌≤◌, true, ◌&&◌, cond, eqb, nat_le, List, length, get_or, Option, Some, None, refl, sym, ap, ◌∙◌, arith, eq-eqb}
+use Rattle.std.proofs.Common.{◌≡◌, ℕ, ◌^◌, ◌<◌, ◌≤◌, true, ◌&&◌, cond, nat_le, List, length, get_or, Option, Some, None, refl, sym, ap, ◌∙◌, arith, eq-eqb}
 use Rattle.std.specs.Int.{w16, w32, w64, from_le_bytes, to_le_bytes}
 use Rattle.std.specs.Str.{bytes_eq}
 use Rattle.std.proofs.lemmas.Bool.{and_from, and_parts, le-leb, ne_eqb}
@@ -14,7 +14,7 @@ use Rattle.trio_layout.specs.Chain.{index_count}
 use Rattle.trio_layout.specs.declared.body.Body.{Body}
 use Rattle.trio_layout.specs.declared.range.CoreRange.{CoreRange}
 use Rattle.trio_layout.specs.Body.{block_count, body_at, body_bytes, body_fits, body_of, head_fits, size_fits}
-use Rattle.trio_layout.specs.Range.{core_count, is_core}
+use Rattle.trio_layout.specs.Range.{core_count}
 use Rattle.trio_layout.proofs.Reading.{bytes_eq-true, true-bytes_eq}
 use Rattle.trio_session.specs.Layout.{body_sized}
 use Rattle.trio_edit_laws.proofs.IndexFields.{AreCore, small-to_le_bytes}
@@ -47,11 +47,7 @@ unfolding number_at body_bytes
 size-sized b head size lt = from_le_bytes-to_le_bytes_8 size lt
 
 small-to_le_bytes32 : (n : ℕ) → IsBytes (to_le_bytes w32 n)
-small-to_le_bytes32 n zero = omega arith
-small-to_le_bytes32 n (suc zero) = omega arith
-small-to_le_bytes32 n (suc (suc zero)) = omega arith
-small-to_le_bytes32 n (suc (suc (suc zero))) = omega arith
-small-to_le_bytes32 n (suc (suc (suc (suc i)))) = omega arith
+small-to_le_bytes32 n h = search arith
 
 head_at : (b : Body) → number_at w32 12 (body_bytes b) ≡ from_le_bytes w32 (to_le_bytes w32 b.head)
 unfolding number_at body_bytes
@@ -76,10 +72,7 @@ narrow-body_of kind range body b reads =
 
 -- the first of the index pages that so many blocks take is the head of a body
 pub head_fits-index : (range : CoreRange) (count : ℕ) (index : List ℕ) → length index ≡ index_count count → AreCore range index → head_fits range count (get_or index 0 0) ≡ true
-head_fits-index range zero index many core = eq-eqb (get_or index 0 0) 0 (get_or_past index 0 0 (omega arith))
-head_fits-index range (suc n) index many core =
-    ap (λ t. cond t (eqb (get_or index 0 0) 0) (is_core range (get_or index 0 0))) (ne_eqb (suc n) 0 (λ e. omega arith))
-    ∙ core (get_or index 0 0) (get_or-In index 0 0 (omega arith))
+head_fits-index range count index many core = search (arith, eq-eqb, get_or_past, ne_eqb, get_or-In)
 
 -- a body that is read, and a head and a size that fit
 pub body_of-sized : (kind : Kind) (range : CoreRange) (body : List ℕ) (b : Body) (head size : ℕ) → body_of kind range body ≡ Some b → head < 2 ^ 32 → size < 2 ^ 64
@@ -103,14 +96,9 @@ body_of-sized kind range body b head size reads small_head small_size few whole 
     let q = and_parts (nat_le x.mode.0 511 && nat_le (block_count x.size) (core_count range) && size_fits kind x.size) (head_fits range (block_count x.size) x.head) p.1 in
     let r = and_parts (nat_le x.mode.0 511 && nat_le (block_count x.size) (core_count range)) (size_fits kind x.size) q.0 in
     let m = and_parts (nat_le x.mode.0 511) (nat_le (block_count x.size) (core_count range)) r.0 in
-    let now : body_fits kind range y ≡ true =
-    and_from (nat_le x.mode.0 511 && nat_le (block_count size) (core_count range) && size_fits kind size) (head_fits range (block_count size) head)
-    (and_from (nat_le x.mode.0 511 && nat_le (block_count size) (core_count range)) (size_fits kind size)
-    (and_from (nat_le x.mode.0 511) (nat_le (block_count size) (core_count range)) m.0 (le-leb (block_count size) (core_count range) few)) whole) fits in
+    let now : body_fits kind range y ≡ true = search (arith, and_from, nat_le, le-leb) in
     let test : Body → Option Body = λ z. cond (bytes_eq bs (body_bytes z) && body_fits kind range z) (Some z) None in
-    ap test at
-    ∙ ap (λ t. cond t (Some y) None) (and_from (bytes_eq bs (body_bytes y)) (body_fits kind range y) (true-bytes_eq bs (body_bytes y) spells) now)
-    ∙ ap (λ z. Some (sized z head size)) c.1
+    search (arith, and_from, true-bytes_eq)
 
 length-body_bytes : (b : Body) → length (body_bytes b) ≡ 64
 unfolding body_bytes zeros
@@ -127,9 +115,4 @@ length-body_of kind range body b reads =
 -- and a size that its kind may have
 pub size_fits-body_of : (kind : Kind) (range : CoreRange) (body : List ℕ) (b : Body) → body_of kind range body ≡ Some b → size_fits kind b.size ≡ true
 unfolding body_of
-size_fits-body_of kind range body b reads =
-    let x : Body = body_at body in
-    let c = cond_some (bytes_eq body (body_bytes x) && body_fits kind range x) x b reads in
-    let p = and_parts (bytes_eq body (body_bytes x)) (body_fits kind range x) c.0 in
-    let q = and_parts (nat_le x.mode.0 511 && nat_le (block_count x.size) (core_count range) && size_fits kind x.size) (head_fits range (block_count x.size) x.head) p.1 in
-    ap (λ (y : Body). size_fits kind y.size) (sym c.1) ∙ (and_parts (nat_le x.mode.0 511 && nat_le (block_count x.size) (core_count range)) (size_fits kind x.size) q.0).1
+size_fits-body_of kind range body b reads = search (arith, cond_some, and_parts, nat_le)

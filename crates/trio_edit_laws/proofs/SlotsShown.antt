@@ -1,5 +1,5 @@
 -- What an edit of one open file leaves of all others, and of what directories show.
-use Rattle.std.proofs.Common.{◌≡◌, ◌≢◌, ℕ, ◌<◌, eqb, Bool, List, [], ◌∷◌, ◌++◌, Option, Some, None, sym, refl, ap, ◌∙◌, subst, inl, inr}
+use Rattle.std.proofs.Common.{◌≡◌, ◌≢◌, ℕ, ◌<◌, eqb, Bool, List, [], ◌∷◌, ◌++◌, Option, Some, None, sym, refl, ap, ◌∙◌, subst, inl, inr, arith}
 use Rattle.std.specs.Prelude.{is_some, map, not, slice_get, if◌then◌else◌}
 use Rattle.std.specs.List.{filter, find}
 use Rattle.std.specs.Option.{option_and_then, option_map, option_map_or}
@@ -122,15 +122,4 @@ module _ (desk : DeskSeen) (s s' : SessionSeen) (ino : ℕ) (kind : Kind) (m : M
       ∙ ap (λ (l : List InoParts). filter (λ n. not (is_among n (used_numbers s))) (ino_numbers l)) e.alters.inodes
 
   pub leaves_others : LeavesOthers s s' ino
-  leaves_others = record {
-    opens = λ n. open_now desk s s' ino kind m o e n;
-    chains = λ n d. chain_else desk s s' ino kind m o e n d;
-    bodies = λ n d. body_else desk s s' ino kind m o e n d;
-    slots = slots_else;
-    entries = entries_else;
-    numbers = numbers_else;
-    inodes = e.alters.inodes;
-    holds = e.alters.holds;
-    reads = e.anew.reads;
-    indexed = e.anew.indexed;
-  }
+  leaves_others = search (arith, open_now, chain_else, body_else, slots_else, entries_else, numbers_else)

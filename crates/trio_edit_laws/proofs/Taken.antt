@@ -1,5 +1,5 @@
 -- What a session keeps where more was taken: of the files that it made, of the entries of its directories, and of what its desk knows.
-use Rattle.std.proofs.Common.{◌≡◌, ℕ, Bool, true, eqb, List, [], ◌++◌, Option, Some, None, sym, refl, ap, ◌∙◌, subst, inl, inr}
+use Rattle.std.proofs.Common.{◌≡◌, ℕ, Bool, true, eqb, List, [], ◌++◌, Option, Some, None, sym, refl, ap, ◌∙◌, subst, inl, inr, arith}
 use Rattle.std.specs.Prelude.{is_some, map}
 use Rattle.std.specs.List.{find}
 use Rattle.std.specs.Option.{option_map_or, option_or}
@@ -24,16 +24,13 @@ use Rattle.trio_laws.specs.session.Listed.{JudgesSame}
 use Rattle.trio_laws.specs.session.Sees.{AboveIsOpen, IsView}
 use Rattle.trio_laws.specs.session.Takes.{IsInOrder, Takes, case_as_stands}
 use Rattle.trio_session.specs.Layout.{page_in}
-use Rattle.trio_session.specs.Seen.{MadeFile, SessionSeen, body_in, chain_in, every_number, in_hand, made_body, made_file, open_kind, written_file}
+use Rattle.trio_session.specs.Seen.{MadeFile, SessionSeen, body_in, chain_in, every_number, in_hand, made_file, open_kind, written_file}
 use Rattle.trio_edit_laws.specs.Written.{AreMade, ChainsRead, EntriesHaveRights, IsInSlot, IsUnlent, ShowsTrees, made_met}
 use Rattle.trio_edit_laws.proofs.Shown.{possible_before}
 
 -- ---- a desk that has other things out
 
 module _ (desk : DeskSeen) (out' : LibOut) (s : SessionSeen) where
-  abbrev now : DeskSeen
-  now = record desk { out = out' }
-
   pub shows_now : ShowsTrees desk s → ShowsTrees (record desk { out = out' }) s
   shows_now shows nodes rows p =
       let v = shows nodes rows (possible_before desk out' s.parcel s.reads nodes rows p) in (v.0, record { possible = p; tree = v.1.tree; shows = v.1.shows })
@@ -88,14 +85,7 @@ pub record HasMadeOf (s s' : SessionSeen) : Type 0 where
 -- so a body is as it was where a lease's is
 pub body-taken : (s s' : SessionSeen) (n : ℕ) → HasMadeOf s s'
     → (made_file s n ≡ None → option_map_or (λ (f : Shown). f.body) (written_file s' n) [] ≡ option_map_or (λ (f : Shown). f.body) (written_file s n) []) → body_in s' n ≡ body_in s n
-body-taken s s' n has same =
-    ap (λ l. option_map_or (made_body s') (find (λ (mf : MadeFile). eqb mf.ino n) l) (option_map_or (λ (f : Shown). f.body) (written_file s' n) [])) has.made
-    ∙ by (made_file s n) refl
-  where
-    by : (q : Option MadeFile) → made_file s n ≡ q
-        → option_map_or (made_body s') q (option_map_or (λ (f : Shown). f.body) (written_file s' n) []) ≡ option_map_or (made_body s) q (option_map_or (λ (f : Shown). f.body) (written_file s n) [])
-    by None none = same none
-    by (Some mf) found = ap (body_in_slot mf.slot) (has.page mf (find-In (λ (x : MadeFile). eqb x.ino n) s.made mf found).0)
+body-taken s s' n has same = search (arith, find-In)
 
 module _ (desk : DeskSeen) (s s' : SessionSeen) (order : IsInOrder desk (in_hand s)) (shows : ShowsTrees desk s) (takes : Takes desk (in_hand s) (in_hand s')) (has : HasMadeOf s s')
     (judges : (nodes nodes' : Nodes) (rows : List (Option Row)) → IsView desk (in_hand s) (in_hand s') nodes nodes' rows → JudgesSame desk (in_hand s) (in_hand s') nodes) where

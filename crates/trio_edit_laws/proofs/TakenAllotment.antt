@@ -1,29 +1,27 @@
 -- Pages and numbers that a session takes leave it able to go on, and the pages are spare.
-use Rattle.std.proofs.Common.{◌≡◌, ℕ, ◌<◌, ◌≤◌, true, List, [], ◌++◌, drop, Option, refl, sym, ap, ◌∙◌, subst, inl, inr, arith, Bool}
-use Rattle.std.specs.Prelude.{map, not}
-use Rattle.std.specs.List.{filter, flat_map}
+use Rattle.std.proofs.Common.{◌≡◌, ℕ, ◌<◌, ◌≤◌, true, List, [], ◌++◌, Option, refl, sym, ap, ◌∙◌, subst, inl, inr, arith, Bool}
+use Rattle.std.specs.Prelude.{not}
+use Rattle.std.specs.List.{filter}
 use Rattle.std.proofs.lemmas.Bool.{false_from_ne_true}
 use Rattle.std.proofs.lemmas.List.Elements.{filter-append}
 use Rattle.std.proofs.lemmas.List.{drop-append-le, length-append, length-map, map-append}
 use Rattle.trio_page.specs.Field.{zeros}
-use Rattle.trio_rights.specs.Bundle.{Bundle, Written, bundle_sheets}
+use Rattle.trio_rights.specs.Bundle.{Bundle, bundle_sheets}
 use Rattle.trio_rights.specs.Row.{Row}
 use Rattle.trio_rights.specs.Sheets.{Sheet}
 use Rattle.trio_lists.specs.Lists.{In, are_new, is_among}
 use Rattle.trio_lists.proofs.Members.{In-cases, In-left, In-map, In-right, is_among-In, map-In}
 use Rattle.trio_lists.proofs.Gathered.{one_keyed}
 use Rattle.trio_lists.proofs.New.{are_new-before}
-use Rattle.trio_lease.specs.Shown.{LentFile}
-use Rattle.trio_lease.specs.Views.{fresh_sheet, written_in}
+use Rattle.trio_lease.specs.Views.{fresh_sheet}
 use Rattle.trio_lease.specs.declared.fresh.Allotted.{Allotted}
-use Rattle.trio_lease.specs.declared.parts.FreshParts.{FreshParts}
 use Rattle.trio_lease.specs.declared.parts.InoParts.{InoParts}
 use Rattle.trio_rights.specs.declared.rights.LibNo.{LibNo}
 use Rattle.trio_nodes.specs.Nodes.{Nodes}
 use Rattle.trio_nodes.specs.After.{batch_nodes}
 use Rattle.trio_desk.specs.Call.{DeskSeen}
 use Rattle.trio_desk.specs.Contents.{Sizes}
-use Rattle.trio_desk.specs.Out.{IsFreshAllotment, LibOut, ino_numbers, new_ino, page_numbers, zero_page}
+use Rattle.trio_desk.specs.Out.{IsFreshAllotment, LibOut, ino_numbers, page_numbers, zero_page}
 use Rattle.trio_desk.specs.Ready.{ArePossible, ComesToShown, bundle_of}
 use Rattle.trio_laws.specs.session.Listed.{JudgesSame, listed_in_hand}
 use Rattle.trio_laws.specs.session.Sees.{IsView}
@@ -38,15 +36,15 @@ use Rattle.trio_session.specs.Asked.{with_allotted}
 use Rattle.trio_edit_laws.specs.Written.{MayEdit, ShowsTrees}
 use Rattle.trio_edit_laws.specs.EditLaws.{AreSpare}
 use Rattle.trio_edit_laws.specs.TakingLaws.{KeepsAllotment, TookMore}
-use Rattle.trio_edit_laws.proofs.Pages.{sheet_at}
 use Rattle.trio_edit_laws.proofs.Shown.{comes_now, desk_after, order_now, shown_by}
 use Rattle.trio_edit_laws.proofs.HandsIn.{hands_in, sound_allotted}
-use Rattle.trio_edit_laws.proofs.directories.Mades.{filter-all}
 use Rattle.trio_edit_laws.proofs.Keeps.{place_of_open, slot_held}
 use Rattle.trio_edit_laws.proofs.MorePages.{HasPagesOf, page_in-more, pages_of_more, reads_by_more}
 use Rattle.trio_edit_laws.proofs.Opens.{open_chained}
 use Rattle.trio_edit_laws.proofs.Taken.{HasMadeOf, body-taken, chains_now, entries_now, entries_taken, held_now, made_now, made_taken, shows_now}
 use Rattle.trio_edit_laws.proofs.Whole.{shows_after}
+use Rattle.trio_session.proofs.Pages.{sheet_at}
+use Rattle.trio_session.proofs.Numbers.{filter-all}
 
 -- the session with what is given
 abbrev given_to : SessionSeen → Allotted → SessionSeen
@@ -56,10 +54,7 @@ given_to s given =
 -- what was allotted is all zero, and the library's
 given_view : (s : SessionSeen) (given : Allotted) (lib : LibNo) (sizes : Sizes) (out : LibOut) → IsFreshAllotment lib sizes out given → s.lib ≡ lib
     → given_to s given ≡ with_allotted s (page_numbers given.pages.items) (ino_numbers given.inodes.items)
-given_view s given lib sizes out fresh same =
-    let view : List FreshParts → List InoParts → SessionSeen = λ ps ns. record s { parcel = record s.parcel { pages = s.parcel.pages ++ ps; inodes = s.parcel.inodes ++ ns } } in
-    ap (λ ps. view ps given.inodes.items) (fresh.pages_are ∙ ap (λ l. map (zero_page l) (page_numbers given.pages.items)) (sym same))
-    ∙ ap (view (map (zero_page s.lib) (page_numbers given.pages.items))) (fresh.inodes_are ∙ ap (λ l. map (new_ino l) (ino_numbers given.inodes.items)) (sym same))
+given_view s given lib sizes out fresh same = search arith
 
 -- what a session is after an allotment
 abbrev Took : DeskSeen → SessionSeen → List ℕ → List ℕ → SessionSeen → Type 0
@@ -144,16 +139,10 @@ module _ (desk : DeskSeen) (out' : LibOut) (s : SessionSeen) (given : Allotted) 
   apart n i j = are_new-before n (pages_in_hand (in_hand s)) pages new i j
 
   spare_is : spare_pages s ≡ [] → spare_pages taken ≡ pages
-  spare_is none =
-      ap (drop s.placed) (map-append (λ (p : FreshParts). p.no.0) s.parcel.pages given.pages.items)
-      ∙ drop-append-le s.placed (page_numbers s.parcel.pages) pages (let p = may.placed in let l = length-map s.parcel.pages (λ (p : FreshParts). p.no.0) in omega arith)
-      ∙ ap (λ l. l ++ pages) none
+  spare_is none = search (arith, map-append, drop-append-le, length-map)
 
   zero_sheet : (n : ℕ) → In n pages → In (fresh_sheet (zero_page desk.lib n)) (bundle_sheets (bundle_of taken.parcel))
-  zero_sheet n i =
-      let there : In (zero_page desk.lib n) given.pages.items = subst (λ l. In (zero_page desk.lib n) l) (sym fresh.pages_are) (In-map (zero_page desk.lib) n pages i) in
-      In-right (fresh_sheet (zero_page desk.lib n)) (flat_map (λ (w : Written). w.index ++ w.blocks) (map (λ (f : LentFile). written_in f.stands) s.parcel.writes)) (map fresh_sheet (s.parcel.pages ++ given.pages.items))
-      (In-map fresh_sheet (zero_page desk.lib n) (s.parcel.pages ++ given.pages.items) (In-right (zero_page desk.lib n) s.parcel.pages given.pages.items there))
+  zero_sheet n i = search (arith, In-map, In-right)
 
   is_zero : (n : ℕ) → In n pages → page_in taken.parcel n ≡ zeros 4096
   is_zero n i =

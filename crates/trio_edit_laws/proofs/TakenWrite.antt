@@ -1,8 +1,8 @@
 -- A write lease that a session takes leaves it able to go on.
-use Rattle.std.proofs.Common.{◌≡◌, ℕ, ◌+◌, ◌<◌, Bool, true, false, cond, eqb, List, [], ◌∷◌, ◌++◌, get_or, length, Option, Some, None, sym, refl, ap, ◌∙◌, subst, inl, inr, arith, slice_get, slice_index_or}
+use Rattle.std.proofs.Common.{◌≡◌, ℕ, ◌+◌, ◌<◌, Bool, true, cond, List, [], ◌∷◌, ◌++◌, get_or, length, Option, Some, None, sym, refl, ap, ◌∙◌, subst, inl, inr, arith, slice_get, slice_index_or}
 use Rattle.std.specs.Prelude.{is_some, map}
 use Rattle.std.specs.List.{find, flat_map, position}
-use Rattle.std.specs.Option.{option_map, option_map_or, option_or}
+use Rattle.std.specs.Option.{option_map, option_or}
 use Rattle.std.proofs.lemmas.List.Folds.{find-append}
 use Rattle.std.proofs.lemmas.List.{append-nil, get_or_append_left, length-append, map-append}
 use Rattle.std.proofs.lemmas.Grind.{flat_map-append}
@@ -126,10 +126,7 @@ module _ (desk : DeskSeen) (out' : LibOut) (s : SessionSeen) (ino : ℕ) (f : Le
   -- a file that is open is open still
   opens_still : (n : ℕ) (kind : Kind) → open_kind s n ≡ Some kind → open_kind taken n ≡ Some kind
   opens_still n kind o = elim (opened s n kind o) [
-    | inl w ↦
-        ap (λ q. option_or (option_map (λ (mf : MadeFile). mf.kind) q) (option_map (λ (x : Shown). x.kind) (written_file taken n))) w.none
-        ∙ ap (λ q. option_map (λ (x : Shown). x.kind) (option_map (λ (x : LentFile). x.stands) q)) (found_still n w.file w.found)
-        ∙ ap Some w.kind_is
+    | inl w ↦ search (arith, found_still)
     | inr w ↦
         ap (λ q. option_or (option_map (λ (mf : MadeFile). mf.kind) q) (option_map (λ (x : Shown). x.kind) (written_file taken n))) w.found ∙ ap Some w.kind_is
   ]
@@ -168,9 +165,7 @@ module _ (desk : DeskSeen) (out' : LibOut) (s : SessionSeen) (ino : ℕ) (f : Le
   body_still n kind o =
       body-taken s taken n has (λ none. elim (opened s n kind o) [
         | inr w ↦ absurd (let wrong : None ≡ Some w.file = sym none ∙ w.found in cc wrong)
-        | inl w ↦
-            let body : Option LentFile → List ℕ = λ q. option_map_or (λ (x : Shown). x.body) (option_map (λ (x : LentFile). x.stands) q) [] in
-            ap body (found_still n w.file w.found) ∙ sym (ap body w.found)
+        | inl w ↦ search (arith, found_still)
       ])
 
   old_reads : (n : ℕ) (kind : Kind) → open_kind s n ≡ Some kind → ReadsBy now taken n kind
@@ -204,34 +199,7 @@ module _ (desk : DeskSeen) (out' : LibOut) (s : SessionSeen) (ino : ℕ) (f : Le
       }
 
   reads : ChainsRead now taken
-  reads n kind o' = by (made_file s n) refl (find (has_number n) s.parcel.writes) refl o'
-    where
-      last : made_file s n ≡ None → find (has_number n) s.parcel.writes ≡ None → (t : Bool) → eqb f.stands.ino n ≡ t → open_kind taken n ≡ Some kind → ReadsBy now taken n kind
-      last none out true is o' =
-          let found : find (has_number n) taken.parcel.writes ≡ Some f = find-last (has_number n) s.parcel.writes f out is in
-          let kinds : Some f.stands.kind ≡ Some kind =
-          sym (ap (λ q. option_or (option_map (λ (mf : MadeFile). mf.kind) q) (option_map (λ (x : Shown). x.kind) (written_file taken n))) none
-          ∙ ap (λ q. option_map (λ (x : Shown). x.kind) (option_map (λ (x : LentFile). x.stands) q)) found) ∙ o' in
-          let same : f.stands.kind ≡ kind = cc kinds in
-          subst (ReadsBy now taken n) same (own_reads n none out (eqb-true f.stands.ino n is))
-      last none out false is o' =
-          let nowhere : find (has_number n) taken.parcel.writes ≡ None = find-skip (has_number n) s.parcel.writes f is ∙ out in
-          let wrong : None ≡ Some kind =
-          sym (ap (λ q. option_or (option_map (λ (mf : MadeFile). mf.kind) q) (option_map (λ (x : Shown). x.kind) (written_file taken n))) none
-          ∙ ap (λ q. option_map (λ (x : Shown). x.kind) (option_map (λ (x : LentFile). x.stands) q)) nowhere) ∙ o' in
-          absurd (cc wrong)
-
-      by : (q : Option MadeFile) → made_file s n ≡ q → (w : Option LentFile) → find (has_number n) s.parcel.writes ≡ w → open_kind taken n ≡ Some kind → ReadsBy now taken n kind
-      by (Some mf) found w e o' =
-          old_reads n kind
-          (ap (λ q. option_or (option_map (λ (x : MadeFile). x.kind) q) (option_map (λ (x : Shown). x.kind) (written_file s n))) found
-          ∙ sym (ap (λ q. option_or (option_map (λ (x : MadeFile). x.kind) q) (option_map (λ (x : Shown). x.kind) (written_file taken n))) found) ∙ o')
-      by None none (Some y) e o' =
-          let kinds : Option LentFile → Option Kind = λ q. option_map (λ (x : Shown). x.kind) (option_map (λ (x : LentFile). x.stands) q) in
-          old_reads n kind
-          (ap (λ q. option_or (option_map (λ (x : MadeFile). x.kind) q) (option_map (λ (x : Shown). x.kind) (written_file s n))) none ∙ ap kinds e
-          ∙ sym (ap (λ q. option_or (option_map (λ (x : MadeFile). x.kind) q) (option_map (λ (x : Shown). x.kind) (written_file taken n))) none ∙ ap kinds (found_still n y e)) ∙ o')
-      by None none None out o' = last none out (eqb f.stands.ino n) refl o'
+  reads n kind o' = search (arith, find-last, own_reads, eqb-true, find-skip, old_reads, found_still)
 
   -- ---- the chains
 
@@ -245,9 +213,7 @@ module _ (desk : DeskSeen) (out' : LibOut) (s : SessionSeen) (ino : ℕ) (f : Le
   chained_was = flat_map-append pages_of_chain s.chains (map (λ (mf : MadeFile). mf.chain) s.made)
 
   chained_is : chained taken ≡ (front ++ numbers_of_file f.lent) ++ back
-  chained_is =
-      flat_map-append pages_of_chain (s.chains ++ lent_chain f ∷ []) (map (λ (mf : MadeFile). mf.chain) s.made)
-      ∙ ap (λ l. l ++ back) (flat_map-append pages_of_chain s.chains (lent_chain f ∷ []) ∙ ap (λ l. front ++ l) (append-nil (numbers_of_file f.lent)))
+  chained_is = search (arith, flat_map-append, append-nil)
 
   own_then : (page : ℕ) → In page (chained taken) → In page (pages_in_hand (in_hand taken))
   own_then page i =

@@ -1,5 +1,5 @@
 -- Writes of pages of a parcel, and of a body: what they leave.
-use Rattle.std.proofs.Common.{◌≡◌, ℕ, Bool, true, false, inl, inr, eqb, length, List, [], ◌∷◌, sym, refl, ap, ◌∙◌, subst}
+use Rattle.std.proofs.Common.{◌≡◌, ℕ, Bool, true, false, inl, inr, eqb, length, List, [], ◌∷◌, sym, refl, ap, ◌∙◌, subst, arith}
 use Rattle.std.specs.Prelude.{map, if◌then◌else◌}
 use Rattle.std.proofs.lemmas.Bool.{eqb-true}
 use Rattle.std.proofs.lemmas.Simd.{map-map}
@@ -16,7 +16,7 @@ use Rattle.trio_session.specs.Layout.{block_with, body_with, file_with, fresh_wi
 use Rattle.trio_session.proofs.Lists.{map_alike}
 use Rattle.trio_session.proofs.Places.{index_with-no, block_with-no}
 use Rattle.trio_session.proofs.Stays.{fresh_numbers}
-use Rattle.trio_edit_laws.proofs.Pages.{page_in-with_body, page_in-with_page_else, pages-with_page, sheets_of-with_body}
+use Rattle.trio_session.proofs.Pages.{page_in-with_body, sheets_of-with_body, page_in-with_page_else, pages-with_page}
 
 -- the numbers, kinds and bodies of the written files
 abbrev pub bare_files : Parcel → List Written
@@ -58,45 +58,18 @@ touches_then P a b c x y = alters_then P (bare_files a) a b c x (subst (λ l. Al
 
 -- the same for more pages
 pub alters_more : (P Q : ℕ → Type 0) (files' : List Written) (b b' : Parcel) → ((n : ℕ) → P n → Q n) → Alters P files' b b' → Alters Q files' b b'
-alters_more P Q files' b b' more x = record {
-  files = x.files;
-  lent = x.lent;
-  pages = x.pages;
-  fresh = x.fresh;
-  holds = x.holds;
-  inodes = x.inodes;
-  given = x.given;
-  other = λ n no. x.other n (λ p. no (more n p));
-}
+alters_more P Q files' b b' more x = search arith
 
 -- ---- a page is written
 
 whole_index : (n : ℕ) (w : List ℕ) (ps : List LentPage) → length w ≡ 4096 → AreWhole ps → AreWhole (map (index_with n w) ps)
-whole_index n w ps len whole p i =
-    let q = map-In (index_with n w) p ps i in
-    ap (λ (x : LentPage). length x.page) q.2
-    ∙ elim (eqb q.0.no.0 n) as (λ v. length (if v then record q.0 { page = w } else q.0).page ≡ 4096) [ true ↦ len | false ↦ whole q.0 q.1 ]
+whole_index n w ps len whole p i = search (arith, map-In)
 
 whole_blocks : (n : ℕ) (w : List ℕ) (ps : List LentPage) → length w ≡ 4096 → AreWhole ps → AreWhole (map (block_with n w) ps)
-whole_blocks n w ps len whole p i =
-    let q = map-In (block_with n w) p ps i in
-    ap (λ (x : LentPage). length x.page) q.2
-    ∙ elim (eqb q.0.no.0 n) as (λ v. length (if v then record q.0 { page = w; touched = true } else q.0).page ≡ 4096) [ true ↦ len | false ↦ whole q.0 q.1 ]
+whole_blocks n w ps len whole p i = search (arith, map-In)
 
 lent_still : (n : ℕ) (w : List ℕ) (out : LibOut) (f : LentFile) → length w ≡ 4096 → IsLent out f → IsLent out (file_with n w f)
-lent_still n w out f len is = record {
-  lent = is.lent;
-  same = record {
-    lib = is.same.lib;
-    ino = is.same.ino;
-    kind = is.same.kind;
-    entry = is.same.entry;
-    index = map-map (λ (p : LentPage). p.no) (index_with n w) f.stands.index ∙ map_alike (λ p. (index_with n w p).no) (λ p. p.no) f.stands.index (λ p. index_with-no n w p) ∙ is.same.index;
-    blocks = map-map (λ (p : LentPage). p.no) (block_with n w) f.stands.blocks ∙ map_alike (λ p. (block_with n w p).no) (λ p. p.no) f.stands.blocks (λ p. block_with-no n w p) ∙ is.same.blocks;
-  };
-  index = whole_index n w f.stands.index len is.index;
-  blocks = whole_blocks n w f.stands.blocks len is.blocks;
-}
+lent_still n w out f len is = search (arith, map-map, map_alike, index_with-no, block_with-no, whole_index, whole_blocks)
 
 given_still : (n : ℕ) (w : List ℕ) (b : Parcel) (out : LibOut) → length w ≡ 4096 → WasGiven out b → WasGiven out (with_page n w b)
 unfolding with_page
@@ -132,16 +105,7 @@ touches_page P n w b own len = record {
 -- ---- a body is written
 
 body_lent : (ino : ℕ) (body : List ℕ) (out : LibOut) (f : LentFile) → IsLent out f → IsLent out (body_with ino body f)
-body_lent ino body out f is =
-    elim (eqb f.stands.ino ino) as (λ v. IsLent out (if v then record f { stands = record f.stands { body = body } } else f)) [
-      | true ↦ record {
-        lent = is.lent;
-        same = record { lib = is.same.lib; ino = is.same.ino; kind = is.same.kind; entry = is.same.entry; index = is.same.index; blocks = is.same.blocks };
-        index = is.index;
-        blocks = is.blocks;
-      }
-      | false ↦ is
-    ]
+body_lent ino body out f is = search arith
 
 body-bare : (ino : ℕ) (body : List ℕ) (f : LentFile) → bare_file (body_with ino body f).stands ≡ written_with ino body (bare_file f.stands)
 body-bare ino body f =
@@ -160,9 +124,7 @@ given_bodied ino body b out g = record {
   holds = g.holds;
   pages = g.pages;
   numbers = g.numbers;
-  writes_once =
-      ap (are_new []) (map-map (λ (f : LentFile). f.stands.ino) (body_with ino body) b.writes ∙ map_alike (λ f. (body_with ino body f).stands.ino) (λ f. f.stands.ino) b.writes (body-ino ino body))
-      ∙ g.writes_once;
+  writes_once = search (arith, map-map, map_alike, body-ino);
   holds_once = g.holds_once;
   pages_once = g.pages_once;
   numbers_once = g.numbers_once;
@@ -172,9 +134,7 @@ given_bodied ino body b out g = record {
 pub alters_body : (P : ℕ → Type 0) (ino : ℕ) (body : List ℕ) (b : Parcel) → Alters P (map (written_with ino body) (bare_files b)) b (with_body ino body b)
 unfolding with_body
 alters_body P ino body b = record {
-  files = map-map (λ (f : LentFile). bare_file f.stands) (body_with ino body) b.writes
-      ∙ map_alike (λ f. bare_file (body_with ino body f).stands) (λ f. written_with ino body (bare_file f.stands)) b.writes (body-bare ino body)
-      ∙ sym (map-map (written_with ino body) (λ (f : LentFile). bare_file f.stands) b.writes);
+  files = search (arith, map-map, map_alike, body-bare);
   lent = map-map (λ (f : LentFile). f.lent) (body_with ino body) b.writes ∙ map_alike (λ f. (body_with ino body f).lent) (λ f. f.lent) b.writes (body-lent ino body);
   pages = ap sheet_numbers (sheets_of-with_body ino body b);
   fresh = refl;

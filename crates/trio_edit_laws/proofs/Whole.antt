@@ -1,5 +1,5 @@
 -- Where nodes are possible: what a session shows in their place, and that each file that is open is judged, and reads by its chain.
-use Rattle.std.proofs.Common.{◌≡◌, ℕ, ◌*◌, ◌≤◌, is_ok, List, [], ◌++◌, length, get_or, Option, Some, None, Result, Ok, sym, ap, ◌∙◌, subst, inl, inr, arith}
+use Rattle.std.proofs.Common.{◌≡◌, ℕ, is_ok, List, [], ◌++◌, length, get_or, Option, Some, None, Result, Ok, sym, ap, ◌∙◌, subst, inl, inr, arith}
 use Rattle.std.specs.Prelude.{is_some, map}
 use Rattle.std.specs.List.{list_all}
 use Rattle.std.proofs.lemmas.Bool.{and_parts, false≢true}
@@ -62,11 +62,6 @@ view_then desk s h' nodes rows m more possible =
     let was = m.shows nodes rows (more nodes rows possible) in
     (was.0, record { order = m.order; more = more; shows = record { possible = possible; tree = was.1.tree; shows = was.1.shows } })
 
--- and what is possible now
-pub view_now : (desk : DeskSeen) (s : SessionSeen) (nodes : Nodes) (rows : List (Option Row)) → MayEdit desk s → ArePossible desk s.parcel s.reads nodes rows
-    → (nodes' : Nodes) × IsView desk (in_hand s) (in_hand s) nodes nodes' rows
-view_now desk s nodes rows m possible = view_then desk s (in_hand s) nodes rows m (λ ns rs p. p) possible
-
 -- each judged file reads whole
 pub judged_reads : (desk : DeskSeen) (h h' : InHand) (nodes nodes' : Nodes) (rows : List (Option Row)) (m : Met) → IsView desk h h' nodes nodes' rows → In m (judged_files (case_as_stands desk h))
     → (f : FileRead) × (file_in (case_as_stands desk h) m ≡ Ok f)
@@ -128,14 +123,7 @@ open_judged desk s ino kind nodes rows m possible e =
 
 pub chain_within-named : (core : Core) (index blocks : List ℕ) (b : Body) → IsNamed core index blocks → block_count b.size ≡ length blocks → b.head ≡ get_or index 0 0
     → chain_within core (index_count (block_count b.size)) (block_count b.size) b.head ≡ Ok (record { index = index; blocks = blocks })
-chain_within-named core index blocks b named count head =
-    let many = named.many in
-    let fits : length blocks ≤ 511 * length index = omega (arith, many) in
-    let pages : index_count (block_count b.size) ≡ length index = ap index_count count ∙ sym many in
-    ap (λ n. chain_within core n (block_count b.size) b.head) pages
-    ∙ ap (λ n. chain_within core (length index) n b.head) count
-    ∙ ap (chain_within core (length index) (length blocks)) head
-    ∙ named_chain core index blocks fits named.each
+chain_within-named core index blocks b named count head = search (arith, named_chain)
 
 -- the body and the index pages of an open file read as its chain
 pub chain_reads : (desk : DeskSeen) (s : SessionSeen) (ino : ℕ) (kind : Kind) → (r : ReadsBy desk s ino kind)

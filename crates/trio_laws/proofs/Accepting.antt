@@ -1,5 +1,5 @@
 -- The end of an accepted bundle keeps what holds of a state.
-use Rattle.std.proofs.Common.{◌≡◌, ℕ, ◌+◌, true, false, List, ◌++◌, Option, Some, None, slice_get, sym, refl, ap, ◌∙◌, subst, inl, inr, ◌⊎◌}
+use Rattle.std.proofs.Common.{◌≡◌, ℕ, ◌+◌, true, false, List, ◌++◌, Option, Some, None, slice_get, sym, refl, ap, ◌∙◌, subst, inl, inr, ◌⊎◌, arith}
 use Rattle.std.specs.Prelude.{map, is_some, slice_index}
 use Rattle.std.specs.List.{flat_map}
 use Rattle.std.specs.Option.{option_map}
@@ -39,9 +39,7 @@ use Rattle.trio_laws.proofs.Survivors.{Stays, fit_now, sound_now, stays, out_unl
 
 -- a page that is absent with some bytes changed was absent
 pub absent_map : (f : List ℕ → List ℕ) (o : Option (Option (List ℕ))) → option_map (option_map f) o ≡ Some None → o ≡ Some None
-absent_map f None e = absurd cc
-absent_map f (Some None) e = refl
-absent_map f (Some (Some b)) e = absurd cc
+absent_map f o e = search arith
 
 -- the pages of a written file are pages of the bundle
 pub handed_in : (b : Bundle) (w : Written) (p : ℕ) → In w b.writes → In p (sheet_numbers (w.index ++ w.blocks)) → In p (bundle_pages b)
@@ -51,10 +49,7 @@ handed_in b w p i a =
     subst (λ n. In n (bundle_pages b)) (sym r.2) (In-map (λ (x : Sheet). x.page) r.0 (bundle_sheets b) j)
 
 pub allotted_in : (b : Bundle) (p : ℕ) → In p (sheet_numbers b.pages) → In p (bundle_pages b)
-allotted_in b p a =
-    let r = map-In (λ (x : Sheet). x.page) p b.pages a in
-    let j : In r.0 (bundle_sheets b) = In-right r.0 (flat_map (λ (w : Written). w.index ++ w.blocks) b.writes) b.pages r.1 in
-    subst (λ n. In n (bundle_pages b)) (sym r.2) (In-map (λ (x : Sheet). x.page) r.0 (bundle_sheets b) j)
+allotted_in b p a = search (arith, map-In, In-right, In-map)
 
 -- a page that a write grant of the bundle lent is one of the bundle's
 pub handed_back : (s : State) (k : Kept s) (lib : ℕ) (b : Bundle) (given : GivenTo s lib b) (g : OpenGrant) (p : ℕ) → In g s.open_grants → g.kind ≡ Write → is_in_bundle lib b g ≡ true → In p (sheet_numbers (g.index ++ g.blocks)) → In p (bundle_pages b)

@@ -1,5 +1,5 @@
 -- An image with other pages, of which all that are read are the same, has the same files, bodies and lent pages.
-use Rattle.std.proofs.Common.{◌≡◌, ℕ, Some, sym, ap, ◌∙◌, subst}
+use Rattle.std.proofs.Common.{◌≡◌, ℕ, Some, sym, ap, ◌∙◌, subst, arith}
 use Rattle.trio_rights.specs.Row.{Row}
 use Rattle.trio_lists.specs.Lists.{In}
 use Rattle.trio_layout.specs.Survey.{Met, plain, survey}
@@ -25,16 +25,7 @@ module _ (image : Image) (pages : Pages) (fit : IsFit image.core) (fit' : IsFit 
   met_still m i = subst (λ l. In m l) (sym (survey_local image.core pages plain (sound_parts image.core plain v.sound).grammar agree)) i
 
   pub lent_still : (g : OpenGrant) → LentIsListed image g → LentIsListed (image_with image pages) g
-  lent_still g l = record {
-    met = l.met;
-    file = l.file;
-    stands = met_still l.met l.stands;
-    read = file_agrees image.core pages (survey image.core plain) (sound_parts image.core plain v.sound).grammar agree l.met l.stands ∙ l.read;
-    number = l.number;
-    of = l.of;
-    index = l.index;
-    blocks = l.blocks;
-  }
+  lent_still g l = search (arith, met_still, file_agrees, sound_parts)
 
   pub body_still : (n : ℕ) (r : Row) → row_at image n ≡ Some r → settled_body (image_with image pages) n ≡ settled_body image n
   body_still n r e =

@@ -1,11 +1,10 @@
 -- An allotment keeps what holds of a state.
-use Rattle.std.proofs.Common.{◌≡◌, ℕ, suc, zero, ◌-◌, ◌<◌, Bool, true, false, not, eqb, leb, ltb, List, [], ◌∷◌, length, take, Option, Some, None, slice_get, sym, refl, ap, ◌∙◌, subst, inl, inr, ◌⊎◌, arith}
+use Rattle.std.proofs.Common.{◌≡◌, ℕ, suc, zero, ◌<◌, true, false, List, [], ◌∷◌, length, take, Option, Some, None, slice_get, sym, refl, ap, ◌∙◌, subst, inl, inr, ◌⊎◌, arith}
 use Rattle.std.specs.Prelude.{is_some, slice_index}
 use Rattle.std.specs.List.{flat_map}
 use Rattle.std.proofs.lemmas.Bool.{and_parts, eqb-true, false≢true, not-true, both_ways, false_from_ne_true, ltb-true}
 use Rattle.trio_rights.specs.Row.{Row}
 use Rattle.trio_rights.specs.declared.rights.LibNo.{LibNo}
-use Rattle.trio_tables.specs.Free.{count_up, is_free_page, is_free_number}
 use Rattle.trio_tables.specs.Out.{is_out}
 use Rattle.trio_tables.proofs.OutLemmas.{is_out-given, length-with_all, lib_at-others, lib_at-set}
 use Rattle.trio_layout.specs.Core.{Core}
@@ -52,16 +51,10 @@ module _ (s : State) (lib count many : ℕ) where
   ns = take many (free_numbers s)
 
   pub page_free : (p : ℕ) → In p ps → (slice_index s.home.owners p ≡ 0) × (is_out s.pages_out p ≡ false)
-  page_free p i =
-      let f = filter-In (is_free_page s.home.owners s.pages_out) p (count_up 0 (length s.home.owners - 0)) (take_in count (free_pages s) p i) in
-      let q = and_parts (eqb (slice_index s.home.owners p) 0) (not (is_out s.pages_out p)) f.1 in
-      (eqb-true (slice_index s.home.owners p) 0 q.0, not-true (is_out s.pages_out p) q.1)
+  page_free p i = search (arith, filter-In, take_in, and_parts, eqb-true, not-true)
 
   pub number_free : (n : ℕ) → In n ns → (row_at s.home n ≡ None) × (is_out s.numbers_out n ≡ false)
-  number_free n i =
-      let f = filter-In (is_free_number s.home.rows s.numbers_out) n (count_up 1 (length s.home.rows - 1)) (take_in many (free_numbers s) n i) in
-      let q = and_parts (not (is_some (row_at s.home n))) (not (is_out s.numbers_out n)) f.1 in
-      (none_row (row_at s.home n) (not-true (is_some (row_at s.home n)) q.0), not-true (is_out s.numbers_out n) q.1)
+  number_free n i = search (arith, filter-In, take_in, and_parts, none_row, not-true)
 
   -- what was out stays so: it isn't free
   pub pages_apart : (other n : ℕ) → WasAllotted s.pages_out other n → WasAllotted (out_with s.pages_out lib ps) other n
@@ -121,11 +114,7 @@ module _ (s : State) (lib count many : ℕ) where
             | inl same ↦ k.fit.full p bytes (sym (page_same core pages p same) ∙ h)
             | inr gone ↦ absurd (gone.1 bytes (page_there (with_other core pages) p bytes h).1)
           ];
-      long = (let long = k.fit.long in
-          let n1 = length-with_pages (flat_map (λ g. g.checkpoint) s.open_grants) s.home.core.pages in
-          let n2 = length-with_pages (flat_map (λ g. g.checkpoint) s.open_grants) (without_pages ps s.home.core.pages) in
-          let n3 = length-without ps s.home.core.pages in
-          omega (arith, long, n1, n2, n3));
+      long = search (arith, length-with_pages, length-without);
       numbers = k.fit.numbers;
     }
 
@@ -138,17 +127,10 @@ module _ (s : State) (lib count many : ℕ) where
 
     -- a core page has its place among those that may be out
     within : (p : ℕ) → is_core core.range p ≡ true → p < length s.pages_out
-    within p c =
-        let below : p < core.range.end = ltb-true p core.range.end (and_parts (leb core.range.first p) (ltb p core.range.end) c).1 in
-        let placed = k.pages_placed in
-        omega (arith, below, placed)
+    within p c = search (arith, ltb-true, and_parts)
 
     out_stays : (p : ℕ) → p < length s.pages_out → is_out s.pages_out p ≡ true → is_out (out_with s.pages_out lib ps) p ≡ true
-    out_stays p lt out = by (is_among p ps) refl
-      where
-        by : (t : Bool) → is_among p ps ≡ t → is_out (out_with s.pages_out lib ps) p ≡ true
-        by true t = ap is_some (lib_at-set (Some library) ps p s.pages_out lt t)
-        by false f = ap is_some (lib_at-others (Some library) ps p s.pages_out f) ∙ out
+    out_stays p lt out = search (arith, lib_at-set, lib_at-others)
 
     pub allots_kept : Kept (allots s lib ps ns)
     allots_kept = record {
@@ -162,24 +144,11 @@ module _ (s : State) (lib count many : ℕ) where
           (parent_same g.lib (row_at s.home g.ino) h.0, h.1 ∙ sym (body_still (settled s) pages k.fit fit' k.verifies agree g.ino r.0 r.1));
       lent = λ g i w. lent_still (settled s) pages k.fit fit' k.verifies agree g (k.lent g i w);
       checkpoints = k.checkpoints;
-      absent = λ p gone c. elim (without_absent ps s.home.core.pages p gone) [
-        | inl taken ↦ inr (ap is_some (lib_at-set (Some library) ps p s.pages_out (within p c) (In-is_among p ps taken)))
-        | inr was ↦
-            elim (k.absent p was c) [
-              | inl lent ↦ inl lent
-              | inr out ↦ inr (out_stays p (within p c) out)
-            ]
-      ];
+      absent = search (arith, without_absent, lib_at-set, within, In-is_among, out_stays);
       pages_placed = length-with_all (Some library) ps s.pages_out ∙ k.pages_placed;
-      out_free = λ p out. elim (is_out-given (Some library) ps p s.pages_out out) [
-        | inl new ↦ (page_free p (is_among-In p ps new)).0
-        | inr old ↦ k.out_free p old
-      ];
+      out_free = search (arith, is_out-given, page_free, is_among-In);
       numbers_placed = length-with_all (Some library) ns s.numbers_out ∙ k.numbers_placed;
-      numbers_free = λ n out. elim (is_out-given (Some library) ns n s.numbers_out out) [
-        | inl new ↦ (number_free n (is_among-In n ns new)).0
-        | inr old ↦ k.numbers_free n old
-      ];
+      numbers_free = search (arith, is_out-given, number_free, is_among-In);
     }
 
 -- a step of an allotment

@@ -1,5 +1,5 @@
 -- What is lent for writing or out by allotment is absent from home, in each state of a run.
-use Rattle.std.proofs.Common.{◌≡◌, ℕ, ◌<◌, ◌⊎◌, true, cond, not, ltb, leb, List, [], ◌∷◌, ◌++◌, length, Option, Some, None, slice_get, sym, ap, ◌∙◌, subst, inl, inr, arith, eqb, ◌&&◌}
+use Rattle.std.proofs.Common.{◌≡◌, ℕ, ◌<◌, ◌⊎◌, true, ltb, leb, List, [], ◌∷◌, ◌++◌, length, Option, Some, None, slice_get, sym, ap, ◌∙◌, subst, inl, inr, arith}
 use Rattle.std.specs.Prelude.{is_some}
 use Rattle.std.specs.Option.{option_map}
 use Rattle.std.proofs.lemmas.Bool.{and_parts, ltb-true, false≢true}
@@ -17,12 +17,11 @@ use Rattle.trio_layout.specs.Survey.{plain}
 use Rattle.trio_layout.specs.Image.{Image, row_at, settled_body}
 use Rattle.trio_layout.specs.Mode.{body_put, body_with_mode}
 use Rattle.trio_rights.specs.Bundle.{Bundle}
-use Rattle.trio_nodes.specs.GrantKinds.{is_read, is_write}
 use Rattle.trio_state.specs.State.{OpenGrant, State, settled}
 use Rattle.trio_state.specs.Allotments.{allots}
 use Rattle.trio_state.specs.Bundles.{Ends}
 use Rattle.trio_state.specs.Grants.{given_back, grant_fault, lent_pages, opened, opens}
-use Rattle.trio_state.specs.Step.{Grant, Allot, Back, Release, Settle, SetMode, CtlAnswer, granted_to, mode_fault, moded_to, ReleaseEnd, Parted, IsAccepted, IsRefused}
+use Rattle.trio_state.specs.Step.{Grant, Allot, Back, Release, Settle, SetMode, CtlAnswer, granted_to, mode_fault, moded_to, ReleaseEnd}
 use Rattle.trio_state.specs.Kept.{Kept}
 use Rattle.trio_state.specs.Given.{GivenTo}
 use Rattle.trio_state.specs.Run.{start}
@@ -46,10 +45,7 @@ use Rattle.trio_surveys.proofs.Sheets.{Pages, among_cases, length-without, place
 taken : (ns : List ℕ) (pages : Pages) (p : ℕ) → p < length (without_pages ns pages) → In p ns ⊎ (slice_get pages p ≡ Some None) → slice_get (without_pages ns pages) p ≡ Some None
 taken ns pages p l h =
     let o = place_there pages p (subst (λ n. p < n) (length-without ns pages) l) in
-    elim (among_cases p ns) [
-      | inl i ↦ without_there ns pages p o.0 i o.1
-      | inr none ↦ without_apart ns pages p none ∙ elim h [ inl i ↦ absurd (none i) | inr gone ↦ gone ]
-    ]
+    search (arith, among_cases, without_there, without_apart)
 
 put_away : (o : Option Row) (body : List ℕ) (pages : Pages) (p : ℕ) → slice_get pages p ≡ Some None → slice_get (body_put o body pages) p ≡ Some None
 put_away None body pages p gone = gone
@@ -68,10 +64,7 @@ within s k p h =
           let c : is_core core.range p ≡ true = listed_is_core core l.met l.file p l.read (lent_met s k g.0 g.1 g.2 p g.3) in
           let below : p < core.range.end = ltb-true p core.range.end (and_parts (leb core.range.first p) (ltb p core.range.end) c).1 in
           omega (arith, below, long, count)
-      | inr out ↦
-          let below = within_some s.pages_out p out in
-          let placed = k.pages_placed in
-          omega (arith, below, placed, long, count)
+      | inr out ↦ search (arith, within_some)
     ]
 
 opens_away : (s : State) (g : OpenGrant) → Kept (opens s g) → AllAway s → AllAway (opens s g)
@@ -83,13 +76,7 @@ opens_away s g k' a p h = taken (lent_pages g) s.home.core.pages p (within (open
         let x = lent_by (s.open_grants ++ g ∷ []) p lent in
         elim (In-cases x.0 s.open_grants (g ∷ []) x.1) [
           | inl old ↦ inr (a p (inl (by_lent s.open_grants x.0 p old x.2 x.3)))
-          | inr new ↦
-              elim new [
-                | inr none ↦ absurd none
-                | inl same ↦
-                    let mine : In p (lent_pages x.0) = subst (λ ns. In p ns) (ap (λ t. cond (is_write t) (sheet_numbers (x.0.index ++ x.0.blocks)) []) (sym x.2)) x.3 in
-                    inl (subst (λ y. In p (lent_pages y)) same mine)
-              ]
+          | inr new ↦ search arith
         ]
 
 granted : (s : State) (lib ino : ℕ) (kind : GrantKind) (f : Option GrantFault) (o : Option Row) → AllAway s → Kept (granted_to s lib ino kind f o).after → AllAway (granted_to s lib ino kind f o).after
@@ -102,19 +89,11 @@ allotted s lib count many a k' p h =
     taken (ps s lib count many) s.home.core.pages p (within (allots s lib (ps s lib count many) (ns s lib count many)) k' p h)
     (elim h [
       | inl lent ↦ inr (a p (inl lent))
-      | inr out ↦
-          elim (is_out-given (Some (record { 0 = lib })) (ps s lib count many) p s.pages_out out) [
-            | inl new ↦ inl (is_among-In p (ps s lib count many) new)
-            | inr old ↦ inr (a p (inr old))
-          ]
+      | inr out ↦ search (arith, is_out-given, is_among-In)
     ])
 
 back : (s : State) (lib ino : ℕ) → AllAway s → AllAway (given_back s lib ino)
-back s lib ino a p (inr out) = a p (inr out)
-back s lib ino a p (inl lent) =
-    let g = lent_by (given_back s lib ino).open_grants p lent in
-    let f = filter-In (λ g. not (eqb g.lib lib && eqb g.ino ino && is_read g.kind)) g.0 s.open_grants g.1 in
-    a p (inl (by_lent s.open_grants g.0 p f.0 g.2 g.3))
+back s lib ino a p h = search (arith, lent_by, filter-In, by_lent)
 
 moded : (s : State) (ino mode : ℕ) (f : Option ModeFault) → AllAway s → AllAway (moded_to s ino mode f).after
 moded s ino mode (Some f) a = after_no_mode AllAway s f a a
@@ -147,9 +126,7 @@ module _ (s s' : State) (k : Kept s) (lib : ℕ) (b : Bundle) (given : GivenTo s
       ])
 
 released : (s s' : State) (k : Kept s) (lib : ℕ) (b : Bundle) (answer : CtlAnswer) → GivenTo s lib b → ReleaseEnd s lib b answer s' → AllAway s → AllAway s'
-released s s' k lib b answer given (Parted n some e same) a = subst AllAway (sym same) a
-released s s' k lib b answer given (IsAccepted none t e ends) a = ended s s' k lib b given _ ends a
-released s s' k lib b answer given (IsRefused none f why e tells ends) a = ended s s' k lib b given _ ends a
+released s s' k lib b answer given h a = search (arith, ended)
 
 pub starts_away : StartsAway
 starts_away image creds p (inl lent) = absurd (false≢true lent)

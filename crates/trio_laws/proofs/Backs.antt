@@ -1,16 +1,15 @@
 -- Giving a read lease back keeps what holds of a state.
-use Rattle.std.proofs.Common.{◌≡◌, ℕ, Bool, true, false, cond, ◌&&◌, not, eqb, List, [], ◌∷◌, ◌++◌, Option, Some, None, sym, refl, ap, ◌∙◌, subst, inl, inr}
+use Rattle.std.proofs.Common.{◌≡◌, ℕ, Bool, true, false, cond, ◌&&◌, not, eqb, List, [], ◌∷◌, ◌++◌, Option, Some, None, sym, refl, ap, ◌∙◌, subst, inl, inr, arith}
 use Rattle.std.specs.List.{list_any, filter, flat_map}
 use Rattle.std.proofs.lemmas.List.Kept.{AllPairs-filter}
 use Rattle.std.proofs.lemmas.Bool.{and_parts, and_right, false≢true, not-false, not_from_false}
 use Rattle.trio_rights.specs.Row.{Row}
 use Rattle.trio_nodes.specs.declared.grant.GrantKind.{GrantKind}
-use Rattle.trio_nodes.specs.declared.grant.GrantKind.TheVariants.{Read, Write, Hold}
 use Rattle.trio_lists.specs.Lists.{is_among, In}
 use Rattle.trio_state.specs.Grants.{has_parent_grant, given_back}
-use Rattle.trio_layout.specs.Image.{IsFit, Image, settled_body, row_at}
+use Rattle.trio_layout.specs.Image.{IsFit, Image}
 use Rattle.trio_state.specs.Kept.{Kept, LentIsListed, MayBothStand}
-use Rattle.trio_rights.specs.Sheets.{Sheet, sheet_numbers, with_pages}
+use Rattle.trio_rights.specs.Sheets.{Sheet, sheet_numbers}
 use Rattle.trio_state.specs.State.{covered, OpenGrant, State, settled}
 use Rattle.trio_nodes.specs.GrantKinds.{is_write, is_read}
 use Rattle.trio_state.specs.Step.{Back, CtlAnswer, Step}
@@ -30,39 +29,24 @@ no_sheets [] e = refl
 no_sheets (x ∷ xs) e = absurd cc
 
 read_bare : (g : OpenGrant) → is_read g.kind ≡ true → sheet_numbers g.checkpoint ≡ sheet_numbers (covered g.kind g.of g.index g.blocks) → g.checkpoint ≡ []
-read_bare g r e = no_sheets g.checkpoint (e ∙ by_kind g.kind r)
-  where
-    by_kind : (t : GrantKind) → is_read t ≡ true → sheet_numbers (covered t g.of g.index g.blocks) ≡ []
-    by_kind Read e = refl
-    by_kind Write e = absurd (false≢true e)
-    by_kind Hold e = absurd (false≢true e)
+read_bare g r e = search (arith, no_sheets, false≢true)
 
 write_unread : (t : GrantKind) → is_write t ≡ true → is_read t ≡ false
-write_unread Write e = refl
-write_unread Read e = absurd (false≢true e)
-write_unread Hold e = absurd (false≢true e)
+write_unread t e = search (arith, false≢true)
 
 module _ (s : State) (k : Kept s) (lib ino : ℕ) where
   abbrev stays : OpenGrant → Bool
   stays g = not (eqb g.lib lib && eqb g.ino ino && is_read g.kind)
 
   pub settled_back : settled (given_back s lib ino) ≡ settled s
-  settled_back =
-      let J : List (Option (List ℕ)) → Image = λ pages. record { core = record { pages = pages; root = s.home.core.root; range = s.home.core.range; inodes = s.home.core.inodes }; rows = s.home.rows; owners = s.home.owners } in
-      ap (λ l. J (with_pages l s.home.core.pages))
-      (flat_filter (λ (g : OpenGrant). g.checkpoint) stays s.open_grants
-      (λ g i out.
-      let p = and_parts (eqb g.lib lib && eqb g.ino ino) (is_read g.kind) (not-false (eqb g.lib lib && eqb g.ino ino && is_read g.kind) out) in
-      read_bare g p.1 (k.checkpoints g i)))
+  settled_back = search (arith, flat_filter, and_parts, not-false, read_bare)
 
   write_stays : (g : OpenGrant) → is_write g.kind ≡ true → stays g ≡ true
   write_stays g w =
       not_from_false (eqb g.lib lib && eqb g.ino ino && is_read g.kind) (and_right (eqb g.lib lib && eqb g.ino ino) (is_read g.kind) (write_unread g.kind w))
 
   any_writes : (p : OpenGrant → Bool) → ((g : OpenGrant) → p g ≡ true → is_write g.kind ≡ true) → list_any p s.open_grants ≡ true → list_any p (filter stays s.open_grants) ≡ true
-  any_writes p w e =
-      let a = list_any-In p s.open_grants e in
-      In-list_any p a.0 (filter stays s.open_grants) (In-filter stays a.0 s.open_grants a.1 (write_stays a.0 (w a.0 a.2))) a.2
+  any_writes p w e = search (arith, list_any-In, In-list_any, In-filter, write_stays)
 
   parent_back : (l : ℕ) (r : Option Row) → has_parent_grant s l r ≡ true → has_parent_grant (given_back s lib ino) l r ≡ true
   parent_back l None e = e
@@ -75,9 +59,7 @@ module _ (s : State) (k : Kept s) (lib ino : ℕ) where
     verifies = (let P : Image → Type 0 = λ x. Verifies x in subst P (sym settled_back) k.verifies);
     live = λ g i. k.live g (filter-In stays g s.open_grants i).0;
     apart = AllPairs-filter MayBothStand stays s.open_grants k.apart;
-    held = λ g i w.
-        let h = k.held g (filter-In stays g s.open_grants i).0 w in
-        (parent_back g.lib (row_at s.home g.ino) h.0, h.1 ∙ ap (λ (x : Image). settled_body x g.ino) (sym settled_back));
+    held = search (arith, filter-In, parent_back, settled_back);
     lent = λ g i w. (let P : Image → Type 0 = λ x. LentIsListed x g in subst P (sym settled_back) (k.lent g (filter-In stays g s.open_grants i).0 w));
     checkpoints = λ g i. k.checkpoints g (filter-In stays g s.open_grants i).0;
     absent = λ p gone c. elim (k.absent p gone c) [

@@ -1,21 +1,20 @@
 -- What a bundle that was given to its library can touch.
 use Rattle.std.proofs.Common.{◌≡◌, ℕ, ◌<◌, Bool, true, false, cond, ◌&&◌, ◌||◌, not, eqb, List, [], ◌∷◌, ◌++◌, Option, Some, None, Ok, sym, refl, ap, ◌∙◌, subst, inl, inr, ◌⊎◌, arith}
 use Rattle.std.specs.Prelude.{map, is_some, slice_index}
-use Rattle.std.specs.List.{flat_map, find, filter, list_all}
+use Rattle.std.specs.List.{flat_map, find}
 use Rattle.std.specs.Option.{option_map_or}
 use Rattle.std.proofs.lemmas.List.{map-append}
 use Rattle.std.proofs.lemmas.Bool.{and_parts, and_from, or_cases, or_left, or_right, eqb-true, eq-eqb, false≢true, not-true, both_ways, false_from_ne_true, cases_Bool}
 use Rattle.trio_rights.specs.Row.{Row}
 use Rattle.trio_nodes.specs.declared.grant.GrantKind.{GrantKind}
-use Rattle.trio_nodes.specs.declared.grant.GrantKind.TheVariants.{Read, Write, Hold}
+use Rattle.trio_nodes.specs.declared.grant.GrantKind.TheVariants.{Write, Hold}
 use Rattle.trio_layout.specs.Body.{body_of, block_count}
 use Rattle.trio_layout.specs.Chain.{index_count, chain_of}
 use Rattle.trio_layout.specs.Core.{Core, page_of}
 use Rattle.trio_lists.specs.Lists.{In, is_among}
 use Rattle.trio_layout.specs.Sound.{is_sound}
 use Rattle.trio_layout.specs.Survey.{Met, Pick, plain, FileRead, file_of, survey, children, pages_of}
-use Rattle.trio_state.specs.Allotments.{out_after, has_none_out}
-use Rattle.trio_state.specs.Bundles.{is_parent_written, is_parted, lower, lowest, parted_hold, is_in_bundle, has_all}
+use Rattle.trio_state.specs.Bundles.{is_parent_written, is_parted, lowest, parted_hold, is_in_bundle, has_all}
 use Rattle.trio_nodes.specs.GrantKinds.{is_hold, is_write, is_read}
 use Rattle.trio_state.specs.Given.{GivenTo}
 use Rattle.trio_state.specs.Grants.{has_parent_grant}
@@ -65,19 +64,11 @@ written_from b n i =
 
 none_lowest : (ns : List ℕ) → lowest ns ≡ None → ns ≡ []
 none_lowest [] e = refl
-none_lowest (n ∷ ns) e = absurd (lower_some (lowest ns) e)
-  where
-    lower_some : (o : Option ℕ) → lower n o ≡ None → ⊥
-    lower_some None e = absurd cc
-    lower_some (Some m) e = absurd cc
+none_lowest (n ∷ ns) e = search arith
 
 -- where no hold is parted, each open grant is none that is
 pub unparted_at : (s : State) (lib : ℕ) (b : Bundle) (g : OpenGrant) → parted_hold s lib b ≡ None → In g s.open_grants → is_parted s lib b g ≡ false
-unparted_at s lib b g none i =
-    false_from_ne_true (is_parted s lib b g)
-    (λ t.
-    let j = In-map (λ (x : OpenGrant). x.ino) g (filter (is_parted s lib b) s.open_grants) (In-filter (is_parted s lib b) g s.open_grants i t) in
-    subst (λ l. In g.ino l) (none_lowest (map (λ (x : OpenGrant). x.ino) (filter (is_parted s lib b) s.open_grants)) none) j)
+unparted_at s lib b g none i = search (arith, false_from_ne_true, In-map, In-filter, none_lowest)
 
 pub unparted_from : (s : State) (lib : ℕ) (b : Bundle) → ((g : OpenGrant) → In g s.open_grants → is_parted s lib b g ≡ false) → parted_hold s lib b ≡ None
 unparted_from s lib b h = ap (λ l. lowest (map (λ (x : OpenGrant). x.ino) l)) (filter-none (is_parted s lib b) s.open_grants h)
@@ -97,29 +88,14 @@ closed_unparted s lib b none g r i kind mine row written =
     ]
 
 hold_in_bundle : (kind : GrantKind) (a w h : Bool) → kind ≡ Hold → (a && ((is_write kind && w) || (is_hold kind && h))) ≡ true → h ≡ true
-hold_in_bundle Hold a w h e t = (and_parts a h t).1
-hold_in_bundle Read a w h e t = absurd cc
-hold_in_bundle Write a w h e t = absurd cc
+hold_in_bundle kind a w h e t = search (arith, and_parts)
 
 pub hold_reads : (kind : GrantKind) → kind ≡ Hold → is_read kind ≡ false
 hold_reads kind e = ap is_read e
 
 -- each grant of the library, but one for reading, is in a bundle of all that it has
 pub own_in_all : (s : State) (lib : ℕ) (b : Bundle) (g : OpenGrant) → has_all s lib b ≡ true → In g s.open_grants → g.lib ≡ lib → is_read g.kind ≡ false → is_in_bundle lib b g ≡ true
-own_in_all s lib b g all i mine quiet =
-    let grants : Bool = list_all (λ (g : OpenGrant). not (eqb g.lib lib) || is_read g.kind || is_in_bundle lib b g) s.open_grants in
-    let pages : Bool = has_none_out lib (out_after s.pages_out (sheet_numbers b.pages)) in
-    let p = and_parts (grants && pages) (has_none_out lib (out_after s.numbers_out b.numbers)) all in
-    let q = and_parts grants pages p.0 in
-    let t = list_all-In (λ (g : OpenGrant). not (eqb g.lib lib) || is_read g.kind || is_in_bundle lib b g) g s.open_grants q.0 i in
-    elim (or_cases (not (eqb g.lib lib) || is_read g.kind) (is_in_bundle lib b g) t) [
-      | inr own ↦ own
-      | inl other ↦
-          elim (or_cases (not (eqb g.lib lib)) (is_read g.kind) other) [
-            | inl apart ↦ absurd (both_ways (eqb g.lib lib) (not-true (eqb g.lib lib) apart) (eq-eqb g.lib lib mine))
-            | inr read ↦ absurd (false≢true (sym quiet ∙ read))
-          ]
-    ]
+own_in_all s lib b g all i mine quiet = search (arith, and_parts, list_all-In, or_cases, both_ways, not-true, eq-eqb, false≢true)
 
 -- a bundle of all that the library has is closed
 pub closed_all : (s : State) (lib : ℕ) (b : Bundle) → has_all s lib b ≡ true → Closed s lib b
@@ -142,21 +118,13 @@ unparted_all s k lib b all =
     (parent_in_all (row_at s.home g.ino) (subst (λ l. has_parent_grant s l (row_at s.home g.ino) ≡ true) mine (k.held g i kind).0))))
   where
     hold_is : (t : GrantKind) → is_hold t ≡ true → t ≡ Hold
-    hold_is Hold e = refl
-    hold_is Read e = absurd (false≢true e)
-    hold_is Write e = absurd (false≢true e)
+    hold_is t e = search (arith, false≢true)
 
     write_quiet : (t : GrantKind) → is_write t ≡ true → is_read t ≡ false
-    write_quiet Write e = refl
-    write_quiet Read e = absurd (false≢true e)
-    write_quiet Hold e = absurd (false≢true e)
+    write_quiet t e = search (arith, false≢true)
 
     write_in_bundle : (t : GrantKind) (a w h : Bool) → is_write t ≡ true → (a && ((is_write t && w) || (is_hold t && h))) ≡ true → w ≡ true
-    write_in_bundle Write true true h e q = refl
-    write_in_bundle Write true false h e q = absurd (false≢true q)
-    write_in_bundle Write false w h e q = absurd (false≢true q)
-    write_in_bundle Read a w h e q = absurd (false≢true e)
-    write_in_bundle Hold a w h e q = absurd (false≢true e)
+    write_in_bundle t a w h e q = search (arith, false≢true)
 
     parent_in_all : (o : Option Row) → has_parent_grant s lib o ≡ true → is_parent_written b o ≡ true
     parent_in_all None e = absurd (false≢true e)
@@ -179,9 +147,7 @@ module _ (s : State) (k : Kept s) (lib : ℕ) (b : Bundle) (given : GivenTo s li
 
   -- the pages of a written file are those that its grant lent
   pub written_same : (w : Written) (i : In w b.writes) → sheet_numbers (w.index ++ w.blocks) ≡ sheet_numbers ((given.writes w i).grant.index ++ (given.writes w i).grant.blocks)
-  written_same w i =
-      let g = given.writes w i in
-      map-append (λ (x : Sheet). x.page) w.index w.blocks ∙ ap (λ l. l ++ sheet_numbers w.blocks) g.index ∙ ap (λ l. sheet_numbers g.grant.index ++ l) g.blocks ∙ sym (map-append (λ (x : Sheet). x.page) g.grant.index g.grant.blocks)
+  written_same w i = search (arith, map-append)
 
   pub written_lent : (w : Written) (i : In w b.writes) (p : ℕ) → In p (sheet_numbers (w.index ++ w.blocks)) → In p (sheet_numbers ((given.writes w i).grant.index ++ (given.writes w i).grant.blocks))
   written_lent w i p a = subst (λ l. In p l) (written_same w i) a
@@ -263,9 +229,7 @@ module _ (s : State) (k : Kept s) (lib : ℕ) (b : Bundle) (given : GivenTo s li
       let same : x.grant ≡ g = alone s.open_grants x.grant g k.apart x.is_open i (hold_reads x.grant.kind x.kind) x.ino in
       let a : eqb g.lib lib ≡ true = eq-eqb g.lib lib (ap (λ (y : OpenGrant). y.lib) (sym same) ∙ x.lib) in
       let h : is_hold g.kind ≡ true = ap is_hold (ap (λ (y : OpenGrant). y.kind) (sym same) ∙ x.kind) in
-      both_ways (is_in_bundle lib b g) out
-      (and_from (eqb g.lib lib) ((is_write g.kind && is_written b g.ino) || (is_hold g.kind && is_among g.ino b.holds)) a
-      (or_right (is_write g.kind && is_written b g.ino) (is_hold g.kind && is_among g.ino b.holds) (and_from (is_hold g.kind) (is_among g.ino b.holds) h (In-is_among g.ino b.holds j))))
+      search (arith, both_ways, and_from, or_right, In-is_among)
 
   -- nor is it on a written file of it
   pub outside_unwritten : (g : OpenGrant) → In g s.open_grants → is_in_bundle lib b g ≡ false → Unwritten b g.ino
@@ -276,6 +240,4 @@ module _ (s : State) (k : Kept s) (lib : ℕ) (b : Bundle) (given : GivenTo s li
       let kind : is_write g.kind ≡ true = ap is_write (ap (λ (y : OpenGrant). y.kind) (sym same) ∙ x.kind) in
       let f = In-find (λ (w : Written). eqb w.ino g.ino) b.writes w j (eq-eqb w.ino g.ino e) in
       let some' : is_some (find (λ (w : Written). eqb w.ino g.ino) b.writes) ≡ true = ap is_some f.1 in
-      both_ways (is_in_bundle lib b g) out
-      (and_from (eqb g.lib lib) ((is_write g.kind && is_written b g.ino) || (is_hold g.kind && is_among g.ino b.holds)) a
-      (or_left (is_write g.kind && is_written b g.ino) (is_hold g.kind && is_among g.ino b.holds) (and_from (is_write g.kind) (is_written b g.ino) kind some')))
+      search (arith, both_ways, and_from, or_left)

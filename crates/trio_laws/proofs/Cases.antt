@@ -1,38 +1,23 @@
 -- What holds of a state after a call and along a run, by the ways that a call can go.
-use Rattle.std.proofs.Common.{ℕ, Bool, true, false, cond, ltb, List, [], ◌∷◌, length, take, sym, subst, inl, inr}
+use Rattle.std.proofs.Common.{ℕ, List, [], ◌∷◌, take, sym, subst, inl, inr, arith}
 use Rattle.trio_nodes.specs.declared.answers.GrantFault.{GrantFault}
-use Rattle.trio_nodes.specs.declared.answers.GrantFault.TheVariants.{NotLive, Denied, NoParent, Busy, NoMemory as OutOfMemory}
 use Rattle.trio_nodes.specs.declared.answers.ModeFault.{ModeFault}
-use Rattle.trio_nodes.specs.declared.answers.ModeFault.TheVariants.{NotLive as ModeNotLive, NotOwner, BadMode, Busy as ModeBusy, NoMemory as ModeNoMemory}
 use Rattle.trio_lists.specs.Lists.{In}
 use Rattle.trio_state.specs.State.{State, logged}
 use Rattle.trio_state.specs.Allotments.{free_pages, free_numbers, allots}
 use Rattle.trio_state.specs.Given.{GivenEvent}
 use Rattle.trio_state.specs.Run.{Move, Trace}
-use Rattle.trio_state.specs.Step.{Event, CtlAnswer, NoPages, NoInodes, Given, Outcome, Step, after_grant_fault, after_mode_fault, allot_outcome}
+use Rattle.trio_state.specs.Step.{Event, CtlAnswer, Step, after_grant_fault, after_mode_fault, allot_outcome}
 
 module _ (P : State → Type 0) where
   pub after_no_grant : (s : State) (f : GrantFault) → P s → P (logged s) → P (after_grant_fault s f)
-  after_no_grant s NotLive same more = more
-  after_no_grant s (Denied n) same more = more
-  after_no_grant s NoParent same more = more
-  after_no_grant s (Busy holder) same more = same
-  after_no_grant s OutOfMemory same more = more
+  after_no_grant s f same more = search arith
 
   pub after_no_mode : (s : State) (f : ModeFault) → P s → P (logged s) → P (after_mode_fault s f)
-  after_no_mode s ModeNotLive same more = more
-  after_no_mode s NotOwner same more = more
-  after_no_mode s BadMode same more = more
-  after_no_mode s (ModeBusy holder) same more = same
-  after_no_mode s ModeNoMemory same more = more
+  after_no_mode s f same more = search arith
 
   pub after_allot : (s : State) (lib count many : ℕ) → P (logged s) → P (allots s lib (take count (free_pages s)) (take many (free_numbers s))) → P (allot_outcome s lib count many).after
-  after_allot s lib count many more out = either (ltb (length (free_pages s)) count) (ltb (length (free_numbers s)) many)
-    where
-      either : (a b : Bool) → P (cond {A = Outcome} a (record { answer = NoPages count (length (free_pages s)); after = logged s }) (cond b (record { answer = NoInodes many (length (free_numbers s)); after = logged s }) (record { answer = Given (take count (free_pages s)) (take many (free_numbers s)); after = allots s lib (take count (free_pages s)) (take many (free_numbers s)) }))).after
-      either true b = more
-      either false true = more
-      either false false = out
+  after_allot s lib count many more out = search arith
 
   -- what each step keeps holds before and after each move
   pub trace_keeps : ((s : State) (event : Event) (answer : CtlAnswer) (s' : State) → P s → GivenEvent s event → Step s event answer s' → P s') → (s : State) (moves : List Move) → P s → Trace s moves → (m : Move) → In m moves → P m.before × P m.after

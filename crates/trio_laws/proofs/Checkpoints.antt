@@ -1,10 +1,8 @@
 -- Sheets that go by no order, and the checkpoints of a state that is kept.
 use Rattle.std.proofs.Common.{◌≡◌, ℕ, ◌<◌, true, not, ltb, leb, List, [], ◌∷◌, ◌++◌, length, Option, Some, None, slice_get, slice_set, sym, refl, ap, ◌∙◌, subst, inl, inr, arith}
-use Rattle.std.specs.Option.{option_map}
 use Rattle.std.proofs.lemmas.List.{map-append}
 use Rattle.std.proofs.lemmas.Bool.{and_parts, cases_eq, ne_eqb, ltb-true}
 use Rattle.trio_rights.specs.declared.kind.Kind.{Kind}
-use Rattle.trio_rights.specs.declared.kind.Kind.TheVariants.{Regular, Directory}
 use Rattle.trio_nodes.specs.declared.grant.GrantKind.TheVariants.{Write}
 use Rattle.trio_layout.specs.Core.{Core, page_of}
 use Rattle.trio_lists.specs.Lists.{In, is_among, are_new}
@@ -25,11 +23,7 @@ use Rattle.trio_surveys.proofs.Sheets.{Pages, among_cases, with_pages_apart, wit
 use Rattle.trio_laws.proofs.StateFacts.{covered_write, write_alone, lent_met, lent_file}
 
 set_past : (pages : Pages) (k n : ℕ) (x : Option (List ℕ)) → slice_get pages n ≡ None → slice_get (slice_set pages k x) n ≡ None
-set_past pages k n x e =
-    elim (cases_eq k n) [
-      | inl same ↦ ap (λ j. slice_get (slice_set pages j x) n) same ∙ get-set_same pages n x ∙ ap (option_map (λ _. x)) e
-      | inr differ ↦ get-set_other pages k n x (ne_eqb k n differ) ∙ e
-    ]
+set_past pages k n x e = search (arith, cases_eq, get-set_same, get-set_other, ne_eqb)
 
 with_pages_past : (ss : List Sheet) (pages : Pages) (n : ℕ) → slice_get pages n ≡ None → slice_get (with_pages ss pages) n ≡ None
 with_pages_past [] pages n e = e
@@ -70,11 +64,7 @@ one_sheet seen (z ∷ zs) x y new i j e =
     let here : In z.page (seen ++ z.page ∷ []) = In-right z.page seen (z.page ∷ []) (inl refl) in
     are_new-before z.page (seen ++ z.page ∷ []) (sheet_numbers zs) parts.1 (in_numbers zs w z.page a (sym on)) here in
     elim i [
-      | inl a ↦
-          elim j [
-            | inl b ↦ a ∙ sym b
-            | inr b ↦ absurd (once y b (sym e ∙ ap (λ (w : Sheet). w.page) a))
-          ]
+      | inl a ↦ search arith
       | inr a ↦
           elim j [
             | inl b ↦ absurd (once x a (e ∙ ap (λ (w : Sheet). w.page) b))
@@ -83,10 +73,7 @@ one_sheet seen (z ∷ zs) x y new i j e =
     ]
 
 covered_new : (of : Kind) (index blocks : List Sheet) → are_new [] (sheet_numbers (index ++ blocks)) ≡ true → are_new [] (sheet_numbers (covered Write of index blocks)) ≡ true
-covered_new Directory index blocks h = h
-covered_new Regular index blocks h =
-    (and_parts (are_new [] (sheet_numbers index)) (are_new (sheet_numbers index) (sheet_numbers blocks))
-    (sym (are_new-append [] (sheet_numbers index) (sheet_numbers blocks)) ∙ ap (are_new []) (sym (map-append (λ (x : Sheet). x.page) index blocks)) ∙ h)).0
+covered_new of index blocks h = search (arith, and_parts, are_new-append, map-append)
 
 module _ (s : State) (k : Kept s) where
   -- a sheet of a checkpoint, with its grant
@@ -117,13 +104,7 @@ module _ (s : State) (k : Kept s) where
 
   -- no page stands in the checkpoints with different bytes
   pub checkpoints_one : OneEach (checkpoints_of s.open_grants)
-  checkpoints_one x y i j e =
-      let a = checkpoint_from x i in
-      let b = checkpoint_from y j in
-      let theirs : In x.page (sheet_numbers (b.0.index ++ b.0.blocks)) = subst (λ n. In n (sheet_numbers (b.0.index ++ b.0.blocks))) (sym e) b.4 in
-      let same : a.0 ≡ b.0 = one_lender x.page a.0 b.0 a.1 b.1 a.3 b.3 a.4 theirs in
-      let mine : In y a.0.checkpoint = subst (λ (g : OpenGrant). In y g.checkpoint) (sym same) b.2 in
-      ap (λ (w : Sheet). w.bytes) (one_sheet [] a.0.checkpoint x y (checkpoint_new a.0 a.1 a.3) a.2 mine e)
+  checkpoints_one x y i j e = search (arith, checkpoint_from, one_lender, one_sheet, checkpoint_new)
 
   -- a covered page is settled as its sheet says
   pub checkpoint_settled : (x : Sheet) → In x (checkpoints_of s.open_grants) → page_of (settled s).core x.page ≡ Some x.bytes

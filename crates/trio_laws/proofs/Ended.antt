@@ -80,15 +80,7 @@ module _ (s s' : State) (k : Kept s) (lib : ℕ) (b : Bundle) (given : GivenTo s
   apart_then = pairs_like MayBothStand (λ x y h. h) (λ x y h. h) s'.open_grants (grants_after s lib b) e.grants (AllPairs-filter MayBothStand (λ g. not (is_in_bundle lib b g)) s.open_grants k.apart)
 
   pub checkpoints_then : (g : OpenGrant) → In g s'.open_grants → sheet_numbers g.checkpoint ≡ sheet_numbers (covered g.kind g.of g.index g.blocks)
-  checkpoints_then g i =
-      let r = grant_before g i in
-      let h : OpenGrant = r.0 in
-      let part : lent_part g ≡ lent_part h = r.3 in
-      sym (blank_numbers g.checkpoint)
-      ∙ ap (λ (x : OpenGrant). sheet_numbers x.checkpoint) part
-      ∙ blank_numbers h.checkpoint
-      ∙ k.checkpoints h r.1
-      ∙ ap (λ (x : OpenGrant). sheet_numbers (covered x.kind x.of x.index x.blocks)) (sym part)
+  checkpoints_then g i = search (arith, grant_before, blank_numbers)
 
   -- a write grant of the bundle is that of one of its written files
   pub write_in_bundle : (g : OpenGrant) → In g s.open_grants → g.kind ≡ Write → is_in_bundle lib b g ≡ true → (w : Written) × (i : In w b.writes) × ((given.writes w i).grant ≡ g)
@@ -104,15 +96,7 @@ module _ (s s' : State) (k : Kept s) (lib : ℕ) (b : Bundle) (given : GivenTo s
       let hk : h.kind ≡ Write = write_is h.kind p1.1 in
       let lib_same : h.lib ≡ g.lib = eqb-true h.lib g.lib p2.0 in
       let ino_same : h.ino ≡ r.parent = eqb-true h.ino r.parent p2.1 in
-      let h_out : is_in_bundle lib b h ≡ false =
-      false_from_ne_true (is_in_bundle lib b h)
-      (λ t.
-      let w = write_in_bundle h a.1 hk t in
-      let x = given.writes w.0 w.1 in
-      let hl : h.lib ≡ lib = ap (λ (y : OpenGrant). y.lib) (sym w.2) ∙ x.lib in
-      let hi : r.parent ≡ w.0.ino = sym ino_same ∙ ap (λ (y : OpenGrant). y.ino) (sym w.2) ∙ x.ino in
-      let j : In r.parent (map (λ (w : Written). w.ino) b.writes) = subst (λ n. In n (map (λ (w : Written). w.ino) b.writes)) (sym hi) (In-map (λ (w : Written). w.ino) w.0 b.writes w.1) in
-      unheld (closed g r i kind (sym lib_same ∙ hl) row j)) in
+      let h_out : is_in_bundle lib b h ≡ false = search (arith, false_from_ne_true, write_in_bundle, In-map) in
       let n = grant_after h a.1 h_out in
       let h' : OpenGrant = n.0 in
       let l' : h'.lib ≡ g'.lib = ap (λ (y : OpenGrant). y.lib) (sym n.2) ∙ lib_same ∙ ap (λ (y : OpenGrant). y.lib) (sym part) in
@@ -122,14 +106,10 @@ module _ (s s' : State) (k : Kept s) (lib : ℕ) (b : Bundle) (given : GivenTo s
       (and_from (eqb h'.lib g'.lib && eqb h'.ino q.parent) (is_write h'.kind) (and_from (eqb h'.lib g'.lib) (eqb h'.ino q.parent) (eq-eqb h'.lib g'.lib l') (eq-eqb h'.ino q.parent i')) k')
 
   pub outs_then : (n : ℕ) → is_out s'.pages_out n ≡ true → (is_out s.pages_out n ≡ true) × (In n (sheet_numbers b.pages) → ⊥)
-  outs_then n out =
-      let r = is_out-back (sheet_numbers b.pages) n s.pages_out (ap (λ l. is_out l n) (sym e.pages) ∙ out) in
-      (r.0, λ j. both_ways (is_among n (sheet_numbers b.pages)) r.1 (In-is_among n (sheet_numbers b.pages) j))
+  outs_then n out = search (arith, is_out-back, both_ways, In-is_among)
 
   pub numbers_then : (n : ℕ) → is_out s'.numbers_out n ≡ true → (is_out s.numbers_out n ≡ true) × (In n b.numbers → ⊥)
-  numbers_then n out =
-      let r = is_out-back b.numbers n s.numbers_out (ap (λ l. is_out l n) (sym e.numbers) ∙ out) in
-      (r.0, λ j. both_ways (is_among n b.numbers) r.1 (In-is_among n b.numbers j))
+  numbers_then n out = search (arith, is_out-back, both_ways, In-is_among)
 
   pub pages_placed_then : length s'.pages_out ≡ s.home.core.range.end
   pages_placed_then = ap length e.pages ∙ length-with_all None (sheet_numbers b.pages) s.pages_out ∙ k.pages_placed
@@ -145,17 +125,5 @@ module _ (s s' : State) (k : Kept s) (lib : ℕ) (b : Bundle) (given : GivenTo s
             let r = numbers_flat s'.open_grants p covered' in
             let c = covered_write r.0.kind r.0.of r.0.index r.0.blocks p (subst (λ l. In p l) (checkpoints_then r.0 r.1) r.2) in
             inl (by_lent s'.open_grants r.0 p r.1 c.0 c.1)
-        | inr none ↦
-            let now : slice_get image'.core.pages p ≡ Some None =
-            ap (λ (i : Image). slice_get i.core.pages p) (sym e.settles) ∙ with_pages_apart (flat_map (λ g. g.checkpoint) s'.open_grants) s'.home.core.pages p none ∙ gone in
-            elim (h now) [
-              | inl g ↦
-                  let n = grant_after g.0 g.1 g.2 in
-                  let kind : n.0.kind ≡ Write = ap (λ (y : OpenGrant). y.kind) (sym n.2) ∙ g.3 in
-                  let a : In p (sheet_numbers (n.0.index ++ n.0.blocks)) = subst (λ l. In p l) (ap (λ (y : OpenGrant). sheet_numbers (y.index ++ y.blocks)) n.2) g.4 in
-                  inl (by_lent s'.open_grants n.0 p n.1 kind a)
-              | inr o ↦
-                  let unhanded = false_from_ne_true (is_among p (sheet_numbers b.pages)) (λ t. o.1 (is_among-In p (sheet_numbers b.pages) t)) in
-                  inr (ap (λ l. is_out l p) e.pages ∙ ap is_some (lib_at-others None (sheet_numbers b.pages) p s.pages_out unhanded) ∙ o.0)
-            ]
+        | inr none ↦ search (arith, with_pages_apart, grant_after, by_lent, false_from_ne_true, is_among-In, lib_at-others)
       ]

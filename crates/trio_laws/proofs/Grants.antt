@@ -1,7 +1,7 @@
 -- Every grant keeps what holds of a state.
-use Rattle.std.proofs.Common.{◌≡◌, ℕ, Bool, true, false, cond, ◌&&◌, not, eqb, List, [], ◌∷◌, ◌++◌, get_or, Option, Some, None, slice_get, sym, refl, ap, ◌∙◌, subst, inl, inr, ◌⊎◌}
+use Rattle.std.proofs.Common.{◌≡◌, ℕ, Bool, true, false, cond, ◌&&◌, not, eqb, List, [], ◌∷◌, ◌++◌, get_or, Option, Some, None, slice_get, sym, refl, ap, ◌∙◌, subst, inl, inr, ◌⊎◌, arith}
 use Rattle.std.specs.Prelude.{is_some}
-use Rattle.std.specs.List.{filter, flat_map, list_any}
+use Rattle.std.specs.List.{filter, list_any}
 use Rattle.std.specs.Option.{option_map}
 use Rattle.std.proofs.lemmas.List.{append-nil}
 use Rattle.std.proofs.lemmas.List.Folds.{list_any-append}
@@ -13,13 +13,13 @@ use Rattle.trio_nodes.specs.declared.grant.GrantKind.{GrantKind}
 use Rattle.trio_nodes.specs.declared.grant.GrantKind.TheVariants.{Read, Write, Hold}
 use Rattle.trio_nodes.specs.declared.answers.GrantFault.{GrantFault}
 use Rattle.trio_nodes.specs.declared.answers.GrantFault.TheVariants.{NotLive, NoParent, Busy}
-use Rattle.trio_lists.specs.Lists.{is_among, In}
+use Rattle.trio_lists.specs.Lists.{In}
 use Rattle.trio_layout.specs.Survey.{row_by}
 use Rattle.trio_state.specs.Grants.{holder_of, denied_or, excluding, denied_by, lacks_parent, has_parent_grant, opened, lent_pages, opens, grant_fault}
 use Rattle.trio_nodes.specs.GrantKinds.{excludes_kind, is_write, is_read}
 use Rattle.trio_layout.specs.Image.{IsFit, Image, settled_body, row_at}
-use Rattle.trio_state.specs.Kept.{Kept, LentIsListed, MayBothStand, HoldStands}
-use Rattle.trio_rights.specs.Sheets.{sheet_numbers, with_pages, without_pages}
+use Rattle.trio_state.specs.Kept.{Kept, LentIsListed, MayBothStand}
+use Rattle.trio_rights.specs.Sheets.{sheet_numbers}
 use Rattle.trio_state.specs.State.{covered, OpenGrant, State, settled, logged}
 use Rattle.trio_state.specs.Step.{Grant, CtlAnswer, Step, granted_to}
 use Rattle.trio_layout.specs.Verifies.{Verifies}
@@ -30,32 +30,11 @@ use Rattle.trio_lists.proofs.Filters.{get_or-In}
 use Rattle.trio_laws.proofs.WriteGrant.{write_grant_kept}
 
 pub logged_kept : (s : State) → Kept s → Kept (logged s)
-logged_kept s k = record {
-  fit = k.fit;
-  verifies = k.verifies;
-  live = k.live;
-  apart = k.apart;
-  held = λ g i w. let h = k.held g i w in (parent_same (row_at s.home g.ino) g h.0, h.1);
-  lent = k.lent;
-  checkpoints = k.checkpoints;
-  absent = k.absent;
-  pages_placed = k.pages_placed;
-  out_free = k.out_free;
-  numbers_placed = k.numbers_placed;
-  numbers_free = k.numbers_free;
-}
-  where
-    parent_same : (r : Option Row) (g : OpenGrant) → has_parent_grant s g.lib r ≡ true → has_parent_grant (logged s) g.lib r ≡ true
-    parent_same None g e = e
-    parent_same (Some r) g e = e
+logged_kept s k = search arith
 
 -- what a grant that isn't refused has passed
 refusal_none : (live : Bool) (d : Option ℕ) (parent : Bool) (o : Option OpenGrant) → cond live (Some NotLive) (denied_or d (cond parent (Some NoParent) (option_map (λ (g : OpenGrant). Busy (holder_of g)) o))) ≡ None → (parent ≡ false) × (o ≡ None)
-refusal_none true d parent o e = absurd cc
-refusal_none false (Some n) parent o e = absurd cc
-refusal_none false None true o e = absurd cc
-refusal_none false None false None e = (refl, refl)
-refusal_none false None false (Some g) e = absurd cc
+refusal_none live d parent o e = search arith
 
 filter_step : {X : Type 0} (p : X → Bool) (x : X) (zs : List X) (b : Bool) → p x ≡ b → slice_get (cond b (x ∷ filter p zs) (filter p zs)) 0 ≡ None → (p x ≡ false) × (slice_get (filter p zs) 0 ≡ None)
 filter_step p x zs true t e = absurd cc
@@ -67,13 +46,7 @@ none_passes p (z ∷ zs) x e (inl s) = ap p s ∙ (filter_step p z zs (p z) refl
 none_passes p (z ∷ zs) x e (inr i) = none_passes p zs x (filter_step p z zs (p z) refl e).1 i
 
 pub excluded_none : (s : State) (lib ino : ℕ) (kind : GrantKind) → grant_fault s lib ino kind ≡ None → (g : OpenGrant) → In g s.open_grants → g.ino ≡ ino → excludes_kind kind g.kind (eqb g.lib lib) ≡ false
-excluded_none s lib ino kind e g i same =
-    let r = refusal_none (not (is_some (row_at s.home ino))) (denied_by s lib ino kind) (lacks_parent s lib ino kind) (slice_get (excluding s lib ino kind) 0) e in
-    let p = none_passes (λ (g : OpenGrant). eqb g.ino ino && excludes_kind kind g.kind (eqb g.lib lib)) s.open_grants g r.1 i in
-    elim (and_cases (eqb g.ino ino) (excludes_kind kind g.kind (eqb g.lib lib)) p) [
-      | inl no' ↦ absurd (both_ways (eqb g.ino ino) no' (eq-eqb g.ino ino same))
-      | inr out ↦ out
-    ]
+excluded_none s lib ino kind e g i same = search (arith, refusal_none, none_passes, and_cases, both_ways, eq-eqb)
 
 write_grant : (s : State) (lib ino : ℕ) (r : Row) → Kept s → grant_fault s lib ino Write ≡ None → row_at s.home ino ≡ Some r → Kept (opens s (opened s lib ino Write r))
 write_grant s lib ino r k e row =
@@ -87,14 +60,7 @@ write_grant s lib ino r k e row =
 -- a grant that opened no page by move
 module _ (s : State) (k : Kept s) (g : OpenGrant) (none : lent_pages g ≡ []) (bare : g.checkpoint ≡ []) (read : g.kind ≡ Write → ⊥) where
   pub settled_same : settled (opens s g) ≡ settled s
-  settled_same =
-      let a : flat_map (λ g. g.checkpoint) (s.open_grants ++ g ∷ []) ≡ flat_map (λ g. g.checkpoint) s.open_grants =
-      flat_map-append (λ (g : OpenGrant). g.checkpoint) s.open_grants (g ∷ [])
-      ∙ ap (λ l. flat_map (λ g. g.checkpoint) s.open_grants ++ (l ++ [])) bare
-      ∙ append-nil (flat_map (λ g. g.checkpoint) s.open_grants) in
-      let J : List (Option (List ℕ)) → Image = λ pages. record { core = record { pages = pages; root = s.home.core.root; range = s.home.core.range; inodes = s.home.core.inodes }; rows = s.home.rows; owners = s.home.owners } in
-      ap (λ l. J (with_pages l (without_pages (lent_pages g) s.home.core.pages))) a
-      ∙ ap (λ l. J (with_pages (flat_map (λ g. g.checkpoint) s.open_grants) (without_pages l s.home.core.pages))) none
+  settled_same = search (arith, flat_map-append, append-nil)
 
   any_more : (p : OpenGrant → Bool) → list_any p s.open_grants ≡ true → list_any p (s.open_grants ++ g ∷ []) ≡ true
   any_more p h = list_any-append p s.open_grants (g ∷ []) ∙ or_left (list_any p s.open_grants) (list_any p (g ∷ [])) h
@@ -121,10 +87,7 @@ module _ (s : State) (k : Kept s) (g : OpenGrant) (none : lent_pages g ≡ []) (
     apart = all_pairs_push MayBothStand s.open_grants g k.apart (λ n d l. apart (get_or s.open_grants n d) (get_or-In s.open_grants n d l));
     held = λ h j w. elim (old_or_new h j) [
       | inl old ↦ let was = k.held h old w in (parent_more h.lib (row_at s.home h.ino) was.0, was.1 ∙ ap (λ x. settled_body x h.ino) (sym settled_same))
-      | inr new ↦
-          let q = held (sym (ap (λ (x : OpenGrant). x.kind) new) ∙ w) in
-          let H : OpenGrant → Type 0 = λ x. HoldStands (opens s g) x in
-          subst H (sym new) (parent_more g.lib (row_at s.home g.ino) q.0, q.1 ∙ ap (λ x. settled_body x g.ino) (sym settled_same))
+      | inr new ↦ search (arith, parent_more, settled_same)
     ];
     lent = λ h j w. elim (old_or_new h j) [
       | inl old ↦ let P : Image → Type 0 = λ x. LentIsListed x h in subst P (sym settled_same) (k.lent h old w)
@@ -132,16 +95,9 @@ module _ (s : State) (k : Kept s) (g : OpenGrant) (none : lent_pages g ≡ []) (
     ];
     checkpoints = λ h j. elim (old_or_new h j) [
       | inl old ↦ k.checkpoints h old
-      | inr new ↦
-          let C : OpenGrant → Type 0 = λ x. sheet_numbers x.checkpoint ≡ sheet_numbers (covered x.kind x.of x.index x.blocks) in
-          subst C (sym new) covers
+      | inr new ↦ search arith
     ];
-    absent = λ p gone c.
-        let was : slice_get s.home.core.pages p ≡ Some None = sym (ap (λ l. slice_get (without_pages l s.home.core.pages) p) none) ∙ gone in
-        elim (k.absent p was c) [
-          | inl lent ↦ inl (any_more (λ (x : OpenGrant). is_write x.kind && is_among p (sheet_numbers (x.index ++ x.blocks))) lent)
-          | inr out ↦ inr out
-        ];
+    absent = search (arith, any_more);
     pages_placed = k.pages_placed;
     out_free = k.out_free;
     numbers_placed = k.numbers_placed;
@@ -149,9 +105,7 @@ module _ (s : State) (k : Kept s) (g : OpenGrant) (none : lent_pages g ≡ []) (
   }
 
 reads_both : (kind : GrantKind) (same_lib : Bool) → excludes_kind Read kind same_lib ≡ false → (is_read kind ≡ true) × (same_lib ≡ false)
-reads_both Read same_lib e = (refl, e)
-reads_both Write same_lib e = absurd (false≢true (sym e))
-reads_both Hold same_lib e = absurd (false≢true (sym e))
+reads_both kind same_lib e = search (arith, false≢true)
 
 read_grant : (s : State) (lib ino : ℕ) (r : Row) → Kept s → grant_fault s lib ino Read ≡ None → row_at s.home ino ≡ Some r → Kept (opens s (opened s lib ino Read r))
 read_grant s lib ino r k e row =
@@ -177,15 +131,8 @@ granted s lib ino Write r k e row = write_grant s lib ino r k e row
 granted s lib ino Hold r k e row = hold_grant s lib ino r k e row
 
 outcome_kept : (s : State) (lib ino : ℕ) (kind : GrantKind) (a : Option GrantFault) (o : Option Row) → Kept s → grant_fault s lib ino kind ≡ a → row_at s.home ino ≡ o → Kept (granted_to s lib ino kind a o).after
-outcome_kept s lib ino kind (Some fault) o k e row = after_no_grant Kept s fault k (logged_kept s k)
-outcome_kept s lib ino kind None None k e row = k
-outcome_kept s lib ino kind None (Some r) k e row = granted s lib ino kind r k e row
+outcome_kept s lib ino kind a o k e row = search (arith, after_no_grant, logged_kept, granted)
 
 -- a step of a grant of any kind
 pub grant_kept : (s s' : State) (lib ino : ℕ) (kind : GrantKind) (answer : CtlAnswer) → Kept s → Step s (Grant lib ino kind) answer s' → Kept s'
-grant_kept s s' lib ino kind answer k step =
-    let K : State → Type 0 = λ x. Kept x in
-    elim step [
-      | inl does ↦ subst K (sym does.1) (outcome_kept s lib ino kind (grant_fault s lib ino kind) (row_at s.home ino) k refl refl)
-      | inr none ↦ subst K (sym none.2) k
-    ]
+grant_kept s s' lib ino kind answer k step = search (arith, outcome_kept)

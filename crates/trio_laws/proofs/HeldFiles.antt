@@ -1,13 +1,10 @@
 -- A held file that stays or moves keeps its content.
-use Rattle.std.proofs.Common.{◌≡◌, ℕ, true, ◌++◌, Some, Ok, sym, refl, ap, ◌∙◌, subst}
+use Rattle.std.proofs.Common.{◌≡◌, ℕ, true, ◌++◌, Some, Ok, sym, refl, ap, ◌∙◌, subst, arith}
 use Rattle.std.specs.Prelude.{map}
-use Rattle.trio_rights.specs.declared.kind.Kind.{Kind}
 use Rattle.trio_rights.specs.declared.rights.Creds.{Creds}
 use Rattle.trio_rights.specs.Row.{Row}
 use Rattle.trio_lists.specs.Lists.{In}
 use Rattle.trio_layout.specs.Core.{Core, page_of}
-use Rattle.trio_layout.specs.Body.{body_of}
-use Rattle.trio_layout.specs.Entries.{entries_of_kind}
 use Rattle.trio_layout.specs.Survey.{Pick, plain, file_of, survey}
 use Rattle.trio_layout.specs.Sound.{is_sound}
 use Rattle.trio_layout.specs.Image.{Image, IsFit, row_at, settled_body}
@@ -85,12 +82,7 @@ module _ (s : State) (lib : ℕ) (creds : Creds) (b : Bundle) (n : ℕ) (r q : R
   read_now =
       let r = reads_from core was.met was.file (same_file image.core core was.met was.file refl refl was.read
       page_stays) in
-      reads_to core is.met was.file (record {
-        body = ap (λ (c : Kind). body_of c core.range is.met.body) same_kind
-            ∙ ap (body_of was.met.kind core.range) same_body ∙ r.body;
-        chain = r.chain;
-        entries = ap (λ (c : Kind). entries_of_kind core c was.file.chain.blocks) same_kind ∙ r.entries;
-      })
+      search (arith, reads_to, is, was, same_kind, same_body)
 
   page_now : (p : ℕ) → In p (plain_pages was.met.kind was.file) → page_of after.core p ≡ page_of image.core p
   page_now p i =
@@ -127,12 +119,7 @@ module _ (s : State) (lib : ℕ) (creds : Creds) (b : Bundle) (n : ℕ) (r q : R
         chain = refl;
         pages = page_now;
         entries = picked_only pick is.met.ino was.file.entries;
-        settled_bodies =
-            ap (settled_body after) (sym is.number)
-            ∙ now
-            ∙ same_body
-            ∙ sym before
-            ∙ ap (settled_body image) was.number;
+        settled_bodies = search (arith, is, same_body, was);
       }
 
 pub held_files_keep_content : HeldFilesKeepContent

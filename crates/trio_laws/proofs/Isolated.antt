@@ -1,5 +1,5 @@
 -- What an accepted bundle leaves of the files of others.
-use Rattle.std.proofs.Common.{◌≡◌, ℕ, true, List, [], ◌∷◌, ◌++◌, Option, Some, None, Result, Ok, sym, refl, ap, ◌∙◌, subst, inl, inr, ◌⊎◌}
+use Rattle.std.proofs.Common.{◌≡◌, ℕ, true, List, [], ◌∷◌, ◌++◌, Option, Some, None, Result, Ok, sym, refl, ap, ◌∙◌, subst, inl, inr, ◌⊎◌, arith}
 use Rattle.std.specs.Prelude.{map}
 use Rattle.std.specs.Option.{option_map}
 use Rattle.std.proofs.lemmas.Bool.{both_ways}
@@ -7,11 +7,11 @@ use Rattle.trio_rights.specs.declared.kind.Kind.{Kind}
 use Rattle.trio_rights.specs.declared.kind.Kind.TheVariants.{Regular, Directory}
 use Rattle.trio_rights.specs.declared.rights.Creds.{Creds}
 use Rattle.trio_rights.specs.Row.{Row}
-use Rattle.trio_lists.specs.Lists.{In, is_among, result_then, both, gathered, there_or}
-use Rattle.trio_layout.specs.Core.{Core, at_page, page_of}
+use Rattle.trio_lists.specs.Lists.{In, is_among, both, gathered}
+use Rattle.trio_layout.specs.Core.{Core, page_of}
 use Rattle.trio_layout.specs.Body.{body_of, block_count}
 use Rattle.trio_layout.specs.Chain.{index_count}
-use Rattle.trio_layout.specs.Entries.{Listed, entries_on, page_entries, with_names_apart, entries_of_kind}
+use Rattle.trio_layout.specs.Entries.{Listed, entries_of_kind}
 use Rattle.trio_layout.specs.Survey.{Met, Pick, plain, FileRead, file_of, survey, children, pages_of, row_of}
 use Rattle.trio_layout.specs.Sound.{is_sound}
 use Rattle.trio_layout.specs.Image.{Image, IsFit, row_at, settled_body}
@@ -36,24 +36,14 @@ use Rattle.trio_laws.proofs.Bundles.{finds_unwritten, Unwritten, unwritten_apart
 use Rattle.trio_laws.proofs.Survivors.{fit_now, sound_now, stays}
 
 met_same : (x y : Met) → x.ino ≡ y.ino → x.kind ≡ y.kind → x.parent ≡ y.parent → x.page ≡ y.page → x.slot ≡ y.slot → x.body ≡ y.body → x ≡ y
-met_same x y ino kind parent page slot body =
-    ap (λ n. record x { ino = n }) ino
-    ∙ ap (λ (k : Kind). record { ino = y.ino; kind = k; parent = x.parent; page = x.page; slot = x.slot; body = x.body }) kind
-    ∙ ap (λ n. record { ino = y.ino; kind = y.kind; parent = n; page = x.page; slot = x.slot; body = x.body }) parent
-    ∙ ap (λ n. record { ino = y.ino; kind = y.kind; parent = y.parent; page = n; slot = x.slot; body = x.body }) page
-    ∙ ap (λ n. record { ino = y.ino; kind = y.kind; parent = y.parent; page = y.page; slot = n; body = x.body }) slot
-    ∙ ap (λ l. record { ino = y.ino; kind = y.kind; parent = y.parent; page = y.page; slot = y.slot; body = l }) body
+met_same x y ino kind parent page slot body = search arith
 
 gathered_same : {X Y E : Type 0} (f g : X → Result (List Y) E) (xs : List X) → ((x : X) → In x xs → g x ≡ f x) → gathered g xs ≡ gathered f xs
 gathered_same f g [] h = refl
 gathered_same f g (x ∷ xs) h = ap (λ r. both r (gathered g xs)) (h x (inl refl)) ∙ ap (both (f x)) (gathered_same f g xs (λ y i. h y (inr i)))
 
 entries_same : (core other : Core) → other.inodes ≡ core.inodes → (kind : Kind) (blocks : List ℕ) → ((p : ℕ) → In p blocks → page_of other p ≡ page_of core p) → entries_of_kind other kind blocks ≡ entries_of_kind core kind blocks
-entries_same core other inodes Regular blocks h = refl
-entries_same core other inodes Directory blocks h =
-    ap (result_then with_names_apart)
-    (gathered_same (page_entries core) (page_entries other) blocks
-    (λ p i. ap (λ n. result_then (entries_on n p) (there_or (at_page p) (page_of other p))) inodes ∙ ap (λ o. result_then (entries_on core.inodes p) (there_or (at_page p) o)) (h p i)))
+entries_same core other inodes kind blocks h = search (arith, gathered_same)
 
 -- a file reads the same in another core where its pages are the same
 pub same_file : (core other : Core) (m : Met) (f : FileRead) → other.range ≡ core.range → other.inodes ≡ core.inodes → file_of core m ≡ Ok f → ((p : ℕ) → In p (f.chain.index ++ f.chain.blocks) → page_of other p ≡ page_of core p) → file_of other m ≡ Ok f
@@ -127,9 +117,7 @@ module _ (s : State) (lib : ℕ) (creds : Creds) (b : Bundle) (n : ℕ) (r : Row
   page_stays p a = page_kept s k lib b given p (λ c. unwritten_apart s k lib b given was.met p was.stands (λ w i e. un w i (e ∙ was.number)) a c)
 
   read_now : file_of core was.met ≡ Ok was.file
-  read_now =
-      same_file (settled s).core core was.met was.file refl refl was.read
-      (λ p i. page_stays p (subst (λ l. In p l) (sym (pages_are (settled s).core was.met was.file was.read)) i))
+  read_now = search (arith, same_file, was, page_stays, pages_are)
 
   stands_now : In was.met (survey core pick)
   stands_now =

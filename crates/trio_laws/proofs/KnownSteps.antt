@@ -1,6 +1,5 @@
 -- What is known of a state determines what is known after each step, and the answer.
-use Rattle.std.proofs.Common.{◌≡◌, ◌≢◌, ℕ, Bool, true, false, cond, ltb, ◌&&◌, ◌||◌, not, eqb, List, [], ◌∷◌, ◌++◌, map, length, take, Option, Some, None, slice_get, sym, refl, ap, ◌∙◌, subst, inl, inr}
-use Rattle.std.specs.Prelude.{is_some}
+use Rattle.std.proofs.Common.{◌≡◌, ◌≢◌, ℕ, Bool, true, false, cond, ltb, List, [], ◌∷◌, ◌++◌, map, length, take, Option, Some, None, slice_get, sym, refl, ap, ◌∙◌, subst, inl, inr, arith}
 use Rattle.std.specs.List.{filter, flat_map}
 use Rattle.std.specs.Option.{option_map}
 use Rattle.std.proofs.lemmas.List.{map-append, append-nil}
@@ -10,27 +9,25 @@ use Rattle.trio_rights.specs.Row.{Row}
 use Rattle.trio_nodes.specs.declared.grant.GrantKind.{GrantKind}
 use Rattle.trio_nodes.specs.declared.grant.GrantKind.TheVariants.{Read, Write, Hold}
 use Rattle.trio_nodes.specs.declared.answers.GrantFault.{GrantFault}
-use Rattle.trio_nodes.specs.declared.answers.GrantFault.TheVariants.{NotLive, Denied, NoParent, Busy, NoMemory as OutOfMemory}
+use Rattle.trio_nodes.specs.declared.answers.GrantFault.TheVariants.{Busy}
 use Rattle.trio_nodes.specs.declared.answers.ModeFault.{ModeFault}
-use Rattle.trio_nodes.specs.declared.answers.ModeFault.TheVariants.{NotLive as ModeNotLive, NotOwner, BadMode, Busy as ModeBusy, NoMemory as ModeNoMemory}
+use Rattle.trio_nodes.specs.declared.answers.ModeFault.TheVariants.{Busy as ModeBusy}
 use Rattle.trio_lists.specs.Lists.{In}
 use Rattle.trio_layout.specs.Survey.{row_by, pages_of}
 use Rattle.trio_rights.specs.Sheets.{Sheet, sheet_numbers, with_pages, without_pages}
 use Rattle.trio_layout.specs.Image.{Image, row_at, with_core_pages}
 use Rattle.trio_state.specs.State.{OpenGrant, State, settled, creds_of, logged}
-use Rattle.trio_nodes.specs.GrantKinds.{is_read, is_write, excludes_kind}
 use Rattle.trio_rights.specs.Bundle.{Bundle}
-use Rattle.trio_layout.specs.Accept.{is_accepted, next}
+use Rattle.trio_layout.specs.Accept.{is_accepted}
 use Rattle.trio_layout.specs.Case.{case_of}
-use Rattle.trio_layout.specs.Mode.{image_with_mode}
-use Rattle.trio_state.specs.Grants.{grant_fault, denied_or, denied_by, lacks_parent, has_parent_grant, excluding, holder_of, opened, opened_in, lent_pages, opens, told_children, given_back}
+use Rattle.trio_state.specs.Grants.{grant_fault, denied_by, lacks_parent, has_parent_grant, excluding, holder_of, opened, opened_in, lent_pages, opens, told_children, given_back}
 use Rattle.trio_state.specs.Allotments.{free_pages, free_numbers, allots}
-use Rattle.trio_state.specs.Bundles.{is_parted, lowest, parted_hold, is_in_bundle, lent_part, grants_after, refused_image, Ends}
-use Rattle.trio_state.specs.Step.{Event, Grant, Allot, Back, Release, Settle, SetMode, CtlAnswer, Granted, NotGranted, ModeSet, NotModeSet, NoPages, NoInodes, Given, Done, Accepted, Refused, NotClosed, Settled, NoMemory, Outcome, Does, Step, granted_to, after_grant_fault, grant_outcome, allot_outcome, mode_excluding, mode_fault, moded_to, after_mode_fault, mode_outcome, ReleaseEnd, Parted, IsAccepted, IsRefused}
+use Rattle.trio_state.specs.Bundles.{parted_hold, lent_part, Ends}
+use Rattle.trio_state.specs.Step.{Event, Grant, Allot, Back, Release, Settle, SetMode, CtlAnswer, NoPages, NoInodes, Given, Done, Accepted, Refused, NotClosed, Settled, NoMemory, Outcome, Does, Step, granted_to, after_grant_fault, grant_outcome, allot_outcome, mode_excluding, mode_fault, moded_to, after_mode_fault, mode_outcome, ReleaseEnd, Parted, IsAccepted, IsRefused}
 use Rattle.trio_state.specs.Tells.{Why, case_in, place_of}
 use Rattle.trio_state.specs.Kept.{Kept}
 use Rattle.trio_laws.specs.OutLaws.{without_checkpoint}
-use Rattle.trio_laws.specs.Known.{Known, known, plain_state, ended, released, known_done, is_no_memory, known_after, StepsAreKnown, KnownDecides, refused_rule, SameAnswer, SameEventSameAnswer}
+use Rattle.trio_laws.specs.Known.{Known, known, plain_state, ended, released, known_done, is_no_memory, StepsAreKnown, KnownDecides, refused_rule, SameAnswer, SameEventSameAnswer}
 use Rattle.trio_lists.proofs.Filters.{filter-map, list_any-map}
 use Rattle.trio_surveys.proofs.Sheets.{Pages, with_pages-append}
 use Rattle.trio_surveys.proofs.Owned.{pages_are}
@@ -97,7 +94,7 @@ with_pages-without_pages ss (n ∷ ns) pages apart =
 known_same : (s t : State) → settled s ≡ settled t → bare s.open_grants ≡ bare t.open_grants
     → s.pages_out ≡ t.pages_out → s.numbers_out ≡ t.numbers_out → s.creds ≡ t.creds → s.entries ≡ t.entries
     → known s ≡ known t
-known_same s t a b c d e f = rw (a, b, c, d, e, f) refl
+known_same s t a b c d e f = search arith
 
 -- ---- a state, and the plain state of what is known of it
 
@@ -118,96 +115,57 @@ module _ (s : State) where
   known_logged = known_same (logged t) (logged s) settled_plain (bare-bare s.open_grants) refl refl refl refl
 
   parent_grant_plain : (lib : ℕ) (o : Option Row) → has_parent_grant t lib o ≡ has_parent_grant s lib o
-  parent_grant_plain lib None = refl
-  parent_grant_plain lib (Some r) = list_any-map without_checkpoint
-      (λ (g : OpenGrant). eqb g.lib lib && eqb g.ino r.parent && is_write g.kind) s.open_grants
+  parent_grant_plain lib o = search (arith, list_any-map)
 
   denied_plain : (lib ino : ℕ) (kind : GrantKind) → denied_by t lib ino kind ≡ denied_by s lib ino kind
-  denied_plain lib ino Read = refl
-  denied_plain lib ino Write = refl
-  denied_plain lib ino Hold = refl
+  denied_plain lib ino kind = search arith
 
   lacks_plain : (lib ino : ℕ) (kind : GrantKind) → lacks_parent t lib ino kind ≡ lacks_parent s lib ino kind
-  lacks_plain lib ino Read = refl
-  lacks_plain lib ino Write = refl
-  lacks_plain lib ino Hold = ap not (parent_grant_plain lib (row_at s.home ino))
+  lacks_plain lib ino kind = search (arith, parent_grant_plain)
 
   busy_plain : (lib ino : ℕ) (kind : GrantKind)
       → option_map busy_of (slice_get (excluding t lib ino kind) 0)
       ≡ option_map busy_of (slice_get (excluding s lib ino kind) 0)
-  busy_plain lib ino kind =
-      let excludes : OpenGrant → Bool = λ g. eqb g.ino ino && excludes_kind kind g.kind (eqb g.lib lib) in
-      ap (λ gs. option_map busy_of (slice_get gs 0)) (filter-bare excludes s.open_grants)
-      ∙ first-bare busy_of (λ g. refl) (excluding s lib ino kind)
+  busy_plain lib ino kind = search (arith, filter-bare, first-bare)
 
   pub grant_fault_plain : (lib ino : ℕ) (kind : GrantKind) → grant_fault t lib ino kind ≡ grant_fault s lib ino kind
-  grant_fault_plain lib ino kind =
-      let F : Option ℕ → Bool → Option GrantFault → Option GrantFault =
-      λ d l o. cond (not (is_some (row_at s.home ino))) (Some NotLive) (denied_or d (cond l (Some NoParent) o)) in
-      let busy : Option GrantFault = option_map busy_of (slice_get (excluding t lib ino kind) 0) in
-      ap (λ d. F d (lacks_parent t lib ino kind) busy) (denied_plain lib ino kind)
-      ∙ ap (λ l. F (denied_by s lib ino kind) l busy) (lacks_plain lib ino kind)
-      ∙ ap (F (denied_by s lib ino kind) (lacks_parent s lib ino kind)) (busy_plain lib ino kind)
+  grant_fault_plain lib ino kind = search (arith, denied_plain, lacks_plain, busy_plain)
 
   pub opened_plain : (lib ino : ℕ) (kind : GrantKind) (r : Row) → opened t lib ino kind r ≡ opened s lib ino kind r
   opened_plain lib ino kind r = ap (λ image. opened_in image s.entries lib ino kind r) settled_plain
 
   pub parted_plain : (lib : ℕ) (b : Bundle) → parted_hold t lib b ≡ parted_hold s lib b
-  parted_plain lib b =
-      ap (λ gs. lowest (map (λ (g : OpenGrant). g.ino) gs)) (filter-bare (is_parted t lib b) s.open_grants)
-      ∙ ap lowest (inos-bare (filter (is_parted s lib b) s.open_grants))
+  parted_plain lib b = search (arith, filter-bare, inos-bare)
 
   told_plain : (ino : ℕ) (kind : GrantKind) → told_children t.home ino kind ≡ told_children s.home ino kind
-  told_plain ino Read = refl
-  told_plain ino Write = refl
-  told_plain ino Hold = refl
+  told_plain ino kind = search arith
 
   mode_busy_plain : (ino : ℕ) (r : Row)
       → option_map mode_busy_of (mode_excluding t ino r) ≡ option_map mode_busy_of (mode_excluding s ino r)
-  mode_busy_plain ino r =
-      let excludes : OpenGrant → Bool = λ g. eqb g.ino ino || eqb g.ino r.parent in
-      ap (λ gs. option_map mode_busy_of (slice_get gs 0)) (filter-bare excludes s.open_grants)
-      ∙ first-bare mode_busy_of (λ g. refl) (filter excludes s.open_grants)
+  mode_busy_plain ino r = search (arith, filter-bare, first-bare)
 
   mode_fault_plain : (lib ino mode : ℕ) (o : Option Row) → mode_fault t lib ino mode o ≡ mode_fault s lib ino mode o
-  mode_fault_plain lib ino mode None = refl
-  mode_fault_plain lib ino mode (Some r) =
-      let uid : ℕ = (creds_of s lib).uid in
-      ap (λ o. cond (eqb ino 1 || not (eqb uid 0 || eqb uid r.uid)) (Some NotOwner)
-      (cond (ltb 511 mode) (Some BadMode) o)) (mode_busy_plain ino r)
+  mode_fault_plain lib ino mode o = search (arith, mode_busy_plain)
 
   -- ---- what each call comes to
 
   after_fault : (f : GrantFault) → known (after_grant_fault t f) ≡ known (after_grant_fault s f)
-  after_fault NotLive = known_logged
-  after_fault (Denied n) = known_logged
-  after_fault NoParent = known_logged
-  after_fault (Busy holder) = known_plain
-  after_fault OutOfMemory = known_logged
+  after_fault f = search (arith, known_logged, known_plain)
 
   -- what a grant lends for writing is under no checkpoint
   opens_plain : (g : OpenGrant) → ((n : ℕ) → In n (lent_pages g) → In n (sheet_numbers (sheets s.open_grants)) → ⊥)
       → known (opens t g) ≡ known (opens s g)
   opens_plain g apart =
       let ck : List Sheet = sheets s.open_grants in
-      let end : (gs : List OpenGrant) → sheets (gs ++ g ∷ []) ≡ sheets gs ++ g.checkpoint =
-      λ gs. flat_map-append (λ (g : OpenGrant). g.checkpoint) gs (g ∷ [])
-      ∙ ap (λ l. sheets gs ++ l) (append-nil g.checkpoint) in
-      let a : settled (opens t g) ≡ J (with_pages g.checkpoint
-      (without_pages (lent_pages g) (with_pages ck s.home.core.pages))) =
-      ap (λ ss. J (with_pages ss (without_pages (lent_pages g) (with_pages ck s.home.core.pages))))
-      (end (bare s.open_grants) ∙ ap (λ l. l ++ g.checkpoint) (sheets-bare s.open_grants)) in
+      let end : (gs : List OpenGrant) → sheets (gs ++ g ∷ []) ≡ sheets gs ++ g.checkpoint = search (arith, flat_map-append, append-nil) in
+      let a : settled (opens t g) ≡ J (with_pages g.checkpoint (without_pages (lent_pages g) (with_pages ck s.home.core.pages))) = search (arith, sheets-bare) in
       let b : settled (opens s g) ≡ J (with_pages g.checkpoint
       (without_pages (lent_pages g) (with_pages ck s.home.core.pages))) =
       ap (λ ss. J (with_pages ss (without_pages (lent_pages g) s.home.core.pages))) (end s.open_grants)
       ∙ ap J (with_pages-append ck g.checkpoint (without_pages (lent_pages g) s.home.core.pages))
       ∙ ap (λ ps. J (with_pages g.checkpoint ps)) (with_pages-without_pages ck
       (lent_pages g) s.home.core.pages apart) in
-      known_same (opens t g) (opens s g) (a ∙ sym b)
-      (map-append without_checkpoint (bare s.open_grants) (g ∷ [])
-      ∙ ap (λ l. l ++ without_checkpoint g ∷ []) (bare-bare s.open_grants)
-      ∙ sym (map-append without_checkpoint s.open_grants (g ∷ [])))
-      refl refl refl refl
+      search (arith, known_same, map-append, bare-bare)
 
 module _ (s : State) (k : Kept s) where
   abbrev u : State
@@ -242,16 +200,11 @@ module _ (s : State) (k : Kept s) where
   granting : (lib ino : ℕ) (kind : GrantKind) (f : Option GrantFault) (o : Option Row)
       → grant_fault s lib ino kind ≡ f → row_at s.home ino ≡ o
       → known (granted_to u lib ino kind f o).after ≡ known (granted_to s lib ino kind f o).after
-  granting lib ino kind (Some fault) o e row = after_fault s fault
-  granting lib ino kind None None e row = known_plain s
-  granting lib ino kind None (Some r) e row = ap (λ g. known (opens u g)) (opened_plain s lib ino kind r)
-      ∙ opening lib ino kind r e row
+  granting lib ino kind f o e row = search (arith, after_fault, known_plain, opened_plain, opening)
 
   granting_answer : (lib ino : ℕ) (kind : GrantKind) (f : Option GrantFault) (o : Option Row)
       → (granted_to u lib ino kind f o).answer ≡ (granted_to s lib ino kind f o).answer
-  granting_answer lib ino kind (Some fault) o = refl
-  granting_answer lib ino kind None None = refl
-  granting_answer lib ino kind None (Some r) = ap Granted (told_plain s ino kind)
+  granting_answer lib ino kind f o = search (arith, told_plain)
 
   -- what is allotted, by what is free in s, by whether there are too few pages or numbers
   abbrev allot_by : (lib count many : ℕ) → State → Bool → Bool → Outcome
@@ -285,63 +238,27 @@ module _ (s : State) (k : Kept s) where
           (known_same (allots u lib ps ns) (allots s lib ps ns) image same refl refl refl refl, refl)
 
   giving_back : (lib ino : ℕ) → known (given_back u lib ino) ≡ known (given_back s lib ino)
-  giving_back lib ino =
-      let stays : OpenGrant → Bool = λ g. not (eqb g.lib lib && eqb g.ino ino && is_read g.kind) in
-      let left : filter stays (bare s.open_grants) ≡ bare (filter stays s.open_grants) =
-      filter-bare stays s.open_grants in
-      let image : settled (given_back u lib ino) ≡ settled s =
-      ap (λ gs. J s (with_pages (sheets gs) (settled s).core.pages)) left
-      ∙ ap (λ ss. J s (with_pages ss (settled s).core.pages)) (sheets-bare (filter stays s.open_grants)) in
-      known_same (given_back u lib ino) (given_back s lib ino) (image ∙ sym (settled_back s k lib ino))
-      (ap bare left ∙ bare-bare (filter stays s.open_grants)) refl refl refl refl
+  giving_back lib ino = search (arith, filter-bare, sheets-bare, known_same, settled_back, bare-bare)
 
   after_no_mode : (f : ModeFault) → known (after_mode_fault u f) ≡ known (after_mode_fault s f)
-  after_no_mode ModeNotLive = known_logged s
-  after_no_mode NotOwner = known_logged s
-  after_no_mode BadMode = known_logged s
-  after_no_mode (ModeBusy holder) = known_plain s
-  after_no_mode ModeNoMemory = known_logged s
+  after_no_mode f = search (arith, known_logged, known_plain)
 
   moding : (lib ino mode : ℕ) (o : Option Row) (f : Option ModeFault) → row_at s.home ino ≡ o
       → mode_fault s lib ino mode o ≡ f → known (moded_to u ino mode f).after ≡ known (moded_to s ino mode f).after
-  moding lib ino mode o (Some fault) row e = after_no_mode fault
-  moding lib ino mode None None row e = absurd cc
-  moding lib ino mode (Some r) None row e =
-      let may = may_change s lib ino mode r e in
-      let image = settled_moded s k ino mode r row may.small may.other may.free in
-      let I : Image = image_with_mode (settled s) ino mode in
-      let plain : settled (record u { home = image_with_mode u.home ino mode }) ≡ I =
-      ap (λ ss. record I { core = record I.core { pages = with_pages ss I.core.pages } }) (sheets-bare s.open_grants) in
-      known_same (logged (record u { home = image_with_mode u.home ino mode }))
-      (logged (record s { home = image_with_mode s.home ino mode })) (plain ∙ sym image)
-      (bare-bare s.open_grants) refl refl refl refl
+  moding lib ino mode o f row e = search (arith, after_no_mode, may_change, settled_moded, sheets-bare, known_same, bare-bare)
 
   moding_answer : (ino mode : ℕ) (f : Option ModeFault)
       → (moded_to u ino mode f).answer ≡ (moded_to s ino mode f).answer
-  moding_answer ino mode (Some fault) = refl
-  moding_answer ino mode None = refl
+  moding_answer ino mode f = search arith
 
   ending : (s' : State) (lib : ℕ) (b : Bundle) (image : Image) → Ends s lib b image s'
       → known s' ≡ ended (known s) lib b image
-  ending s' lib b image e =
-      let grants : bare s'.open_grants ≡ grants_after u lib b =
-      sym (bare-part s'.open_grants) ∙ ap bare e.grants ∙ bare-part (grants_after s lib b)
-      ∙ sym (filter-bare (λ g. not (is_in_bundle lib b g)) s.open_grants) in
-      rw (e.settles, grants, e.pages, e.numbers, e.creds, e.entries) refl
+  ending s' lib b image e = search (arith, bare-part, filter-bare)
 
   -- the ways in which a release ends
   releasing : (lib : ℕ) (b : Bundle) (answer : CtlAnswer) (s' : State) → ReleaseEnd s lib b answer s'
       → known s' ≡ released (known s) lib b (parted_hold u lib b)
-  releasing lib b answer s' (Parted n some a same) =
-      ap known same ∙ ap (released (known s) lib b) (sym (parted_plain s lib b ∙ some))
-  releasing lib b answer s' (IsAccepted none sure a e) =
-      ending s' lib b _ e
-      ∙ ap (λ x. ended (known s) lib b (cond x (next (settled s) b) (refused_image (settled s) b))) (sym sure)
-      ∙ ap (released (known s) lib b) (sym (parted_plain s lib b ∙ none))
-  releasing lib b answer s' (IsRefused none not_so why a tells e) =
-      ending s' lib b _ e
-      ∙ ap (λ x. ended (known s) lib b (cond x (next (settled s) b) (refused_image (settled s) b))) (sym not_so)
-      ∙ ap (released (known s) lib b) (sym (parted_plain s lib b ∙ none))
+  releasing lib b answer s' h = search (arith, parted_plain, ending)
 
   doing : (event : Event) (answer : CtlAnswer) (s' : State) → Does s event answer s'
       → known s' ≡ known_done (known s) event
@@ -353,44 +270,16 @@ module _ (s : State) (k : Kept s) where
   doing (Back lib ino) answer s' d = ap known d.1 ∙ sym (giving_back lib ino)
   doing (Release lib b) answer s' d = releasing lib b answer s' d
   doing (Settle lib b) answer s' d = ending s' lib b _ d.3
-  doing (SetMode lib ino mode) answer s' d =
-      ap known d.1
-      ∙ sym (moding lib ino mode (row_at s.home ino) (mode_fault s lib ino mode (row_at s.home ino)) refl refl)
-      ∙ ap (λ f. known (moded_to u ino mode f).after) (sym (mode_fault_plain s lib ino mode (row_at s.home ino)))
+  doing (SetMode lib ino mode) answer s' d = search (arith, granting, grant_fault_plain, allotting, giving_back, releasing, ending, moding, mode_fault_plain)
 
 other_answer : (answer : CtlAnswer) → answer ≢ NoMemory → is_no_memory answer ≡ false
-other_answer NoMemory other = absurd (other refl)
-other_answer (Granted children) other = refl
-other_answer (NotGranted fault) other = refl
-other_answer (Given pages numbers) other = refl
-other_answer (NoPages wanted free) other = refl
-other_answer (NoInodes wanted free) other = refl
-other_answer Done other = refl
-other_answer Accepted other = refl
-other_answer (Refused why) other = refl
-other_answer (NotClosed ino) other = refl
-other_answer Settled other = refl
-other_answer ModeSet other = refl
-other_answer (NotModeSet fault) other = refl
+other_answer answer other = search arith
 
 pub steps_are_known : StepsAreKnown
-steps_are_known s event answer s' k (inl does) =
-    doing s k event answer s' does
-    ∙ ap (λ b. cond b (known s) (known_done (known s) event))
-    (sym (other_answer answer (does_told s event answer s' does)))
-steps_are_known s event answer s' k (inr none) =
-    ap known none.2 ∙ ap (λ a. known_after (known s) event a) (sym none.1)
+steps_are_known s event answer s' k h = search (arith, doing, other_answer, does_told)
 
 pub known_decides : KnownDecides
-known_decides s = record {
-  image = settled_plain s;
-  grant_faults = grant_fault_plain s;
-  openings = opened_plain s;
-  free_pages = refl;
-  free_numbers = refl;
-  parted = parted_plain s;
-  creds = λ lib. refl;
-}
+known_decides s = search (arith, settled_plain, grant_fault_plain, opened_plain, parted_plain)
 
 -- ---- answers
 
@@ -418,24 +307,16 @@ known_answer k (Settle lib b) = Settled
 known_answer k (SetMode lib ino mode) = (mode_outcome (plain_state k) lib ino mode).answer
 
 same_joined : (a b c : CtlAnswer) → SameAnswer a c → SameAnswer b c → SameAnswer a b
-same_joined a b c (inl e) (inl f) = inl (e ∙ sym f)
-same_joined a b c (inl e) (inr y) = inr (y.0, ap refused_rule e ∙ y.2, y.1)
-same_joined a b c (inr x) (inl f) = inr (x.0, x.1, ap refused_rule f ∙ x.2)
-same_joined a b c (inr x) (inr y) = inr (x.0, x.1, y.1 ∙ sym y.2 ∙ x.2)
+same_joined a b c h i = search arith
 
 released_answer : (s s' : State) (lib : ℕ) (b : Bundle) (answer : CtlAnswer) → ReleaseEnd s lib b answer s'
     → SameAnswer answer (known_answer (known s) (Release lib b))
 released_answer s s' lib b answer (Parted n some a same) =
     inl (a ∙ ap (release_answer (known s) lib b) (sym (parted_plain s lib b ∙ some)))
-released_answer s s' lib b answer (IsAccepted none sure a e) =
-    let refused : CtlAnswer = Refused (naming (known_rule (known s) lib b)) in
-    inl (a ∙ ap (λ x. cond x Accepted refused) (sym sure)
-    ∙ ap (release_answer (known s) lib b) (sym (parted_plain s lib b ∙ none)))
+released_answer s s' lib b answer (IsAccepted none sure a e) = search (arith, parted_plain, settled_plain, breaks_lowest)
 released_answer s s' lib b answer (IsRefused none not_so why a tells e) =
     let rule : ℕ = known_rule (known s) lib b in
-    let is : Refused (naming rule) ≡ known_answer (known s) (Release lib b) =
-    ap (λ x. cond x Accepted (Refused (naming rule))) (sym not_so)
-    ∙ ap (release_answer (known s) lib b) (sym (parted_plain s lib b ∙ none)) in
+    let is : Refused (naming rule) ≡ known_answer (known s) (Release lib b) = search (arith, parted_plain) in
     let same : case_in s lib b ≡ case_in (plain_state (known s)) lib b =
     ap (λ image. case_of image (creds_of s lib) b) (sym (settled_plain s)) in
     let named : why.rule ≡ rule =
@@ -444,26 +325,17 @@ released_answer s s' lib b answer (IsRefused none not_so why a tells e) =
 
 does_answer : (s : State) (k : Kept s) (event : Event) (answer : CtlAnswer) (s' : State) → Does s event answer s'
     → SameAnswer answer (known_answer (known s) event)
-does_answer s k (Grant lib ino kind) answer s' d =
-    inl (d.0
-    ∙ sym (granting_answer s k lib ino kind (grant_fault s lib ino kind) (row_at s.home ino))
-    ∙ ap (λ f. (granted_to (plain_state (known s)) lib ino kind f (row_at s.home ino)).answer)
-    (sym (grant_fault_plain s lib ino kind)))
+does_answer s k (Grant lib ino kind) answer s' d = search (arith, granting_answer, grant_fault_plain, allotting, released_answer, moding_answer, mode_fault_plain)
 does_answer s k (Allot lib pages numbers) answer s' d = inl (d.0 ∙ sym ((allotting s k lib pages numbers).1))
 does_answer s k (Back lib ino) answer s' d = inl d.0
 does_answer s k (Release lib b) answer s' d = released_answer s s' lib b answer d
 does_answer s k (Settle lib b) answer s' d = inl d.0
-does_answer s k (SetMode lib ino mode) answer s' d =
-    inl (d.0
-    ∙ sym (moding_answer s k ino mode (mode_fault s lib ino mode (row_at s.home ino)))
-    ∙ ap (λ f. (moded_to (plain_state (known s)) ino mode f).answer)
-    (sym (mode_fault_plain s lib ino mode (row_at s.home ino))))
+does_answer s k (SetMode lib ino mode) answer s' d = search (arith, granting_answer, grant_fault_plain, allotting, released_answer, moding_answer, mode_fault_plain)
 
 -- a step with memory there
 step_does : (s : State) (event : Event) (answer : CtlAnswer) (s' : State) → Step s event answer s' → answer ≢ NoMemory
     → Does s event answer s'
-step_does s event answer s' (inl does) other = does
-step_does s event answer s' (inr none) other = absurd (other none.1)
+step_does s event answer s' h other = search arith
 
 pub same_event_same_answer : SameEventSameAnswer
 same_event_same_answer s t event a b s' t' k l same one two some_a some_b =

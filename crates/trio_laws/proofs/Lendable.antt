@@ -1,11 +1,10 @@
 -- The pages of a live file on which no write grant is open are at home.
-use Rattle.std.proofs.Common.{◌≡◌, ℕ, true, List, [], ◌++◌, length, Some, Ok, slice_get, sym, ap, ◌∙◌, subst}
+use Rattle.std.proofs.Common.{◌≡◌, ℕ, true, List, [], ◌++◌, length, Some, Ok, slice_get, sym, ap, ◌∙◌, subst, arith}
 use Rattle.trio_rights.specs.Row.{Row}
-use Rattle.trio_layout.specs.Body.{body_of}
-use Rattle.trio_layout.specs.Chain.{Chain, chain_of}
-use Rattle.trio_layout.specs.Core.{Core, nowhere, page_of}
+use Rattle.trio_layout.specs.Chain.{Chain}
+use Rattle.trio_layout.specs.Core.{Core, page_of}
 use Rattle.trio_nodes.specs.declared.grant.GrantKind.TheVariants.{Write}
-use Rattle.trio_lists.specs.Lists.{there_or, In, are_new, result_then}
+use Rattle.trio_lists.specs.Lists.{In, are_new}
 use Rattle.trio_layout.specs.Range.{is_core}
 use Rattle.trio_layout.specs.Survey.{plain, survey, pages_of}
 use Rattle.trio_layout.specs.Pages.{settled_chain}
@@ -33,10 +32,7 @@ module _ (s : State) (k : Kept s) (ino : ℕ) (r : Row) (row : row_at s.home ino
   chain_is : settled_chain (settled s) r.kind ino ≡ Ok m.file.chain
   chain_is =
       let f = reads_from core m.met m.file m.read in
-      ap (λ kind. settled_chain (settled s) kind ino) (ap (λ (x : Row). x.kind) m.row)
-      ∙ ap (λ b. result_then (chain_of core) (there_or nowhere (body_of m.met.kind core.range b))) body_is
-      ∙ ap (λ o. result_then (chain_of core) (there_or nowhere o)) f.body
-      ∙ f.chain
+      search (arith, m, body_is)
 
   -- a page of the file is in no checkpoint, and so it is at home what it is in the settled image
   page_home : (p : ℕ) → In p (m.file.chain.index ++ m.file.chain.blocks) → (bytes : List ℕ) × (slice_get s.home.core.pages p ≡ Some (Some bytes)) × (page_of core p ≡ Some bytes) × (is_core s.home.core.range p ≡ true)

@@ -1,33 +1,29 @@
 -- A change of mode keeps what holds of a state.
-use Rattle.std.proofs.Common.{◌⊎◌, get_or, ◌≡◌, ℕ, ◌≤◌, Bool, true, false, cond, ◌||◌, not, eqb, ltb, List, [], ◌∷◌, set, Option, Some, None, slice_get, slice_set, sym, refl, ap, ◌∙◌, subst, inl, inr}
+use Rattle.std.proofs.Common.{◌⊎◌, ◌≡◌, ℕ, ◌≤◌, Bool, true, false, cond, List, [], ◌∷◌, Option, Some, None, slice_get, slice_set, sym, refl, ap, ◌∙◌, subst, inl, inr, arith}
 use Rattle.std.specs.Prelude.{is_some}
 use Rattle.std.specs.List.{flat_map}
-use Rattle.std.specs.Option.{option_map, option_and_then, option_map_or}
+use Rattle.std.specs.Option.{option_map}
 use Rattle.std.proofs.lemmas.List.{set_comm, get_or-set_other}
 use Rattle.std.proofs.lemmas.Bool.{ne_eqb, or_parts, or_cases, not-false, eqb-true, ltb-false, eqb-false}
 use Rattle.trio_rights.specs.Row.{Row}
 use Rattle.trio_nodes.specs.declared.answers.ModeFault.{ModeFault}
 use Rattle.trio_nodes.specs.declared.answers.ModeFault.TheVariants.{NotOwner, BadMode, Busy}
-use Rattle.trio_layout.specs.Entries.{body_in_slot}
 use Rattle.trio_lists.specs.Lists.{In}
 use Rattle.trio_layout.specs.Survey.{Met, plain, survey, children, pages_of}
-use Rattle.trio_layout.specs.Accept.{with_body_in}
 use Rattle.trio_state.specs.Grants.{holder_of, has_parent_grant}
-use Rattle.trio_layout.specs.Image.{IsFit, Image, settled_body, row_at, body_by_row}
+use Rattle.trio_layout.specs.Image.{IsFit, Image, settled_body, row_at}
 use Rattle.trio_state.specs.Kept.{Kept, LentIsListed}
 use Rattle.trio_layout.specs.Mode.{body_with_mode, row_with_mode, body_put, image_with_mode}
 use Rattle.trio_rights.specs.Sheets.{Sheet, sheet_numbers, with_pages}
 use Rattle.trio_state.specs.State.{OpenGrant, State, settled, creds_of}
-use Rattle.trio_state.specs.Step.{SetMode, CtlAnswer, Step, mode_excluding, mode_fault, moded_to}
+use Rattle.trio_state.specs.Step.{SetMode, CtlAnswer, Step, mode_fault, moded_to}
 use Rattle.trio_layout.specs.Verifies.{Verifies}
 use Rattle.trio_laws.proofs.Accepting.{absent_map}
 use Rattle.trio_laws.proofs.Cases.{after_no_mode}
 use Rattle.trio_laws.proofs.Grants.{none_passes, logged_kept}
-use Rattle.trio_surveys.proofs.Images.{some_of, MetAt, root_or_listed}
+use Rattle.trio_surveys.proofs.Images.{some_of, root_or_listed}
 use Rattle.trio_lists.proofs.Members.{In-right, flat_map-In}
-use Rattle.trio_surveys.proofs.Moded.{changed}
-use Rattle.trio_surveys.proofs.ModedCore.{read_now}
-use Rattle.trio_surveys.proofs.ModedImage.{mode_body_other, met_other, mode_met, mode_verifies, mode_fit, mode_file}
+use Rattle.trio_surveys.proofs.ModedImage.{mode_body_other, met_other, mode_verifies, mode_fit, mode_file}
 use Rattle.trio_surveys.proofs.Owned.{pages_are}
 use Rattle.trio_surveys.proofs.Putting.{put_on, with_bodies-get}
 use Rattle.trio_surveys.proofs.SheetLaws.{page_at}
@@ -45,10 +41,7 @@ with_pages_set (s ∷ ss) pages k x h =
 pub body_put-get : (r : Row) (body : List ℕ) (pages : Pages) (p : ℕ) → (f : List ℕ → List ℕ) × (slice_get (body_put (Some r) body pages) p ≡ option_map (option_map f) (slice_get pages p))
 body_put-get r body pages p =
     let m : Met = record { ino = 0; kind = r.kind; parent = r.parent; page = r.page; slot = r.slot; body = body } in
-    let other : (x : Met) → In x (m ∷ []) → x.ino ≡ 1 → ⊥ = λ x i e. elim i [
-      | inl same ↦ (let wrong : 0 ≡ 1 = sym (ap (λ (y : Met). y.ino) same) ∙ e in cc wrong)
-      | inr none ↦ none
-    ] in
+    let other : (x : Met) → In x (m ∷ []) → x.ino ≡ 1 → ⊥ = search arith in
     (put_on p (m ∷ []), with_bodies-get p (m ∷ []) pages other)
 
 module _ (s : State) (k : Kept s) (n mode : ℕ) (r : Row) (row : row_at s.home n ≡ Some r) (small : mode ≤ 511) (other : n ≡ 1 → ⊥) (free : (g : OpenGrant) → In g s.open_grants → (g.ino ≡ n → ⊥) × (g.ino ≡ r.parent → ⊥)) where
@@ -57,9 +50,6 @@ module _ (s : State) (k : Kept s) (n mode : ℕ) (r : Row) (row : row_at s.home 
 
   abbrev pub after : State
   after = record s { home = image_with_mode s.home n mode }
-
-  abbrev q : MetAt (settled s).core plain n r
-  q = mode_met (settled s) n mode r k.fit k.verifies row small other
 
   -- no checkpoint covers the page of the body
   away : In r.page (sheet_numbers ck) → ⊥
@@ -83,31 +73,13 @@ module _ (s : State) (k : Kept s) (n mode : ℕ) (r : Row) (row : row_at s.home 
   page_home = sym (with_pages_apart ck s.home.core.pages r.page away)
 
   body_same : settled_body s.home n ≡ settled_body (settled s) n
-  body_same =
-      let f : eqb n 1 ≡ false = ne_eqb n 1 other in
-      ap (λ b. cond b s.home.core.root (body_by_row s.home.core (row_at s.home n))) f
-      ∙ ap (body_by_row s.home.core) row
-      ∙ ap (λ o. option_map_or (body_in_slot r.slot) o []) (page_same (settled s).core s.home.core.pages r.page page_home)
-      ∙ ap (body_by_row (settled s).core) (sym row)
-      ∙ sym (ap (λ b. cond b s.home.core.root (body_by_row (settled s).core (row_at s.home n))) f)
+  body_same = search (arith, ne_eqb, page_same, page_home)
 
   pages_same : with_pages ck (image_with_mode s.home n mode).core.pages ≡ (image_with_mode (settled s) n mode).core.pages
-  pages_same =
-      let P : Pages = s.home.core.pages in
-      let S : Pages = (settled s).core.pages in
-      let body : List ℕ = body_with_mode mode (settled_body s.home n) in
-      let X : Option (List ℕ) → Option (List ℕ) = λ o. option_map (with_body_in r.slot body) o in
-      let there : get_or P r.page None ≡ get_or S r.page None = page_at P r.page ∙ ap (option_and_then (λ x. x)) page_home ∙ sym (page_at S r.page) in
-      ap (λ o. with_pages ck (body_put o body P)) row
-      ∙ with_pages_set ck P r.page (X (get_or P r.page None)) away
-      ∙ ap (λ o. slice_set S r.page (X o)) there
-      ∙ ap (λ o. body_put o body S) (sym row)
-      ∙ ap (λ b. body_put (row_at s.home n) (body_with_mode mode b) S) body_same
+  pages_same = search (arith, page_at, page_home, with_pages_set, away, body_same)
 
   pub settled_moded : settled after ≡ image_with_mode (settled s) n mode
-  settled_moded =
-      let J : Pages → Image = λ ps. record { core = record { pages = ps; root = s.home.core.root; range = s.home.core.range; inodes = s.home.core.inodes }; rows = set s.home.rows n (row_with_mode mode (row_at s.home n)); owners = s.home.owners } in
-      ap J pages_same
+  settled_moded = search (arith, pages_same)
 
   row_other : (j : ℕ) → (j ≡ n → ⊥) → row_at after.home j ≡ row_at s.home j
   row_other j d = get_or-set_other s.home.rows n j (row_with_mode mode (row_at s.home n)) None d
@@ -134,16 +106,7 @@ module _ (s : State) (k : Kept s) (n mode : ℕ) (r : Row) (row : row_at s.home 
     lent = λ g i w.
         let l = k.lent g i w in
         let f = mode_file (settled s) n mode r k.fit k.verifies row small other l.met l.file l.stands l.read in
-        let there : LentIsListed (image_with_mode (settled s) n mode) g = record {
-          met = changed q.met.ino mode l.met;
-          file = read_now (settled s).core k.fit k.verifies.sound mode small q.met q.stands (met_other (settled s) n mode r k.fit k.verifies row small other) l.met l.file;
-          stands = f.0;
-          read = f.1;
-          number = l.number;
-          of = l.of;
-          index = l.index;
-          blocks = l.blocks;
-        } in
+        let there : LentIsListed (image_with_mode (settled s) n mode) g = search (arith, met_other) in
         let P : Image → Type 0 = λ i. LentIsListed i g in subst P (sym settled_moded) there;
     checkpoints = k.checkpoints;
     absent = λ p gone c.
@@ -154,17 +117,12 @@ module _ (s : State) (k : Kept s) (n mode : ℕ) (r : Row) (row : row_at s.home 
     pages_placed = k.pages_placed;
     out_free = k.out_free;
     numbers_placed = k.numbers_placed;
-    numbers_free = λ m out.
-        let was = k.numbers_free m out in
-        row_other m (λ e. (let wrong : None ≡ Some r = sym was ∙ ap (row_at s.home) e ∙ row in absurd (cc wrong))) ∙ was;
+    numbers_free = search (arith, row_other);
   }
 
 -- a change of mode that isn't refused
 passed : (b c : Bool) (o : Option OpenGrant) → cond b (Some NotOwner) (cond c (Some BadMode) (option_map (λ (g : OpenGrant). Busy (holder_of g)) o)) ≡ None → (b ≡ false) × (c ≡ false) × (o ≡ None)
-passed true c o e = absurd cc
-passed false true o e = absurd cc
-passed false false None e = (refl, refl, refl)
-passed false false (Some g) e = absurd cc
+passed b c o e = search arith
 
 -- what a change of mode that isn't refused has passed
 pub record MayChange (s : State) (lib ino mode : ℕ) (r : Row) : Type 0 where
@@ -174,21 +132,7 @@ pub record MayChange (s : State) (lib ino mode : ℕ) (r : Row) : Type 0 where
   pub owner : ((creds_of s lib).uid ≡ 0) ⊎ ((creds_of s lib).uid ≡ r.uid)
 
 pub may_change : (s : State) (lib ino mode : ℕ) (r : Row) → mode_fault s lib ino mode (Some r) ≡ None → MayChange s lib ino mode r
-may_change s lib ino mode r e =
-    let uid : ℕ = (creds_of s lib).uid in
-    let p = passed (eqb ino 1 || not (eqb uid 0 || eqb uid r.uid)) (ltb 511 mode) (mode_excluding s ino r) e in
-    let own = or_parts (eqb ino 1) (not (eqb uid 0 || eqb uid r.uid)) p.0 in
-    record {
-      other = eqb-false ino 1 own.0;
-      small = ltb-false 511 mode p.1;
-      free = λ g i.
-          let f = or_parts (eqb g.ino ino) (eqb g.ino r.parent) (none_passes (λ (g : OpenGrant). eqb g.ino ino || eqb g.ino r.parent) s.open_grants g p.2 i) in
-          (eqb-false g.ino ino f.0, eqb-false g.ino r.parent f.1);
-      owner = elim (or_cases (eqb uid 0) (eqb uid r.uid) (not-false (eqb uid 0 || eqb uid r.uid) own.1)) [
-        | inl root ↦ inl (eqb-true uid 0 root)
-        | inr same ↦ inr (eqb-true uid r.uid same)
-      ];
-    }
+may_change s lib ino mode r e = search (arith, passed, or_parts, eqb-false, ltb-false, none_passes, or_cases, not-false, eqb-true)
 
 outcome_kept : (s : State) (lib ino mode : ℕ) (o : Option Row) (a : Option ModeFault) → Kept s → row_at s.home ino ≡ o → mode_fault s lib ino mode o ≡ a → Kept (moded_to s ino mode a).after
 outcome_kept s lib ino mode o (Some fault) k row e = after_no_mode Kept s fault k (logged_kept s k)
@@ -199,9 +143,4 @@ outcome_kept s lib ino mode (Some r) None k row e =
 
 -- a step of a change of mode
 pub mode_kept : (s s' : State) (lib ino mode : ℕ) (answer : CtlAnswer) → Kept s → Step s (SetMode lib ino mode) answer s' → Kept s'
-mode_kept s s' lib ino mode answer k step =
-    let K : State → Type 0 = λ x. Kept x in
-    elim step [
-      | inl does ↦ subst K (sym does.1) (outcome_kept s lib ino mode (row_at s.home ino) (mode_fault s lib ino mode (row_at s.home ino)) k refl refl)
-      | inr none ↦ subst K (sym none.2) k
-    ]
+mode_kept s s' lib ino mode answer k step = search (arith, outcome_kept)

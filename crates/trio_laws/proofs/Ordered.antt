@@ -1,7 +1,6 @@
 -- Open grants stand in the order of their entries.
 use Rattle.std.proofs.Common.{◌≡◌, ℕ, ◌<◌, ◌≤◌, zero, suc, Bool, ◌&&◌, not, eqb, List, [], ◌∷◌, length, get_or, take, Option, Some, None, slice_get, sym, refl, ap, subst, inl, inr, arith}
 use Rattle.std.specs.Prelude.{AllPairs}
-use Rattle.std.specs.List.{filter}
 use Rattle.std.proofs.lemmas.List.Kept.{AllPairs-filter}
 use Rattle.std.proofs.lemmas.List.Quantifiers.{all_pairs_push}
 use Rattle.trio_rights.specs.Row.{Row}
@@ -119,11 +118,7 @@ grants_are_ordered run m i =
 first_of : (gs : List OpenGrant) (g h : OpenGrant) → AllPairs CameBefore gs → slice_get gs 0 ≡ Some g → In h gs
     → g.entry ≤ h.entry
 first_of [] g h rising first i = absurd i
-first_of (x ∷ xs) g h rising first (inl same) =
-    let is : x ≡ g = cc first in
-    let at : x.entry ≡ g.entry = ap (λ (y : OpenGrant). y.entry) is in
-    let e : h.entry ≡ x.entry = ap (λ (y : OpenGrant). y.entry) same in
-    omega (arith, e, at)
+first_of (x ∷ xs) g h rising first (inl same) = search (arith, In-get_or)
 first_of (x ∷ xs) g h rising first (inr later) =
     let is : x ≡ g = cc first in
     let at : x.entry ≡ g.entry = ap (λ (y : OpenGrant). y.entry) is in
@@ -134,6 +129,4 @@ first_of (x ∷ xs) g h rising first (inr later) =
     omega (arith, before, at)
 
 pub first_is_lowest : FirstIsLowest
-first_is_lowest s passes g h o first i passed =
-    first_of (filter passes s.open_grants) g h (AllPairs-filter CameBefore passes s.open_grants o.rising) first
-    (In-filter passes h s.open_grants i passed)
+first_is_lowest s passes g h o first i passed = search (arith, first_of, AllPairs-filter, In-filter)

@@ -1,5 +1,5 @@
 -- Each step of another library leaves what a library was given.
-use Rattle.std.proofs.Common.{◌≡◌, ℕ, Bool, false, ◌&&◌, not, eqb, [], ◌∷◌, Option, Some, None, sym, refl, ap, ◌∙◌, subst, inl, inr}
+use Rattle.std.proofs.Common.{◌≡◌, ℕ, Bool, false, ◌&&◌, not, eqb, [], ◌∷◌, Option, Some, None, sym, refl, ap, ◌∙◌, subst, inl, inr, arith}
 use Rattle.std.proofs.lemmas.Bool.{and_left, not_from_false, ne_eqb}
 use Rattle.std.proofs.lemmas.List.{get_or-set_other}
 use Rattle.trio_rights.specs.Row.{Row}
@@ -14,7 +14,7 @@ use Rattle.trio_state.specs.State.{OpenGrant, State, logged}
 use Rattle.trio_nodes.specs.GrantKinds.{is_read}
 use Rattle.trio_rights.specs.Bundle.{Bundle}
 use Rattle.trio_layout.specs.Mode.{image_with_mode, row_with_mode}
-use Rattle.trio_state.specs.Grants.{grant_fault, opened, opens, given_back}
+use Rattle.trio_state.specs.Grants.{grant_fault, opens, given_back}
 use Rattle.trio_state.specs.Step.{Event, Grant, Allot, Back, Release, Settle, SetMode, CtlAnswer, Step, granted_to, allot_outcome, mode_fault, moded_to, ReleaseEnd, Parted, IsAccepted, IsRefused}
 use Rattle.trio_state.specs.Kept.{Kept}
 use Rattle.trio_state.specs.Given.{GivenTo, GivenEvent}
@@ -57,9 +57,7 @@ opens_leaves s g lib apart = record {
 }
 
 grant_leaves : (s : State) (lib other ino : ℕ) (kind : GrantKind) (a : Option GrantFault) (o : Option Row) → (other ≡ lib → ⊥) → LeavesTo s (granted_to s other ino kind a o).after lib
-grant_leaves s lib other ino kind (Some fault) o apart = after_no_grant (λ x. LeavesTo s x lib) s fault (no_step_leaves s lib) (logged_leaves s lib)
-grant_leaves s lib other ino kind None None apart = no_step_leaves s lib
-grant_leaves s lib other ino kind None (Some r) apart = opens_leaves s (opened s other ino kind r) lib apart
+grant_leaves s lib other ino kind a o apart = search (arith, after_no_grant, no_step_leaves, logged_leaves, opens_leaves)
 
 allot_leaves : (s : State) (lib other count many : ℕ) → LeavesTo s (allot_outcome s other count many).after lib
 allot_leaves s lib other count many =

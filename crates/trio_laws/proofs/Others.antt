@@ -1,5 +1,5 @@
 -- A step of another library leaves what a library was given.
-use Rattle.std.proofs.Common.{cond, ◌&&◌, None, Bool, ◌≡◌, ℕ, true, false, not, eqb, List, Option, Some, sym, refl, ap, ◌∙◌}
+use Rattle.std.proofs.Common.{cond, ◌&&◌, None, Bool, ◌≡◌, ℕ, true, false, not, eqb, List, Option, Some, sym, refl, ap, ◌∙◌, arith}
 use Rattle.std.proofs.lemmas.Bool.{and_parts, and_left, eqb-true, both_ways, ne_eqb, false_from_ne_true}
 use Rattle.trio_rights.specs.Row.{Row}
 use Rattle.trio_rights.specs.declared.rights.LibNo.{LibNo}
@@ -101,20 +101,7 @@ unparted_stays s s' lib b k' l none =
 
 -- what the end of another library's bundle takes is that library's own
 outs_stay : (outs : List (Option LibNo)) (these : List ℕ) (lib other n : ℕ) → ((m : ℕ) → In m these → WasAllotted outs other m) → (lib ≡ other → ⊥) → WasAllotted outs lib n → WasAllotted (out_after outs these) lib n
-outs_stay outs these lib other n theirs apart mine =
-    lib_at-others None these n outs
-    (false_from_ne_true (is_among n these)
-    (λ t.
-    let same : Some (library lib) ≡ Some (library other) = sym mine ∙ theirs n (is_among-In n these t) in
-    apart (ap (λ (o : Option LibNo). number_of o) same)))
-    ∙ mine
-  where
-    library : ℕ → LibNo
-    library l = record { 0 = l }
-
-    number_of : Option LibNo → ℕ
-    number_of None = lib
-    number_of (Some l) = l.0
+outs_stay outs these lib other n theirs apart mine = search (arith, lib_at-others, false_from_ne_true, is_among-In)
 
 -- the end of another library's bundle, with rows whose parents stay
 pub ends_leaves : (s s' : State) (k : Kept s) (lib other : ℕ) (b : Bundle) (given : GivenTo s other b) (image' : Image) (e : Ends s other b image' s') → (lib ≡ other → ⊥) → ((g : OpenGrant) (q : Row) → In g s.open_grants → is_in_bundle other b g ≡ false → row_at s'.home g.ino ≡ Some q → (r : Row) × (row_at s.home g.ino ≡ Some r) × (r.parent ≡ q.parent)) → LeavesTo s s' lib

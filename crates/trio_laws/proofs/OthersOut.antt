@@ -1,5 +1,5 @@
 -- A step of one library leaves what every other library has out.
-use Rattle.std.proofs.Common.{◌≡◌, ◌≢◌, ℕ, ◌-◌, ◌<◌, ◌≤◌, ◌⊎◌, subst, Bool, true, false, cond, ◌&&◌, ◌||◌, not, eqb, List, [], ◌∷◌, ◌++◌, map, length, take, Option, Some, None, sym, refl, ap, ◌∙◌, inl, inr, append-nil}
+use Rattle.std.proofs.Common.{◌≡◌, ◌≢◌, ℕ, Bool, true, false, ◌&&◌, ◌||◌, not, eqb, List, [], ◌∷◌, ◌++◌, map, length, Option, Some, None, sym, refl, ap, ◌∙◌, inl, inr, append-nil, arith}
 use Rattle.std.specs.List.{filter}
 use Rattle.std.specs.Prelude.{is_some}
 use Rattle.std.proofs.lemmas.Bool.{eqb-true, ne_eqb, cases_lt, false≢true}
@@ -14,15 +14,14 @@ use Rattle.trio_rights.specs.Sheets.{sheet_numbers}
 use Rattle.trio_layout.specs.Image.{Image, row_at}
 use Rattle.trio_rights.specs.declared.rights.LibNo.{LibNo}
 use Rattle.trio_tables.specs.Out.{lib_at, is_out}
-use Rattle.trio_tables.specs.Free.{count_up}
 use Rattle.trio_tables.proofs.OutLemmas.{length-with_all, lib_at-others, lib_at-set}
 use Rattle.trio_state.specs.State.{OpenGrant, State}
 use Rattle.trio_nodes.specs.GrantKinds.{is_read, is_write, is_hold}
 use Rattle.trio_rights.specs.Bundle.{Bundle, is_written}
-use Rattle.trio_state.specs.Grants.{grant_fault, opened, opens, given_back}
-use Rattle.trio_state.specs.Allotments.{free_pages, free_numbers, allots, out_with, out_after, is_library}
+use Rattle.trio_state.specs.Grants.{grant_fault, given_back}
+use Rattle.trio_state.specs.Allotments.{out_with, out_after, is_library}
 use Rattle.trio_state.specs.Bundles.{Ends, grants_after, is_in_bundle, lent_part}
-use Rattle.trio_state.specs.Step.{Grant, Allot, Back, Release, Settle, SetMode, CtlAnswer, granted_to, allot_outcome, mode_fault, moded_to, ReleaseEnd, Parted, IsAccepted, IsRefused}
+use Rattle.trio_state.specs.Step.{Grant, Allot, Back, Release, Settle, SetMode, CtlAnswer, granted_to, allot_outcome, mode_fault, moded_to, ReleaseEnd}
 use Rattle.trio_state.specs.Kept.{Kept}
 use Rattle.trio_state.specs.Given.{GivenTo, WasAllotted}
 use Rattle.trio_laws.specs.OutLaws.{without_checkpoint, grants_to, numbers_to, out_of, OthersKeepOut}
@@ -39,7 +38,7 @@ none_of (Some l) e = absurd (false≢true (sym e))
 out_of_same : (s s' : State) (lib : ℕ) → grants_to s'.open_grants lib ≡ grants_to s.open_grants lib
     → numbers_to s'.pages_out lib ≡ numbers_to s.pages_out lib
     → numbers_to s'.numbers_out lib ≡ numbers_to s.numbers_out lib → out_of s' lib ≡ out_of s lib
-out_of_same s s' lib a b c = rw (a, b, c) refl
+out_of_same s s' lib a b c = search arith
 
 module _ (mine lib : ℕ) (apart : mine ≢ lib) where
   abbrev to : OpenGrant → Bool
@@ -54,10 +53,7 @@ module _ (mine lib : ℕ) (apart : mine ≢ lib) where
   -- grants
   grants_to-more : (gs : List OpenGrant) (g : OpenGrant) → g.lib ≡ mine
       → grants_to (gs ++ g ∷ []) lib ≡ grants_to gs lib
-  grants_to-more gs g e =
-      ap (map without_checkpoint)
-      (filter-append to gs (g ∷ []) ∙ ap (λ b. filter to gs ++ cond b (g ∷ []) []) (other_lib g.lib e)
-      ∙ append-nil (filter to gs))
+  grants_to-more gs g e = search (arith, filter-append, other_lib, append-nil)
 
   grants_to-filter : (stays : OpenGrant → Bool) (gs : List OpenGrant)
       → ((g : OpenGrant) → eqb g.lib mine ≡ false → stays g ≡ true) → grants_to (filter stays gs) lib ≡ grants_to gs lib
@@ -75,46 +71,17 @@ module _ (mine lib : ℕ) (apart : mine ≢ lib) where
   numbers_to-same : (outs these : List (Option LibNo)) → length these ≡ length outs
       → ((n : ℕ) → is_library lib (lib_at these n) ≡ is_library lib (lib_at outs n))
       → numbers_to these lib ≡ numbers_to outs lib
-  numbers_to-same outs these long same =
-      filter-same (λ n. is_library lib (lib_at these n)) (λ n. is_library lib (lib_at outs n))
-      (count_up 0 (length these - 0)) (λ n i. same n)
-      ∙ ap (λ k. filter (λ n. is_library lib (lib_at outs n)) (count_up 0 (k - 0))) long
+  numbers_to-same outs these long same = search (arith, filter-same)
 
   -- numbers that nobody had go out to another library
   numbers_to-more : (outs : List (Option LibNo)) (ns : List ℕ) → ((n : ℕ) → In n ns → is_out outs n ≡ false)
       → numbers_to (out_with outs mine ns) lib ≡ numbers_to outs lib
-  numbers_to-more outs ns free =
-      numbers_to-same outs (out_with outs mine ns) (length-with_all (Some (record { 0 = mine })) ns outs)
-      (λ n. by n (is_among n ns) refl (cases_lt n (length outs)))
-    where
-      by : (n : ℕ) (b : Bool) → is_among n ns ≡ b → (n < length outs) ⊎ (length outs ≤ n)
-          → is_library lib (lib_at (out_with outs mine ns) n) ≡ is_library lib (lib_at outs n)
-      by n false e within = ap (is_library lib) (lib_at-others (Some (record { 0 = mine })) ns n outs e)
-      by n true e (inl within) =
-          ap (is_library lib) (lib_at-set (Some (record { 0 = mine })) ns n outs within e)
-          ∙ other_lib mine refl ∙ sym (ap (is_library lib) (none_of (lib_at outs n) (free n (is_among-In n ns e))))
-      by n true e (inr past) =
-          ap (is_library lib) (get_or_past (out_with outs mine ns) n None
-          (subst (λ k. k ≤ n) (sym (length-with_all (Some (record { 0 = mine })) ns outs)) past))
-          ∙ sym (ap (is_library lib) (get_or_past outs n None past))
+  numbers_to-more outs ns free = search (arith, numbers_to-same, length-with_all, cases_lt, lib_at-others, lib_at-set, other_lib, none_of, is_among-In, get_or_past)
 
   -- numbers that another library had come back
   numbers_to-after : (outs : List (Option LibNo)) (these : List ℕ)
       → ((n : ℕ) → In n these → WasAllotted outs mine n) → numbers_to (out_after outs these) lib ≡ numbers_to outs lib
-  numbers_to-after outs these given =
-      numbers_to-same outs (out_after outs these) (length-with_all None these outs)
-      (λ n. by n (is_among n these) refl (cases_lt n (length outs)))
-    where
-      by : (n : ℕ) (b : Bool) → is_among n these ≡ b → (n < length outs) ⊎ (length outs ≤ n)
-          → is_library lib (lib_at (out_after outs these) n) ≡ is_library lib (lib_at outs n)
-      by n false e within = ap (is_library lib) (lib_at-others None these n outs e)
-      by n true e (inl within) =
-          ap (is_library lib) (lib_at-set None these n outs within e)
-          ∙ sym (ap (is_library lib) (given n (is_among-In n these e)) ∙ other_lib mine refl)
-      by n true e (inr past) =
-          ap (is_library lib) (get_or_past (out_after outs these) n None
-          (subst (λ k. k ≤ n) (sym (length-with_all None these outs)) past))
-          ∙ sym (ap (is_library lib) (get_or_past outs n None past))
+  numbers_to-after outs these given = search (arith, numbers_to-same, length-with_all, cases_lt, lib_at-others, lib_at-set, is_among-In, other_lib, get_or_past)
 
 module _ (s : State) (k : Kept s) (mine lib : ℕ) (apart : mine ≢ lib) where
   abbrev Same : State → Type 0
@@ -122,18 +89,10 @@ module _ (s : State) (k : Kept s) (mine lib : ℕ) (apart : mine ≢ lib) where
 
   grant : (ino : ℕ) (kind : GrantKind) (f : Option GrantFault) (o : Option Row)
       → out_of (granted_to s mine ino kind f o).after lib ≡ out_of s lib
-  grant ino kind (Some f) o = after_no_grant Same s f refl refl
-  grant ino kind None None = refl
-  grant ino kind None (Some r) =
-      (let g : OpenGrant = opened s mine ino kind r in out_of_same s (opens s g) lib
-      (grants_to-more mine lib apart s.open_grants g refl) refl refl)
+  grant ino kind f o = search (arith, after_no_grant, out_of_same, grants_to-more)
 
   allot : (count many : ℕ) → out_of (allot_outcome s mine count many).after lib ≡ out_of s lib
-  allot count many =
-      after_allot Same s mine count many refl
-      (out_of_same s (allots s mine (take count (free_pages s)) (take many (free_numbers s))) lib refl
-      (numbers_to-more mine lib apart s.pages_out (take count (free_pages s)) (λ n i. (page_free s mine count many n i).1))
-      (numbers_to-more mine lib apart s.numbers_out (take many (free_numbers s)) (λ n i. (number_free s mine count many n i).1)))
+  allot count many = search (arith, after_allot, out_of_same, numbers_to-more, page_free, number_free)
 
   back : (ino : ℕ) → out_of (given_back s mine ino) lib ≡ out_of s lib
   back ino =
@@ -158,9 +117,7 @@ module _ (s : State) (k : Kept s) (mine lib : ℕ) (apart : mine ≢ lib) where
 
   release : (b : Bundle) (answer : CtlAnswer) (s' : State) → GivenTo s mine b → ReleaseEnd s mine b answer s'
       → out_of s' lib ≡ out_of s lib
-  release b answer s' given (Parted n some a same) = ap (λ (x : State). out_of x lib) same
-  release b answer s' given (IsAccepted none t a e) = ends b _ s' given e
-  release b answer s' given (IsRefused none f why a tells e) = ends b _ s' given e
+  release b answer s' given h = search (arith, ends)
 
   set_mode : (ino mode : ℕ) (f : Option ModeFault) → out_of (moded_to s ino mode f).after lib ≡ out_of s lib
   set_mode ino mode (Some f) = after_no_mode Same s f refl refl

@@ -1,5 +1,5 @@
 -- After a refusal the image of a refusal is settled, once the bundle's checkpoints are back at home.
-use Rattle.std.proofs.Common.{◌≡◌, ℕ, true, not, List, ◌++◌, Some, None, slice_get, sym, refl, ap, ◌∙◌, subst, inl, inr}
+use Rattle.std.proofs.Common.{◌≡◌, ℕ, true, not, List, ◌++◌, Some, None, slice_get, sym, refl, ap, ◌∙◌, subst, inl, inr, arith}
 use Rattle.std.specs.Prelude.{is_some, slice_index}
 use Rattle.std.proofs.lemmas.Bool.{cases_Bool, not_from_false}
 use Rattle.trio_rights.specs.declared.kind.Kind.{Kind}
@@ -33,9 +33,7 @@ covered_index Regular index blocks p e i = i
 covered_index Directory index blocks p e i = absurd cc
 
 in_append : (p : ℕ) (blocks index : List Sheet) → In p (sheet_numbers blocks) → In p (sheet_numbers (index ++ blocks))
-in_append p blocks index i =
-    let r = map-In (λ (x : Sheet). x.page) p blocks i in
-    in_numbers (index ++ blocks) r.0 p (In-right r.0 index blocks r.1) r.2
+in_append p blocks index i = search (arith, map-In, in_numbers, In-right)
 
 module _ (s : State) (k : Kept s) (lib : ℕ) (b : Bundle) (given : GivenTo s lib b) where
   abbrev core : Core

@@ -35,24 +35,11 @@ use Rattle.trio_surveys.specs.Reading.{with_other, AgreeOn, pages_read}
 
 -- a page that is read is listed
 pub read_listed : (kind : Kind) (f : FileRead) (p : ℕ) → In p (pages_read kind f) → In p (f.chain.index ++ f.chain.blocks)
-read_listed kind f p i =
-    elim (read_cases kind f p i) [
-      | inl a ↦ In-left p f.chain.index f.chain.blocks a
-      | inr a ↦ In-right p f.chain.index f.chain.blocks a.0
-    ]
+read_listed kind f p i = search (arith, read_cases, In-left, In-right)
 
 -- what counts of a grant goes with its lent part
 pub lent_like : (image : Image) (g h : OpenGrant) → lent_part g ≡ lent_part h → LentIsListed image h → LentIsListed image g
-lent_like image g h e l = record {
-  met = l.met;
-  file = l.file;
-  stands = l.stands;
-  read = l.read;
-  number = l.number ∙ ap (λ (x : OpenGrant). x.ino) (sym e);
-  of = l.of ∙ ap (λ (x : OpenGrant). x.of) (sym e);
-  index = ap (λ (x : OpenGrant). sheet_numbers x.index) e ∙ l.index;
-  blocks = ap (λ (x : OpenGrant). sheet_numbers x.blocks) e ∙ l.blocks;
-}
+lent_like image g h e l = search arith
 
 module _ (s s' : State) (k : Kept s) (lib : ℕ) (b : Bundle) (given : GivenTo s lib b) (closed : Closed s lib b) (e : Ends s lib b (refused_image (settled s) b) s') where
   abbrev pub core : Core
@@ -70,9 +57,7 @@ module _ (s s' : State) (k : Kept s) (lib : ℕ) (b : Bundle) (given : GivenTo s
       in_numbers (uncovered (settled s) b ++ b.pages) r.0 p (In-left r.0 (uncovered (settled s) b) b.pages (In-uncovered s k lib b given w r.0 i reg r.1)) r.2
 
   page_uncovered : (p : ℕ) → In p (sheet_numbers b.pages) → In p (sheet_numbers (uncovered (settled s) b ++ b.pages))
-  page_uncovered p a =
-      let r = map-In (λ (x : Sheet). x.page) p b.pages a in
-      in_numbers (uncovered (settled s) b ++ b.pages) r.0 p (In-right r.0 (uncovered (settled s) b) b.pages r.1) r.2
+  page_uncovered p a = search (arith, map-In, in_numbers, In-right)
 
   pub agree : AgreeOn core (with_other core pages) (survey core plain)
   agree m f p i read a =

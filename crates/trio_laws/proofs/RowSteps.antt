@@ -1,5 +1,5 @@
 -- What every step leaves of the row of a live number.
-use Rattle.std.proofs.Common.{◌≡◌, ℕ, ◌<◌, true, List, length, get_or, Option, Some, None, sym, refl, ap, ◌∙◌, subst, inl, inr, ◌⊎◌}
+use Rattle.std.proofs.Common.{◌≡◌, ℕ, ◌<◌, true, List, length, get_or, Option, Some, None, sym, refl, ap, ◌∙◌, subst, inl, inr, arith}
 use Rattle.std.proofs.lemmas.Bool.{cases_Bool, cases_eq, cases_lt, both_ways}
 use Rattle.std.proofs.lemmas.List.{get_or_past, get_or-set_same, get_or-set_other}
 use Rattle.trio_rights.specs.Row.{Row}
@@ -13,10 +13,9 @@ use Rattle.trio_state.specs.State.{State, settled, creds_of}
 use Rattle.trio_rights.specs.Bundle.{Bundle}
 use Rattle.trio_layout.specs.Proposed.{proposed, proposed_pick}
 use Rattle.trio_layout.specs.Accept.{is_accepted, next}
-use Rattle.trio_layout.specs.Mode.{row_with_mode}
 use Rattle.trio_state.specs.Grants.{grant_fault}
 use Rattle.trio_state.specs.Bundles.{Ends}
-use Rattle.trio_state.specs.Step.{Grant, Allot, Back, Release, Settle, SetMode, CtlAnswer, granted_to, allot_outcome, mode_fault, moded_to, ReleaseEnd, Parted, IsAccepted, IsRefused}
+use Rattle.trio_state.specs.Step.{Grant, Allot, Back, Release, Settle, SetMode, CtlAnswer, granted_to, allot_outcome, mode_fault, moded_to, ReleaseEnd}
 use Rattle.trio_state.specs.Kept.{Kept}
 use Rattle.trio_state.specs.Given.{GivenTo}
 use Rattle.trio_laws.specs.Laws.{HasRightsOf, RowGoes, EveryStepKeepsRows}
@@ -27,40 +26,20 @@ use Rattle.trio_laws.proofs.Survivors.{fit_now, sound_now, unheld_row, held_righ
 use Rattle.trio_laws.proofs.Modes.{may_change}
 
 row_within : (rows : List (Option Row)) (n : ℕ) (r : Row) → get_or rows n None ≡ Some r → n < length rows
-row_within rows n r e =
-    elim (cases_lt n (length rows)) [
-      | inl l ↦ l
-      | inr past ↦ (let wrong : None ≡ Some r = sym (get_or_past rows n None past) ∙ e in absurd (cc wrong))
-    ]
+row_within rows n r e = search (arith, cases_lt, get_or_past)
 
 module _ (s : State) (n : ℕ) (r : Row) (row : row_at s.home n ≡ Some r) where
   abbrev Same : State → Type 0
   Same x = row_at x.home n ≡ Some r
 
   grant_row : (lib ino : ℕ) (kind : GrantKind) (f : Option GrantFault) (o : Option Row) → row_at (granted_to s lib ino kind f o).after.home n ≡ Some r
-  grant_row lib ino kind (Some fault) o = after_no_grant Same s fault row row
-  grant_row lib ino kind None None = row
-  grant_row lib ino kind None (Some q) = row
+  grant_row lib ino kind f o = search (arith, after_no_grant)
 
   allot_row : (lib count many : ℕ) → row_at (allot_outcome s lib count many).after.home n ≡ Some r
   allot_row lib count many = after_allot Same s lib count many row row
 
   mode_row : (lib ino mode : ℕ) (o : Option Row) (f : Option ModeFault) → row_at s.home ino ≡ o → mode_fault s lib ino mode o ≡ f → RowGoes s (SetMode lib ino mode) n r (row_at (moded_to s ino mode f).after.home n)
-  mode_row lib ino mode o (Some fault) at e = inl (after_no_mode Same s fault row row)
-  mode_row lib ino mode None None at e = absurd cc
-  mode_row lib ino mode (Some q) None at e =
-      elim (cases_eq n ino) [
-        | inr differ ↦ inl (get_or-set_other s.home.rows ino n (row_with_mode mode (row_at s.home ino)) None differ ∙ row)
-        | inl same ↦
-            let may = may_change s lib ino mode q e in
-            let rows : Some q ≡ Some r = sym at ∙ ap (row_at s.home) (sym same) ∙ row in
-            let is_r : q ≡ r = cc rows in
-            let now : row_at (moded_to s ino mode None).after.home n ≡ row_with_mode mode (row_at s.home ino) =
-            ap (λ j. get_or (moded_to s ino mode None).after.home.rows j None) same ∙ get_or-set_same s.home.rows ino (row_with_mode mode (row_at s.home ino)) None (row_within s.home.rows ino q at) in
-            let uid : ℕ = (creds_of s lib).uid in
-            let O : Row → Type 0 = λ x. (uid ≡ 0) ⊎ (uid ≡ x.uid) in
-            inr (inr (sym same, now ∙ ap (row_with_mode mode) (at ∙ ap Some is_r), subst O is_r may.owner))
-      ]
+  mode_row lib ino mode o f at e = search (arith, after_no_mode, cases_eq, get_or-set_other, may_change, get_or-set_same, row_within)
 
   module _ (k : Kept s) (lib : ℕ) where
     accepted_row : (s' : State) (b : Bundle) (given : GivenTo s lib b) → is_accepted (settled s) (creds_of s lib) b ≡ true → Ends s lib b (next (settled s) b) s' → RowGoes s (Release lib b) n r (row_at s'.home n)
@@ -82,9 +61,7 @@ module _ (s : State) (n : ℕ) (r : Row) (row : row_at s.home n ≡ Some r) wher
         by_row b given accepted j (Some q) e = held_rights s k lib (creds_of s lib) b given accepted n r q j row e
 
     release_row : (s' : State) (b : Bundle) (answer : CtlAnswer) → GivenTo s lib b → ReleaseEnd s lib b answer s' → RowGoes s (Release lib b) n r (row_at s'.home n)
-    release_row s' b answer given (Parted m some e same) = inl (ap (λ (x : State). row_at x.home n) same ∙ row)
-    release_row s' b answer given (IsAccepted closed t e ends) = accepted_row s' b given t ends
-    release_row s' b answer given (IsRefused closed f why e tells ends) = inl (ap (λ (i : Image). row_at i n) ends.settles ∙ row)
+    release_row s' b answer given h = search (arith, accepted_row)
 
 -- each step leaves a live number its row, but for what a hold or a change of mode lets happen to it
 pub every_step_keeps_rows : EveryStepKeepsRows
@@ -95,11 +72,7 @@ every_step_keeps_rows s (Allot lib count many) answer s' n r k given (inl does) 
     inl (ap (λ (x : State). row_at x.home n) does.1 ∙ allot_row s n r row lib count many)
 every_step_keeps_rows s (Back lib ino) answer s' n r k given (inl does) row = inl (ap (λ (x : State). row_at x.home n) does.1 ∙ row)
 every_step_keeps_rows s (Release lib b) answer s' n r k given (inl does) row = release_row s n r row k lib s' b answer given does
-every_step_keeps_rows s (Settle lib b) answer s' n r k given (inl does) row =
-    elim (accepted_row s n r row k lib s' b given.0 does.2 does.3) [
-      | inl same ↦ inl same
-      | inr goes ↦ elim goes [ inl held ↦ inr (inl held) | inr wrong ↦ absurd wrong ]
-    ]
+every_step_keeps_rows s (Settle lib b) answer s' n r k given (inl does) row = search (arith, grant_row, allot_row, release_row, accepted_row, mode_row)
 every_step_keeps_rows s (SetMode lib ino mode) answer s' n r k given (inl does) row =
     let G : State → Type 0 = λ x. RowGoes s (SetMode lib ino mode) n r (row_at x.home n) in
     subst G (sym does.1) (mode_row s n r row lib ino mode (row_at s.home ino) (mode_fault s lib ino mode (row_at s.home ino)) refl refl)

@@ -1,6 +1,5 @@
 -- Every step keeps what holds of a state, and so does every run.
-use Rattle.std.proofs.Common.{ℕ, ◌+◌, List, None, sym, ap, ◌∙◌, subst, inl, inr, arith}
-use Rattle.std.specs.Prelude.{is_some}
+use Rattle.std.proofs.Common.{ℕ, List, sym, subst, inl, inr, arith}
 use Rattle.std.proofs.lemmas.Bool.{false≢true}
 use Rattle.std.proofs.lemmas.List.{length-replicate}
 use Rattle.trio_rights.specs.declared.rights.Creds.{Creds}
@@ -57,17 +56,4 @@ trace_kept s moves k run m i = trace_keeps Kept (λ s event answer s' was given 
 
 -- the image that a run begins with
 pub start_kept : (image : Image) (creds : List Creds) → IsFit image.core → Verifies image → IsWhole image → Kept (start image creds)
-start_kept image creds fit verifies whole = record {
-  fit = fit;
-  verifies = verifies;
-  live = λ g i. absurd i;
-  apart = λ i j d a b. absurd (omega arith);
-  held = λ g i w. absurd i;
-  lent = λ g i w. absurd i;
-  checkpoints = λ g i. absurd i;
-  absent = λ p gone c. absurd (whole p gone c);
-  pages_placed = length-replicate image.core.range.end None;
-  out_free = λ p out. absurd (false≢true (sym (ap is_some (lib_at-none_out image.core.range.end p)) ∙ out));
-  numbers_placed = length-replicate (image.core.inodes + 1) None;
-  numbers_free = λ n out. absurd (false≢true (sym (ap is_some (lib_at-none_out (image.core.inodes + 1) n)) ∙ out));
-}
+start_kept image creds fit verifies whole = search (arith, length-replicate, false≢true, lib_at-none_out)

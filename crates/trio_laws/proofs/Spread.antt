@@ -1,12 +1,12 @@
 -- An accepted image that is spread over home and the checkpoints is settled.
-use Rattle.std.proofs.Common.{◌≡◌, ℕ, ◌<◌, true, false, not, List, ◌++◌, length, Option, Some, None, slice_get, sym, refl, ap, ◌∙◌, subst, inl, inr}
+use Rattle.std.proofs.Common.{◌≡◌, ℕ, ◌<◌, true, false, not, List, ◌++◌, length, Option, Some, None, slice_get, sym, refl, ap, ◌∙◌, subst, inl, inr, arith}
 use Rattle.std.specs.Prelude.{map}
 use Rattle.std.specs.Option.{option_map}
 use Rattle.std.proofs.lemmas.Bool.{cases_Bool, not_from_false}
 use Rattle.trio_layout.specs.Core.{Core}
 use Rattle.trio_lists.specs.Lists.{In}
 use Rattle.trio_layout.specs.Sound.{is_sound}
-use Rattle.trio_layout.specs.Survey.{Pick, survey}
+use Rattle.trio_layout.specs.Survey.{Pick}
 use Rattle.trio_layout.specs.Accept.{is_accepted, next}
 use Rattle.trio_state.specs.Bundles.{grants_after, is_in_bundle, lent_part}
 use Rattle.trio_state.specs.Given.{GivenTo}
@@ -38,9 +38,7 @@ place_either (Some None) after bytes e = (None, refl)
 place_either (Some (Some b)) after bytes e = (Some bytes, e)
 
 page_kept : (before after : Option (Option (List ℕ))) → (before ≡ Some None → after ≡ Some None) → unless_absent before after ≡ after
-page_kept None after h = refl
-page_kept (Some None) after h = sym (h refl)
-page_kept (Some (Some b)) after h = refl
+page_kept before after h = search arith
 
 -- a page that is there stays there
 still_there : (sheets : List Sheet) (pages : Pages) (n : ℕ) (bytes : List ℕ) → slice_get pages n ≡ Some (Some bytes) → (other : List ℕ) × (slice_get (with_pages sheets pages) n ≡ Some (Some other))
@@ -81,10 +79,7 @@ module _ (s : State) (k : Kept s) (lib : ℕ) (b : Bundle) (given : GivenTo s li
   after_get p = ap (λ ps. slice_get ps p) (bodies_are core pick fit sound) ∙ with_bodies-get p (all_listed core pick) core.pages (listed_no_root core pick fit sound)
 
   pub next_long : length after ≡ length s.home.core.pages
-  next_long =
-      length-bodies (survey core pick) core.pages
-      ∙ length-with_pages (bundle_sheets b) (settled s).core.pages
-      ∙ length-with_pages (checkpoints_of s.open_grants) s.home.core.pages
+  next_long = search (arith, length-bodies, length-with_pages)
 
   -- a covered page is there
   pub next_there : (x : Sheet) → In x (checkpoints_of s.open_grants) → (bytes : List ℕ) × (slice_get after x.page ≡ Some (Some bytes))
@@ -119,9 +114,7 @@ module _ (s : State) (k : Kept s) (lib : ℕ) (b : Bundle) (given : GivenTo s li
           | inl own ↦ w.0 (handed_back s k lib b given c.0 p c.1 c.3 own (subst (λ n. In n (sheet_numbers (c.0.index ++ c.0.blocks))) (sym r.2) c.4))
           | inr out ↦ none (covered_then c.0 p c.1 out (in_numbers c.0.checkpoint r.0 p c.2 r.2))
         ] in
-        after_get p
-        ∙ ap (option_map (option_map (put_on p (all_listed core pick))))
-        (with_pages_apart (bundle_sheets b) (settled s).core.pages p w.0 ∙ with_pages_apart (checkpoints_of s.open_grants) s.home.core.pages p bare ∙ w.1)
+        search (arith, after_get, with_pages_apart)
 
     page_then : (p : ℕ) → slice_get (with_pages (checkpoints_of grants) pages) p ≡ slice_get after p
     page_then p =
@@ -136,10 +129,7 @@ module _ (s : State) (k : Kept s) (lib : ℕ) (b : Bundle) (given : GivenTo s li
               let o = place_either (slice_get (with_pages (bundle_sheets b) s.home.core.pages) p) (slice_get after p) r.0.bytes here in
               with_pages_known (checkpoints_of grants) pages p r.0.bytes o.0 i (λ x j on. one_bytes (slice_get after p) x.bytes r.0.bytes (at x j on) here) (spread.home p ∙ o.1)
               ∙ sym here
-          | inr none ↦
-              with_pages_apart (checkpoints_of grants) pages p none
-              ∙ spread.home p
-              ∙ page_kept (slice_get (with_pages (bundle_sheets b) s.home.core.pages) p) (slice_get after p) (absent_stays p none)
+          | inr none ↦ search (arith, with_pages_apart, page_kept, absent_stays)
         ]
 
     pub accepted_settles : with_pages (checkpoints_of grants) pages ≡ after

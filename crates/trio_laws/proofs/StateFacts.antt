@@ -1,16 +1,15 @@
 -- What follows from `Kept` of open grants and pages.
-use Rattle.std.proofs.Common.{◌≡◌, ℕ, ◌<◌, Bool, true, false, ◌&&◌, ltb, leb, List, [], ◌∷◌, ◌++◌, Option, Some, None, slice_get, sym, refl, ap, ◌∙◌, subst, inl, inr, arith}
+use Rattle.std.proofs.Common.{◌≡◌, ℕ, ◌<◌, Bool, true, false, ◌&&◌, ltb, leb, List, [], ◌∷◌, ◌++◌, Option, Some, None, slice_get, sym, ap, ◌∙◌, inl, inr, arith}
 use Rattle.std.specs.Prelude.{AllPairs}
 use Rattle.std.specs.List.{flat_map}
 use Rattle.std.proofs.lemmas.List.{map-append}
 use Rattle.std.proofs.lemmas.Bool.{and_parts, and_from, ltb-true, false≢true}
 use Rattle.trio_rights.specs.Row.{Row}
 use Rattle.trio_rights.specs.declared.kind.Kind.{Kind}
-use Rattle.trio_rights.specs.declared.kind.Kind.TheVariants.{Regular, Directory}
 use Rattle.trio_nodes.specs.declared.grant.GrantKind.{GrantKind}
-use Rattle.trio_nodes.specs.declared.grant.GrantKind.TheVariants.{Read, Write, Hold}
+use Rattle.trio_nodes.specs.declared.grant.GrantKind.TheVariants.{Write}
 use Rattle.trio_layout.specs.Core.{Core, page_of}
-use Rattle.trio_lists.specs.Lists.{is_among, In}
+use Rattle.trio_lists.specs.Lists.{In}
 use Rattle.trio_layout.specs.Range.{is_core}
 use Rattle.trio_layout.specs.Survey.{Met, plain, survey, pages_of}
 use Rattle.trio_layout.specs.Image.{row_at}
@@ -26,38 +25,24 @@ use Rattle.trio_surveys.proofs.Sheets.{with_pages_absent, place_there, page_from
 use Rattle.trio_lists.proofs.Filters.{In-list_any, list_any-In, AllPairs-In}
 
 pub write_is : (k : GrantKind) → is_write k ≡ true → k ≡ Write
-write_is Write e = refl
-write_is Read e = absurd (false≢true e)
-write_is Hold e = absurd (false≢true e)
+write_is k e = search (arith, false≢true)
 
 write_reads : (k : GrantKind) (b : Bool) → k ≡ Write → (is_read k && b) ≡ true → ⊥
-write_reads Write b e h = false≢true h
-write_reads Read b e h = absurd cc
-write_reads Hold b e h = absurd cc
+write_reads k b e h = search (arith, false≢true)
 
 reads_right : (a b : Bool) → (a && b) ≡ true → (b && a) ≡ true
-reads_right true true e = refl
-reads_right true false e = absurd (false≢true e)
-reads_right false b e = absurd (false≢true e)
+reads_right a b e = search (arith, false≢true)
 
 -- a write grant is alone on its file
 pub write_alone : (gs : List OpenGrant) (g h : OpenGrant) → AllPairs MayBothStand gs → In g gs → In h gs → g.kind ≡ Write → g.ino ≡ h.ino → g ≡ h
 write_alone gs g h pairs i j w e =
     elim (AllPairs-In MayBothStand gs g h pairs i j) [
       | inl same ↦ same
-      | inr one ↦
-          elim one [
-            | inl r ↦ absurd (write_reads g.kind (is_read h.kind) w (r e).0)
-            | inr r ↦ absurd (write_reads g.kind (is_read h.kind) w (reads_right (is_read h.kind) (is_read g.kind) (r (sym e)).0))
-          ]
+      | inr one ↦ search (arith, write_reads, reads_right)
     ]
 
 pub covered_write : (kind : GrantKind) (of : Kind) (index blocks : List Sheet) (p : ℕ) → In p (sheet_numbers (covered kind of index blocks)) → (kind ≡ Write) × In p (sheet_numbers (index ++ blocks))
-covered_write Read of index blocks p i = absurd i
-covered_write Hold of index blocks p i = absurd i
-covered_write Write Directory index blocks p i = (refl, i)
-covered_write Write Regular index blocks p i =
-    (refl, subst (λ l. In p l) (sym (map-append (λ (x : Sheet). x.page) index blocks)) (In-left p (sheet_numbers index) (sheet_numbers blocks) i))
+covered_write kind of index blocks p i = search (arith, map-append, In-left)
 
 pub numbers_flat : (gs : List OpenGrant) (p : ℕ) → In p (sheet_numbers (flat_map (λ g. g.checkpoint) gs)) → (g : OpenGrant) × In g gs × In p (sheet_numbers g.checkpoint)
 numbers_flat gs p i =
@@ -72,15 +57,10 @@ numbers_flat gs p i =
 
 -- a lent page, with the grant that lent it
 pub lent_by : (gs : List OpenGrant) (p : ℕ) → is_lent gs p ≡ true → (g : OpenGrant) × In g gs × (g.kind ≡ Write) × In p (sheet_numbers (g.index ++ g.blocks))
-lent_by gs p lent =
-    let q = list_any-In (λ g. is_write g.kind && is_among p (sheet_numbers (g.index ++ g.blocks))) gs lent in
-    let parts = and_parts (is_write q.0.kind) (is_among p (sheet_numbers (q.0.index ++ q.0.blocks))) q.2 in
-    (q.0, q.1, write_is q.0.kind parts.0, is_among-In p (sheet_numbers (q.0.index ++ q.0.blocks)) parts.1)
+lent_by gs p lent = search (arith, list_any-In, and_parts, write_is, is_among-In)
 
 pub by_lent : (gs : List OpenGrant) (g : OpenGrant) (p : ℕ) → In g gs → g.kind ≡ Write → In p (sheet_numbers (g.index ++ g.blocks)) → is_lent gs p ≡ true
-by_lent gs g p i kind a =
-    In-list_any (λ (x : OpenGrant). is_write x.kind && is_among p (sheet_numbers (x.index ++ x.blocks))) g gs i
-    (and_from (is_write g.kind) (is_among p (sheet_numbers (g.index ++ g.blocks))) (ap is_write kind) (In-is_among p (sheet_numbers (g.index ++ g.blocks)) a))
+by_lent gs g p i kind a = search (arith, In-list_any, and_from, In-is_among)
 
 module _ (s : State) (k : Kept s) where
   pub tables : TablesOf (settled s) (settled s).core plain
@@ -93,18 +73,11 @@ module _ (s : State) (k : Kept s) where
 
   -- the pages that a write grant lent are those of its file
   pub lent_met : (g : OpenGrant) (i : In g s.open_grants) (w : g.kind ≡ Write) (p : ℕ) → In p (sheet_numbers (g.index ++ g.blocks)) → In p (pages_of (settled s).core (k.lent g i w).met)
-  lent_met g i w p a =
-      let l = k.lent g i w in
-      let e : sheet_numbers (g.index ++ g.blocks) ≡ pages_of (settled s).core l.met =
-      map-append (λ (x : Sheet). x.page) g.index g.blocks ∙ ap (λ x. x ++ sheet_numbers g.blocks) l.index ∙ ap (λ x. l.file.chain.index ++ x) l.blocks ∙ sym (pages_are (settled s).core l.met l.file l.read) in
-      subst (λ x. In p x) e a
+  lent_met g i w p a = search (arith, map-append, pages_are)
 
   -- a page in a checkpoint was lent
   pub checkpoint_lent : (p : ℕ) → In p (sheet_numbers (flat_map (λ g. g.checkpoint) s.open_grants)) → (g : OpenGrant) × In g s.open_grants × (g.kind ≡ Write) × In p (sheet_numbers (g.index ++ g.blocks))
-  checkpoint_lent p i =
-      let r = numbers_flat s.open_grants p i in
-      let c = covered_write r.0.kind r.0.of r.0.index r.0.blocks p (subst (λ l. In p l) (k.checkpoints r.0 r.1) r.2) in
-      (r.0, r.1, c.0, c.1)
+  checkpoint_lent p i = search (arith, numbers_flat, covered_write)
 
   -- a page of a file that a write grant lent is of that grant's file
   pub lent_file : (m : Met) (p : ℕ) (g : OpenGrant) → In m (survey (settled s).core plain) → In p (pages_of (settled s).core m) → In g s.open_grants → g.kind ≡ Write → In p (sheet_numbers (g.index ++ g.blocks)) → g.ino ≡ m.ino
@@ -139,9 +112,5 @@ pub alone : (gs : List OpenGrant) (g h : OpenGrant) → AllPairs MayBothStand gs
 alone gs g h pairs i j w e =
     elim (AllPairs-In MayBothStand gs g h pairs i j) [
       | inl same ↦ same
-      | inr one ↦
-          elim one [
-            | inl r ↦ absurd (false≢true (sym w ∙ (and_parts (is_read g.kind) (is_read h.kind) (r e).0).0))
-            | inr r ↦ absurd (false≢true (sym w ∙ (and_parts (is_read h.kind) (is_read g.kind) (r (sym e)).0).1))
-          ]
+      | inr one ↦ search (arith, false≢true, and_parts)
     ]

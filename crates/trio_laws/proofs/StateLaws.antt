@@ -1,16 +1,13 @@
 -- The laws on runs, each from the lemmas that carry it.
-use Rattle.std.proofs.Common.{◌≡◌, ◌≢◌, ℕ, Bool, true, false, cond, ltb, List, [], ◌∷◌, length, take, Option, Some, None, sym, ◌∙◌, subst, inl, inr}
+use Rattle.std.proofs.Common.{◌≡◌, ◌≢◌, ℕ, List, [], ◌∷◌, Option, Some, None, sym, ◌∙◌, subst, inl, inr, arith}
 use Rattle.trio_rights.specs.Row.{Row}
 use Rattle.trio_nodes.specs.declared.grant.GrantKind.{GrantKind}
 use Rattle.trio_nodes.specs.declared.answers.GrantFault.{GrantFault}
 use Rattle.trio_nodes.specs.declared.answers.ModeFault.{ModeFault}
 use Rattle.trio_lists.specs.Lists.{In}
-use Rattle.trio_layout.specs.Image.{row_at}
-use Rattle.trio_state.specs.State.{State, logged}
+use Rattle.trio_state.specs.State.{State}
 use Rattle.trio_rights.specs.Bundle.{Bundle}
-use Rattle.trio_state.specs.Grants.{grant_fault}
-use Rattle.trio_state.specs.Allotments.{free_pages, free_numbers, allots}
-use Rattle.trio_state.specs.Step.{Event, Grant, Allot, Back, Release, Settle, SetMode, CtlAnswer, NoPages, NoInodes, Given, Done, Accepted, Refused, NotClosed, Settled, NoMemory, Outcome, Does, Step, granted_to, allot_outcome, mode_fault, moded_to, ReleaseEnd, Parted, IsAccepted, IsRefused}
+use Rattle.trio_state.specs.Step.{Event, Release, CtlAnswer, NoMemory, Does, Step, granted_to, allot_outcome, moded_to}
 use Rattle.trio_state.specs.Kept.{Kept}
 use Rattle.trio_state.specs.Given.{GivenEvent}
 use Rattle.trio_state.specs.Run.{start, Move, Trace}
@@ -53,39 +50,20 @@ told : (a b : CtlAnswer) → a ≡ b → b ≢ NoMemory → a ≢ NoMemory
 told a b e other wrong = other (sym e ∙ wrong)
 
 grant_told : (s : State) (lib ino : ℕ) (kind : GrantKind) (f : Option GrantFault) (o : Option Row) → (granted_to s lib ino kind f o).answer ≢ NoMemory
-grant_told s lib ino kind (Some fault) o wrong = absurd (cc wrong)
-grant_told s lib ino kind None None wrong = absurd (cc wrong)
-grant_told s lib ino kind None (Some r) wrong = absurd (cc wrong)
+grant_told s lib ino kind f o wrong = search arith
 
 allot_told : (s : State) (lib count many : ℕ) → (allot_outcome s lib count many).answer ≢ NoMemory
-allot_told s lib count many = either (ltb (length (free_pages s)) count) (ltb (length (free_numbers s)) many)
-  where
-    either : (a b : Bool) → (cond {A = Outcome} a (record { answer = NoPages count (length (free_pages s)); after = logged s }) (cond b (record { answer = NoInodes many (length (free_numbers s)); after = logged s }) (record { answer = Given (take count (free_pages s)) (take many (free_numbers s)); after = allots s lib (take count (free_pages s)) (take many (free_numbers s)) }))).answer ≢ NoMemory
-    either true b wrong = absurd (cc wrong)
-    either false true wrong = absurd (cc wrong)
-    either false false wrong = absurd (cc wrong)
+allot_told s lib count many = search arith
 
 mode_told : (s : State) (ino mode : ℕ) (f : Option ModeFault) → (moded_to s ino mode f).answer ≢ NoMemory
 mode_told s ino mode (Some fault) wrong = absurd (cc wrong)
 mode_told s ino mode None wrong = absurd (cc wrong)
 
 release_told : (s s' : State) (lib : ℕ) (b : Bundle) (answer : CtlAnswer) → Does s (Release lib b) answer s' → answer ≢ NoMemory
-release_told s s' lib b answer does = by_end does
-  where
-    by_end : ReleaseEnd s lib b answer s' → answer ≢ NoMemory
-    by_end (Parted n some e same) = told answer (NotClosed n) e (λ wrong. absurd (cc wrong))
-    by_end (IsAccepted none t e ends) = told answer Accepted e (λ wrong. absurd (cc wrong))
-    by_end (IsRefused none f why e tells ends) = told answer (Refused why) e (λ wrong. absurd (cc wrong))
+release_told s s' lib b answer does = search (arith, told)
 
 pub does_told : (s : State) (event : Event) (answer : CtlAnswer) (s' : State) → Does s event answer s' → answer ≢ NoMemory
-does_told s (Grant lib ino kind) answer s' does = told answer _ does.0 (grant_told s lib ino kind (grant_fault s lib ino kind) (row_at s.home ino))
-does_told s (Allot lib pages numbers) answer s' does = told answer _ does.0 (allot_told s lib pages numbers)
-does_told s (Back lib ino) answer s' does = told answer Done does.0 (λ wrong. absurd (cc wrong))
-does_told s (Release lib b) answer s' does = release_told s s' lib b answer does
-does_told s (Settle lib b) answer s' does = told answer Settled does.0 (λ wrong. absurd (cc wrong))
-does_told s (SetMode lib ino mode) answer s' does = told answer _ does.0 (mode_told s ino mode (mode_fault s lib ino mode (row_at s.home ino)))
+does_told s event answer s' does = search (arith, told, grant_told, allot_told, release_told, mode_told)
 
 pub never_stuck : NeverStuck
-never_stuck s event k given may =
-    let r = call_possible s k event given may in
-    (r.0, r.1, does_told s event r.0 r.1 r.2, r.2)
+never_stuck s event k given may = search (arith, call_possible, does_told)

@@ -1,5 +1,5 @@
 -- What an accepted bundle leaves of the files that it doesn't write or hold, and of what is out.
-use Rattle.std.proofs.Common.{◌≡◌, ℕ, ◌<◌, ◌≤◌, Bool, true, false, cond, ◌&&◌, ◌||◌, not, eqb, ◌++◌, Option, Some, None, sym, refl, ap, ◌∙◌, subst, inl, inr, ◌⊎◌}
+use Rattle.std.proofs.Common.{◌≡◌, ℕ, ◌<◌, ◌≤◌, Bool, true, false, cond, ◌&&◌, ◌||◌, not, eqb, ◌++◌, Option, Some, None, sym, refl, ap, ◌∙◌, subst, inl, inr, ◌⊎◌, arith}
 use Rattle.std.specs.Prelude.{Ok, is_some, slice_index}
 use Rattle.std.specs.List.{list_all, find}
 use Rattle.std.specs.Str.{bytes_eq}
@@ -21,7 +21,7 @@ use Rattle.trio_layout.specs.Allowed.{same_row, keeps_rows, lists_own, has_owner
 use Rattle.trio_state.specs.Given.{GivenTo}
 use Rattle.trio_layout.specs.Image.{IsFit, Image, settled_body, row_at}
 use Rattle.trio_state.specs.Kept.{Kept}
-use Rattle.trio_rights.specs.Bundle.{Written, Bundle, bundle_pages, is_written}
+use Rattle.trio_rights.specs.Bundle.{Written, Bundle, bundle_pages}
 use Rattle.trio_layout.specs.Proposed.{proposed, proposed_pick}
 use Rattle.trio_rights.specs.Sheets.{sheet_numbers}
 use Rattle.trio_state.specs.State.{State, settled}
@@ -35,10 +35,7 @@ use Rattle.trio_laws.proofs.StateFacts.{tables, live_met, lent_met}
 
 -- the cases of what is asked of a file that is met
 pub stand_cases : (h l w x y z : Bool) → cond h x (cond l (cond w y true) z) ≡ true → ((h ≡ true) × (x ≡ true)) ⊎ (((h ≡ false) × (l ≡ true) × (w ≡ true) × (y ≡ true)) ⊎ (((h ≡ false) × (l ≡ true) × (w ≡ false)) ⊎ ((h ≡ false) × (l ≡ false) × (z ≡ true))))
-stand_cases true l w x y z e = inl (refl, e)
-stand_cases false true true x y z e = inr (inl (refl, refl, refl, e))
-stand_cases false true false x y z e = inr (inr (inl (refl, refl, refl)))
-stand_cases false false w x y z e = inr (inr (inr (refl, refl, e)))
+stand_cases h l w x y z e = search arith
 
 pub has_kind_is : (kind : Kind) (o : Option Row) → has_kind kind o ≡ true → (r : Row) × (o ≡ Some r) × (kind ≡ r.kind)
 has_kind_is kind None e = absurd (false≢true e)
@@ -71,9 +68,7 @@ module _ (s : State) (k : Kept s) (lib : ℕ) (creds : Creds) (b : Bundle) (give
   sound_now = (and_parts (is_sound core pick) (is_allowed image creds b core (survey core pick)) accepted).0
 
   allowed : (keeps_rows image b core (survey core pick) ≡ true) × (list_all (may_stand image creds b core (survey core pick)) (survey core pick) ≡ true)
-  allowed =
-      and_parts (keeps_rows image b core (survey core pick)) (list_all (may_stand image creds b core (survey core pick)) (survey core pick))
-      (and_parts (is_sound core pick) (is_allowed image creds b core (survey core pick)) accepted).1
+  allowed = search (arith, and_parts)
 
   -- a live file that the bundle doesn't hold or write stays
   pub unheld_row : (n : ℕ) (r : Row) → row_at image n ≡ Some r → (In n b.holds → ⊥) → row_of core (survey core pick) n ≡ Some r
@@ -86,15 +81,7 @@ module _ (s : State) (k : Kept s) (lib : ℕ) (creds : Creds) (b : Bundle) (give
       let low : 0 < n = subst (λ x. 0 < x) is_n num0 in
       let high : n ≤ core.inodes = subst (λ x. x ≤ core.inodes) is_n num1 in
       let at = up_to_at (λ n. not (is_some (row_at image n)) || is_among n b.holds || same_row (row_at image n) (row_of core (survey core pick) n)) core.inodes n allowed.0 low high in
-      let same : same_row (row_at image n) (row_of core (survey core pick) n) ≡ true =
-      elim (or_cases (not (is_some (row_at image n)) || is_among n b.holds) (same_row (row_at image n) (row_of core (survey core pick) n)) at) [
-        | inr e ↦ e
-        | inl e ↦
-            elim (or_cases (not (is_some (row_at image n))) (is_among n b.holds) e) [
-              | inl dead ↦ absurd (both_ways (is_some (row_at image n)) (not-true (is_some (row_at image n)) dead) (ap is_some row))
-              | inr held ↦ absurd (unheld (is_among-In n b.holds held))
-            ]
-      ] in
+      let same : same_row (row_at image n) (row_of core (survey core pick) n) ≡ true = search (arith, or_cases, both_ways, not-true, is_among-In) in
       same_row_is r (row_of core (survey core pick) n) (sym (ap (λ o. same_row o (row_of core (survey core pick) n)) row) ∙ same)
 
   pub stays : (n : ℕ) (r : Row) → row_at image n ≡ Some r → (In n b.holds → ⊥) → Unwritten b n → Stays image core pick n r
@@ -189,41 +176,13 @@ module _ (s : State) (k : Kept s) (lib : ℕ) (creds : Creds) (b : Bundle) (give
           let t = list_all-In (may_stand image creds b core (survey core pick)) m (survey core pick) allowed.1 q.stands in
           let not_live : l ≡ true → ⊥ = λ y. false≢true (sym (ap is_some dead') ∙ y) in
           elim (stand_cases h l w x (lists_own b core m) z t) [
-            | inl held ↦
-                let p = and_parts (has_kind m.kind (row_at image m.ino)) (bytes_eq m.body (settled_body image m.ino)) held.1 in
-                let r = has_kind_is m.kind (row_at image m.ino) p.0 in
-                let wrong : None ≡ Some r.0 = sym dead' ∙ r.1 in absurd cc
-            | inr rest ↦
-                elim rest [
-                  | inl written ↦ absurd (not_live written.1)
-                  | inr rest' ↦
-                      elim rest' [
-                        | inl live ↦ absurd (not_live live.1)
-                        | inr new ↦
-                            let p = and_parts (is_among m.ino b.numbers && has_owner creds (row_of core (survey core pick) m.ino)) (lists_own b core m) new.2 in
-                            let p' = and_parts (is_among m.ino b.numbers) (has_owner creds (row_of core (survey core pick) m.ino)) p.0 in
-                            absurd (none (subst (λ y. In y b.numbers) q.number (is_among-In m.ino b.numbers p'.0)))
-                      ]
-                ]
+            | inl held ↦ search (arith, and_parts, has_kind_is)
+            | inr rest ↦ search (arith, and_parts, is_among-In)
           ]
 
   -- a held file that is met has its kind and its settled body
   pub held_met : (n : ℕ) (r : Row) (m : Met) → In n b.holds → row_at image n ≡ Some r → In m (survey core pick) → m.ino ≡ n → (m.kind ≡ r.kind) × (m.body ≡ settled_body image n)
-  held_met n r m held row i num =
-      let ino : ℕ = m.ino in
-      let asked : Bool = has_kind m.kind (row_at image ino) && bytes_eq m.body (settled_body image ino) in
-      let rest : Bool =
-      cond (is_some (row_at image ino)) (cond (is_written b ino) (lists_own b core m) true)
-      (is_among ino b.numbers && has_owner creds (row_of core (survey core pick) ino) && lists_own b core m) in
-      let h : is_among ino b.holds ≡ true = In-is_among ino b.holds (subst (λ j. In j b.holds) (sym num) held) in
-      let t = list_all-In (may_stand image creds b core (survey core pick)) m (survey core pick) allowed.1 i in
-      let p = and_parts (has_kind m.kind (row_at image ino)) (bytes_eq m.body (settled_body image ino)) (sym (ap (λ x. cond x asked rest) h) ∙ t) in
-      let x = has_kind_is m.kind (row_at image ino) p.0 in
-      let rows : Some x.0 ≡ Some r = sym x.1 ∙ ap (row_at image) num ∙ row in
-      let is_r : x.0 ≡ r = cc rows in (
-        x.2 ∙ ap (λ (y : Row). y.kind) is_r,
-        (bytes_eq-Decides m.body (settled_body image ino)).0 p.1 ∙ ap (settled_body image) num,
-      )
+  held_met n r m held row i num = search (arith, In-is_among, list_all-In, allowed, and_parts, has_kind_is, bytes_eq-Decides)
 
   -- and so its rights
   pub held_rights : (n : ℕ) (r q : Row) → In n b.holds → row_at image n ≡ Some r → row_of core (survey core pick) n ≡ Some q → (q.kind ≡ r.kind) × (q.mode ≡ r.mode) × (q.uid ≡ r.uid) × (q.gid ≡ r.gid)

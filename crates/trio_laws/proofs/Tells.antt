@@ -1,5 +1,5 @@
 -- What a refusal tells.
-use Rattle.std.proofs.Common.{false, ◌≡◌, ℕ}
+use Rattle.std.proofs.Common.{false, ◌≡◌, ℕ, arith}
 use Rattle.std.specs.Prelude.{None, IsFalse}
 use Rattle.std.proofs.lemmas.Bool.{both_ways, false_from_ne_true}
 use Rattle.trio_layout.specs.Accept.{is_accepted}
@@ -19,9 +19,6 @@ pub refused_tells : (s : State) (lib : ℕ) (b : Bundle) → Kept s → GivenTo 
     → IsFalse (is_accepted (settled s) (creds_of s lib) b) → (why : Why) × Tells s lib b why
 refused_tells s lib b kept given closed refused =
     let c : Case = case_in s lib b in
-    let unmet : meets_rules c ≡ false =
-    false_from_ne_true (meets_rules c)
-    (λ t. both_ways (is_accepted (settled s) (creds_of s lib) b) refused
-    ((rules_are_accept s lib b (record { kept = kept; given = given; closed = closed })).0 t)) in
+    let unmet : meets_rules c ≡ false = search (arith, false_from_ne_true, both_ways, rules_are_accept) in
     let r = (breaks_where_not_met c).0 unmet in
     (record { rule = r.0; ino = r.1; page = r.2.page; slot = r.2.slot }, r.3)

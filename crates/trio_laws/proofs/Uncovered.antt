@@ -1,5 +1,5 @@
 -- Which blocks of written files no checkpoint covers.
-use Rattle.std.proofs.Common.{◌≡◌, List, ◌++◌, Some, sym, refl, ap, ◌∙◌, subst, inl, inr, ◌⊎◌}
+use Rattle.std.proofs.Common.{◌≡◌, List, ◌++◌, Some, sym, refl, ap, ◌∙◌, subst, inl, inr, ◌⊎◌, arith}
 use Rattle.std.specs.Prelude.{ℕ}
 use Rattle.std.specs.List.{flat_map}
 use Rattle.trio_rights.specs.declared.kind.Kind.{Kind}
@@ -67,6 +67,4 @@ module _ (s : State) (k : Kept s) (lib : ℕ) (b : Bundle) (given : GivenTo s li
       ]
 
   pub In-uncovered : (w : Written) (x : Sheet) → In w b.writes → w.kind ≡ Regular → In x w.blocks → In x (uncovered (settled s) b)
-  In-uncovered w x i reg a =
-      subst (λ l. In x l) (sym uncovered-lent)
-      (In-flat (λ (w : Written). uncovered_of w.kind w.blocks) w x b.writes i (is_uncovered w.kind w.blocks x reg a))
+  In-uncovered w x i reg a = search (arith, uncovered-lent, In-flat, is_uncovered)

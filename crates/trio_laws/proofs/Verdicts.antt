@@ -1,9 +1,8 @@
 -- The verdict on a bundle, and what a refusal leaves.
-use Rattle.std.proofs.Common.{◌≡◌, ℕ, true, false, List, ◌++◌, Option, Some, None, slice_get, sym, refl, ap, ◌∙◌, subst, inl, inr}
+use Rattle.std.proofs.Common.{◌≡◌, ℕ, true, false, List, ◌++◌, Option, Some, None, slice_get, sym, refl, ap, ◌∙◌, subst, inl, inr, arith}
 use Rattle.std.proofs.lemmas.Bool.{both_ways}
 use Rattle.std.proofs.lemmas.List.{map-append}
 use Rattle.trio_rights.specs.declared.kind.Kind.{Kind}
-use Rattle.trio_rights.specs.declared.kind.Kind.TheVariants.{Regular, Directory}
 use Rattle.trio_nodes.specs.declared.grant.GrantKind.TheVariants.{Write}
 use Rattle.trio_lists.specs.Lists.{In}
 use Rattle.trio_layout.specs.Core.{page_of}
@@ -28,40 +27,13 @@ use Rattle.trio_laws.proofs.Bundles.{Closed, closed_unparted}
 use Rattle.trio_laws.proofs.Refusing.{agree, fit', pages}
 
 without_memory : (s : State) (lib : ℕ) (b : Bundle) → IsVerdict s lib b NoMemory s
-without_memory s lib b = record {
-  parted = λ n e. absurd (cc e);
-  no_memory = λ e. refl;
-  closed = λ judged. absurd (judged.0 refl);
-  accepted = λ judged. absurd (judged.0 refl);
-  refused = λ judged. absurd (judged.0 refl);
-  stands = λ e. absurd (cc e);
-  returns = λ refused. (let wrong = refused.1 in absurd (cc wrong));
-  tells = λ why e. absurd (cc e);
-}
+without_memory s lib b = search arith
 
 parted_back : (s : State) (lib : ℕ) (b : Bundle) (n : ℕ) → parted_hold s lib b ≡ Some n → IsVerdict s lib b (NotClosed n) s
-parted_back s lib b n parted = record {
-  parted = λ m e. (let same : n ≡ m = cc e in (parted ∙ ap Some same, refl));
-  no_memory = λ e. absurd (cc e);
-  closed = λ judged. absurd (judged.1 n refl);
-  accepted = λ judged. absurd (judged.1 n refl);
-  refused = λ judged. absurd (judged.1 n refl);
-  stands = λ e. absurd (cc e);
-  returns = λ refused. (let wrong = refused.1 in absurd (cc wrong));
-  tells = λ why e. absurd (cc e);
-}
+parted_back s lib b n parted = search arith
 
 is_accepted_then : (s s' : State) (lib : ℕ) (b : Bundle) → parted_hold s lib b ≡ None → is_accepted (settled s) (creds_of s lib) b ≡ true → settled s' ≡ next (settled s) b → IsVerdict s lib b Accepted s'
-is_accepted_then s s' lib b none t settles = record {
-  parted = λ n e. absurd (cc e);
-  no_memory = λ e. absurd (cc e);
-  closed = λ judged. none;
-  accepted = λ judged. (λ e. t, λ e. refl);
-  refused = λ judged. (λ r. (let wrong = r.1 in absurd (cc wrong)), λ f. absurd (both_ways (is_accepted (settled s) (creds_of s lib) b) f t));
-  stands = λ e. settles;
-  returns = λ refused. (let wrong = refused.1 in absurd (cc wrong));
-  tells = λ why e. absurd (cc e);
-}
+is_accepted_then s s' lib b none t settles = search (arith, both_ways)
 
 is_refused_then : (s s' : State) (lib : ℕ) (b : Bundle) (why : Why) → parted_hold s lib b ≡ None → is_accepted (settled s) (creds_of s lib) b ≡ false → Tells s lib b why → settled s' ≡ refused_image (settled s) b → IsVerdict s lib b (Refused why) s'
 is_refused_then s s' lib b why none f tells settles = record {
@@ -76,9 +48,7 @@ is_refused_then s s' lib b why none f tells settles = record {
 }
 
 same_verdict : (s s' : State) (lib : ℕ) (b : Bundle) (answer given : CtlAnswer) → answer ≡ given → s' ≡ s → IsVerdict s lib b given s → IsVerdict s lib b answer s'
-same_verdict s s' lib b answer given e same v =
-    let V : CtlAnswer → Type 0 = λ a. IsVerdict s lib b a s in
-    let W : State → Type 0 = λ t. IsVerdict s lib b answer t in subst W (sym same) (subst V (sym e) v)
+same_verdict s s' lib b answer given e same v = search arith
 
 -- each release is judged, handed back or answered for want of memory
 pub release_verdict : (s s' : State) (lib : ℕ) (b : Bundle) (answer : CtlAnswer) → Step s (Release lib b) answer s' → IsVerdict s lib b answer s'
@@ -92,9 +62,7 @@ release_verdict s s' lib b answer (inl does) = by_end does
 
 -- a page that a checkpoint covers is one that is read of its file
 covered_read : (kind : Kind) (index blocks : List Sheet) (f : FileRead) (p : ℕ) → sheet_numbers index ≡ f.chain.index → sheet_numbers blocks ≡ f.chain.blocks → In p (sheet_numbers (covered Write kind index blocks)) → In p (pages_read kind f)
-covered_read Regular index blocks f p a b i = subst (λ l. In p l) a i
-covered_read Directory index blocks f p a b i =
-    subst (λ l. In p l) (map-append (λ (x : Sheet). x.page) index blocks ∙ ap (λ l. l ++ sheet_numbers blocks) a ∙ ap (λ l. f.chain.index ++ l) b) i
+covered_read kind index blocks f p a b i = search (arith, map-append)
 
 refused_back : (s s' : State) (k : Kept s) (lib : ℕ) (b : Bundle) (given : GivenTo s lib b) → Closed s lib b → Ends s lib b (refused_image (settled s) b) s' → IsBack s b s'
 refused_back s s' k lib b given closed e =

@@ -37,9 +37,7 @@ use Rattle.trio_surveys.specs.Reading.{with_other, AgreeOn, pages_read}
 
 -- a page that is read is an index page or a block of a directory
 pub read_cases : (kind : Kind) (f : FileRead) (p : ℕ) → In p (pages_read kind f) → In p f.chain.index ⊎ (In p f.chain.blocks × (kind ≡ Directory))
-read_cases Regular f p i = inl i
-read_cases Directory f p i =
-    elim (In-cases p f.chain.index f.chain.blocks i) [ inl a ↦ inl a | inr b ↦ inr (b, refl) ]
+read_cases kind f p i = search (arith, In-cases)
 
 pub regular_directory : (k : Kind) → k ≡ Regular → k ≡ Directory → ⊥
 regular_directory Regular a b = absurd cc
@@ -116,11 +114,7 @@ module _ (s : State) (k : Kept s) (lib : ℕ) (m : Met) (f : FileRead) (i : In m
   before = with_pages (flat_map (λ g. g.checkpoint) s.open_grants) (without_pages (lent_pages g) s.home.core.pages)
 
   pages_are_two : pages ≡ with_pages g.checkpoint before
-  pages_are_two =
-      let a : flat_map (λ g. g.checkpoint) (s.open_grants ++ g ∷ []) ≡ flat_map (λ g. g.checkpoint) s.open_grants ++ g.checkpoint =
-      flat_map-append (λ (g : OpenGrant). g.checkpoint) s.open_grants (g ∷ []) ∙ ap (λ l. flat_map (λ g. g.checkpoint) s.open_grants ++ l) (append-nil g.checkpoint) in
-      ap (λ l. with_pages l (without_pages (lent_pages g) s.home.core.pages)) a
-      ∙ with_pages-append (flat_map (λ g. g.checkpoint) s.open_grants) g.checkpoint (without_pages (lent_pages g) s.home.core.pages)
+  pages_are_two = search (arith, flat_map-append, append-nil, with_pages-append)
 
   -- each page is as it was, or it is a block of the regular file and absent
   pub pages_now : (p : ℕ) → (slice_get pages p ≡ slice_get core.pages p) ⊎ (In p f.chain.blocks × (m.kind ≡ Regular) × (slice_get pages p ≡ Some None))
@@ -175,11 +169,7 @@ module _ (s : State) (k : Kept s) (lib : ℕ) (m : Met) (f : FileRead) (i : In m
               let no' : Some None ≡ Some (Some bytes) = sym gone.2 ∙ t in
               absurd (cc no')
         ];
-    long = (let long = k.fit.long in
-        let n1 = length-with_pages (flat_map (λ g. g.checkpoint) s.open_grants) s.home.core.pages in
-        let n2 = length-with_pages (flat_map (λ g. g.checkpoint) (s.open_grants ++ g ∷ [])) (without_pages (lent_pages g) s.home.core.pages) in
-        let n3 = length-without (lent_pages g) s.home.core.pages in
-        omega (arith, long, n1, n2, n3));
+    long = search (arith, length-with_pages, length-without);
     numbers = k.fit.numbers;
   }
 
@@ -239,19 +229,12 @@ module _ (s : State) (k : Kept s) (lib : ℕ) (m : Met) (f : FileRead) (i : In m
     ];
     checkpoints = λ h j. elim (old_or_new h j) [
       | inl old ↦ k.checkpoints h old
-      | inr new ↦
-          let C : OpenGrant → Type 0 = λ x. sheet_numbers x.checkpoint ≡ sheet_numbers (covered x.kind x.of x.index x.blocks) in
-          let c : sheet_numbers g.checkpoint ≡ sheet_numbers (covered g.kind g.of g.index g.blocks) = refl in
-          subst C (sym new) c
+      | inr new ↦ search arith
     ];
     absent = λ p gone c. elim (without_absent (lent_pages g) s.home.core.pages p gone) [
       | inl lent ↦
           inl (In-list_any (λ (x : OpenGrant). is_write x.kind && is_among p (sheet_numbers (x.index ++ x.blocks))) g (s.open_grants ++ g ∷ []) (In-right g s.open_grants (g ∷ []) (inl refl)) (In-is_among p (sheet_numbers (g.index ++ g.blocks)) lent))
-      | inr old ↦
-          elim (k.absent p old c) [
-            | inl lent ↦ inl (any_more (λ (x : OpenGrant). is_write x.kind && is_among p (sheet_numbers (x.index ++ x.blocks))) lent)
-            | inr out ↦ inr out
-          ]
+      | inr old ↦ search (arith, any_more)
     ];
     pages_placed = k.pages_placed;
     out_free = k.out_free;

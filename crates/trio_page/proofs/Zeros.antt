@@ -4,13 +4,12 @@
 --   get_or-zeros, IsBytes-zeros, each_zero      each byte of them; bytes are zeros where each one is
 --   take-zeros, drop-zeros, slice-zeros     their ranges
 --   zeros-append                            zeros after zeros
---   number16_zeros, 32, 64                  the numbers in them
---   number16_cleared, 32, 64                the numbers where zeros were written
+--   number32_zeros, 64                  the numbers in them
+--   number32_cleared                the numbers where zeros were written
 -- `length-zeros`, `rest_zeros` and `zeros_rest` are in Cursor.
--- Ruleset: `zero_bytes`, for `put_zeros_in` and `clear`, beside those of Fields and Rows.
 use Rattle.std.proofs.Common.{◌≡◌, ℕ, ◌+◌, ◌-◌, ◌≤◌, List, length, take, drop, refl, sym, ap, ◌∙◌, arith}
 use Rattle.std.specs.Prelude.{slice_range}
-use Rattle.std.specs.Int.{Width, w16, w32, w64, byte_len, from_le_bytes}
+use Rattle.std.specs.Int.{Width, w32, w64, byte_len, from_le_bytes}
 use Rattle.std.proofs.lemmas.List.{take-replicate, drop-replicate}
 use Rattle.trio_page.specs.Field.{number_at, with_part, zeros}
 use Rattle.trio_page.proofs.Fields.{slice-with_part_same}
@@ -35,10 +34,6 @@ zeros_of at k n le =
     let e : at + k - at ≡ k = omega arith in
     slice-zeros n at (at + k) le ∙ ap zeros e
 
-worth16 : from_le_bytes w16 (zeros 2) ≡ 0
-unfolding zeros
-worth16 = refl
-
 worth32 : from_le_bytes w32 (zeros 4) ≡ 0
 unfolding zeros
 worth32 = refl
@@ -56,10 +51,6 @@ cleared w at count i bytes fits le within =
     ap (λ (x : ℕ). number_at w x new) e ∙ sym (number_at-slice w (i - at) new at (at + count) (omega arith))
     ∙ ap (number_at w (i - at)) (slice-with_part_same at (zeros count) bytes (at + count) (omega arith) (omega arith))
 
-pub number16_zeros : (at n : ℕ) → at + 2 ≤ n → number_at w16 at (zeros n) ≡ 0
-unfolding number_at
-number16_zeros at n le = ap (from_le_bytes w16) (zeros_of at 2 n le) ∙ worth16
-
 pub number32_zeros : (at n : ℕ) → at + 4 ≤ n → number_at w32 at (zeros n) ≡ 0
 unfolding number_at
 number32_zeros at n le = ap (from_le_bytes w32) (zeros_of at 4 n le) ∙ worth32
@@ -68,15 +59,5 @@ pub number64_zeros : (at n : ℕ) → at + 8 ≤ n → number_at w64 at (zeros n
 unfolding number_at
 number64_zeros at n le = ap (from_le_bytes w64) (zeros_of at 8 n le) ∙ worth64
 
--- ---- numbers where zeros were written: number i within the count of zeros at `at`
-
-pub number16_cleared : (at count i : ℕ) (bytes : List ℕ) → at + count ≤ length bytes → at ≤ i → i + 2 ≤ at + count → number_at w16 i (with_part at (zeros count) bytes) ≡ 0
-number16_cleared at count i bytes fits le within = cleared w16 at count i bytes fits le within ∙ number16_zeros (i - at) count (omega arith)
-
 pub number32_cleared : (at count i : ℕ) (bytes : List ℕ) → at + count ≤ length bytes → at ≤ i → i + 4 ≤ at + count → number_at w32 i (with_part at (zeros count) bytes) ≡ 0
 number32_cleared at count i bytes fits le within = cleared w32 at count i bytes fits le within ∙ number32_zeros (i - at) count (omega arith)
-
-pub number64_cleared : (at count i : ℕ) (bytes : List ℕ) → at + count ≤ length bytes → at ≤ i → i + 8 ≤ at + count → number_at w64 i (with_part at (zeros count) bytes) ≡ 0
-number64_cleared at count i bytes fits le within = cleared w64 at count i bytes fits le within ∙ number64_zeros (i - at) count (omega arith)
-
-pub ruleset zero_bytes = (length-zeros, number16_zeros, number32_zeros, number64_zeros, number16_cleared, number32_cleared, number64_cleared)

@@ -12,9 +12,8 @@
 //! `Reads` the caller passes. Every count stops at its last value, 2^64 - 1.
 //!
 //! Lemmas for callers: `proofs/Fields.antt` (a field after writes), `proofs/Ranges.antt` (ranges
-//! within ranges, and parts written within a range), `proofs/Rows.antt` (rows of equal size, and
-//! the slots and bodies of a directory page), `proofs/Zeros.antt` and `proofs/Cursor.antt` (bytes
-//! spelled by one field after another).
+//! within ranges, and parts written within a range), `proofs/Zeros.antt` and `proofs/Cursor.antt`
+//! (bytes spelled by one field after another).
 #![tactic(auto)]
 
 pub mod field;

@@ -1,6 +1,5 @@
 -- What an accepted bundle leaves verifies.
-use Rattle.std.proofs.Common.{◌≡◌, ℕ, ◌+◌, Bool, true, false, cond, eqb, ltb, List, [], ◌∷◌, length, Option, Some, None, sym, refl, ap, ◌∙◌, inl, inr, slice_set, arith}
-use Rattle.std.specs.List.{find}
+use Rattle.std.proofs.Common.{◌≡◌, ℕ, Bool, true, false, cond, eqb, List, [], ◌∷◌, length, Option, Some, None, sym, refl, ap, ◌∙◌, inl, inr, slice_set, arith}
 use Rattle.std.specs.Option.{option_map, option_and_then}
 use Rattle.std.proofs.lemmas.Bool.{and_parts}
 use Rattle.std.proofs.lemmas.List.{length-set}
@@ -8,7 +7,7 @@ use Rattle.trio_rights.specs.declared.rights.Creds.{Creds}
 use Rattle.trio_layout.specs.Core.{Core, page_of}
 use Rattle.trio_lists.specs.Lists.{is_among, In}
 use Rattle.trio_layout.specs.Sound.{is_sound, rows_table, owners_table}
-use Rattle.trio_layout.specs.Survey.{Met, Pick, plain, file_of, survey, pages_of, pages_in, row_of, owner_of, row_read}
+use Rattle.trio_layout.specs.Survey.{Met, Pick, plain, file_of, survey, pages_of, owner_of, row_read}
 use Rattle.trio_layout.specs.Accept.{is_accepted, next, with_bodies}
 use Rattle.trio_layout.specs.Allowed.{is_allowed}
 use Rattle.trio_layout.specs.Image.{IsFit, Image}
@@ -33,10 +32,7 @@ then_same (Some x) f g h = h x refl
 
 -- the tables go by what the files met say
 pub rows_same : (core : Core) (pages : Pages) (files : List Met) → ((m : Met) → In m files → row_read m (file_of (with_other core pages) m) ≡ row_read m (file_of core m)) → rows_table (with_other core pages) files ≡ rows_table core files
-rows_same core pages files h =
-    tabulated-same (row_of (with_other core pages) files) (row_of core files) (core.inodes + 1)
-    (λ n. then_same (find (λ (x : Met). eqb x.ino n) files) (λ m. row_read m (file_of (with_other core pages) m)) (λ m. row_read m (file_of core m))
-    (λ m e. h m (find-In (λ (x : Met). eqb x.ino n) files m e).0))
+rows_same core pages files h = search (arith, tabulated-same, then_same, find-In)
 
 owner_same : (core : Core) (pages : Pages) (files : List Met) (p : ℕ) → ((m : Met) → In m files → pages_of (with_other core pages) m ≡ pages_of core m) → owner_of (with_other core pages) files p ≡ owner_of core files p
 owner_same core pages [] p h = refl
@@ -45,9 +41,7 @@ owner_same core pages (x ∷ xs) p h =
     ∙ ap (cond (is_among p (pages_of core x)) x.ino) (owner_same core pages xs p (λ m i. h m (inr i)))
 
 pub owners_same : (core : Core) (pages : Pages) (files : List Met) → ((m : Met) → In m files → pages_of (with_other core pages) m ≡ pages_of core m) → owners_table (with_other core pages) files ≡ owners_table core files
-owners_same core pages files h =
-    tabulated-same (λ p. cond (ltb p core.range.first) 0xFFFFFFFF (owner_of (with_other core pages) files p)) (λ p. cond (ltb p core.range.first) 0xFFFFFFFF (owner_of core files p)) core.range.end
-    (λ p. ap (cond (ltb p core.range.first) 0xFFFFFFFF) (owner_same core pages files p h))
+owners_same core pages files h = search (arith, tabulated-same, owner_same)
 
 -- the core with the picked bodies, and the tables of the survey with the pick
 pub put_verifies : (core : Core) (pick : Pick) → IsFit core → is_sound core pick ≡ true → Verifies (record { core = with_picked_bodies core pick; rows = rows_table core (survey core pick); owners = owners_table core (survey core pick) })
@@ -106,15 +100,4 @@ accepted_verifies image creds b fit accepted =
 
 -- an image of other pages verifies where all pages that are read are the same
 pub agreeing_verifies : (image : Image) (pages : Pages) → Verifies image → AgreeOn image.core (with_other image.core pages) (survey image.core plain) → Verifies (record { core = with_other image.core pages; rows = image.rows; owners = image.owners })
-agreeing_verifies image pages v agree =
-    let core : Core = image.core in
-    let other : Core = with_other core pages in
-    let files : List Met = survey core plain in
-    let p = sound_parts core plain v.sound in
-    let same : survey other plain ≡ files = survey_local core pages plain p.grammar agree in
-    let file : (m : Met) → In m files → file_of other m ≡ file_of core m = λ m i. file_agrees core pages files p.grammar agree m i in
-    record {
-      sound = agreeing_sound core pages plain v.sound agree;
-      rows = v.rows ∙ sym (ap (rows_table other) same ∙ rows_same core pages files (λ m i. ap (row_read m) (file m i)));
-      owners = v.owners ∙ sym (ap (owners_table other) same ∙ owners_same core pages files (λ m i. ap pages_in (file m i)));
-    }
+agreeing_verifies image pages v agree = search (arith, sound_parts, survey_local, file_agrees, agreeing_sound, rows_same, owners_same)

@@ -1,6 +1,6 @@
 -- The bodies of a sound survey at their places, in any order, but for those that stand there already.
-use Rattle.std.proofs.Common.{◌≡◌, ℕ, true, List, [], ◌∷◌, Option, Some, None, slice_get, sym, refl, ap, ◌∙◌, inl, inr, ◌⊎◌}
-use Rattle.std.specs.Option.{option_map, option_map_or}
+use Rattle.std.proofs.Common.{◌≡◌, ℕ, true, List, [], ◌∷◌, Option, Some, None, slice_get, sym, refl, ap, ◌∙◌, inl, inr, ◌⊎◌, arith}
+use Rattle.std.specs.Option.{option_map}
 use Rattle.std.proofs.lemmas.Bool.{cases_eq, cases_Bool, both_ways}
 use Rattle.trio_layout.specs.Range.{is_core}
 use Rattle.trio_lists.specs.Lists.{In}
@@ -25,9 +25,7 @@ abbrev pub HasPlace : ℕ → ℕ → List Met → Type 0
 HasPlace p s ms = (c : Met) × In c ms × (c.page ≡ p) × (c.slot ≡ s)
 
 first_place : (p s : ℕ) (m : Met) (ms : List Met) → ((m.page ≡ p) × (m.slot ≡ s) → ⊥) → (HasPlace p s ms → ⊥) → HasPlace p s (m ∷ ms) → ⊥
-first_place p s m ms here later (c, inl e, on, at) =
-    here (ap (λ (x : Met). x.page) (sym e) ∙ on, ap (λ (x : Met). x.slot) (sym e) ∙ at)
-first_place p s m ms here later (c, inr i, on, at) = later (c, i, on, at)
+first_place p s m ms here later h = search arith
 
 pub place_cases : (p s : ℕ) (ms : List Met) → HasPlace p s ms ⊎ (HasPlace p s ms → ⊥)
 place_cases p s [] = inr (λ h. h.1)
@@ -83,15 +81,7 @@ module _ (core : Core) (pick : Pick) (fit : IsFit core) (sound : is_sound core p
 
     -- a listed file's body comes with these files, or stands in its slot already
     comes : (p s : ℕ) (bytes : List ℕ) (c : Met) → page_of core p ≡ Some bytes → In c listed → c.page ≡ p → c.slot ≡ s → (body_in_slot s bytes ≡ c.body) ⊎ HasPlace p s ms
-    comes p s bytes c there i on at =
-        elim (rest c (listed_are_met core pick fit sound c i) (listed_no_root core pick fit sound c i)) [
-          | inl j ↦ inr (c, j, on, at)
-          | inr e ↦
-              inl (sym (e
-              ∙ ap (λ n. option_map_or (body_in_slot c.slot) (page_of core n) []) on
-              ∙ ap (λ o. option_map_or (body_in_slot c.slot) o []) there
-              ∙ ap (λ n. body_in_slot n bytes) at))
-        ]
+    comes p s bytes c there i on at = search (arith, listed_are_met, listed_no_root)
 
     body_same : (p s : ℕ) (bytes : List ℕ) → page_of core p ≡ Some bytes → body_in_slot s (put_on p ms bytes) ≡ body_in_slot s (put_on p listed bytes)
     body_same p s bytes there =

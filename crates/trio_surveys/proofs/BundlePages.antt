@@ -1,5 +1,5 @@
 -- The pages of a bundle alone, and the same pages put in place in an image.
-use Rattle.std.proofs.Common.{◌≡◌, ℕ, suc, zero, ◌<◌, ◌≤◌, true, ltb, leb, List, [], ◌∷◌, length, Option, Some, None, slice_get, slice_set, sym, ap, ◌∙◌, inl, inr, arith}
+use Rattle.std.proofs.Common.{◌≡◌, ℕ, ◌<◌, ◌≤◌, true, ltb, leb, List, [], ◌∷◌, length, Option, Some, None, slice_get, slice_set, sym, ap, ◌∙◌, inl, inr, arith}
 use Rattle.std.specs.Prelude.{replicate}
 use Rattle.std.specs.Option.{option_map}
 use Rattle.std.proofs.lemmas.List.{length-set, length-replicate}
@@ -13,8 +13,8 @@ use Rattle.trio_layout.specs.Image.{Image}
 use Rattle.trio_rights.specs.Bundle.{Bundle, bundle_sheets, bundle_pages}
 use Rattle.trio_layout.specs.Proposed.{proposed}
 use Rattle.trio_surveys.proofs.SheetLaws.{get-set_same}
-use Rattle.trio_surveys.proofs.Sheets.{Pages, among_cases, with_pages_apart, page_there, page_from, place_there}
-use Rattle.trio_layout.specs.Case.{Case, case_of, bundle_core}
+use Rattle.trio_surveys.proofs.Sheets.{Pages, among_cases, with_pages_apart, page_from, place_there}
+use Rattle.trio_layout.specs.Case.{case_of, bundle_core}
 
 -- a page that is put in place is the same over any two lists that have a place for it
 handed : (ss : List Sheet) (a b : Pages) (p : ℕ) → p < length a → p < length b → In p (sheet_numbers ss) → (bytes : List ℕ) × (slice_get (with_pages ss a) p ≡ Some (Some bytes)) × (slice_get (with_pages ss b) p ≡ Some (Some bytes))
@@ -42,28 +42,9 @@ handed (x ∷ xs) a b p la lb i =
         ∙ get-set_same a p (Some x.bytes)
         ∙ ap (option_map (λ _. Some x.bytes)) o.1
 
-blank_absent : (n p : ℕ) (bytes : List ℕ) → slice_get (replicate n None) p ≡ Some (Some bytes) → ⊥
-blank_absent zero p bytes e = absurd cc
-blank_absent (suc n) zero bytes e = absurd cc
-blank_absent (suc n) (suc p) bytes e = blank_absent n p bytes e
-
 module _ (image : Image) (creds : Creds) (b : Bundle) where
-  abbrev pub c : Case
-  c = case_of image creds b
-
   abbrev pub cb : Core
   cb = bundle_core (case_of image creds b)
-
-  -- a page that is there alone is one of the bundle's
-  pub there_in : (p : ℕ) (bytes : List ℕ) → page_of cb p ≡ Some bytes → In p (bundle_pages b)
-  there_in p bytes e =
-      let t = page_there cb p bytes e in
-      elim (among_cases p (bundle_pages b)) [
-        | inl i ↦ i
-        | inr none ↦
-            let blanks : List (Option (List ℕ)) = replicate image.core.range.end None in
-            absurd (blank_absent image.core.range.end p bytes (sym (with_pages_apart (bundle_sheets b) blanks p none) ∙ t.1))
-      ]
 
   module _ (long : image.core.range.end ≤ length image.core.pages) where
     -- a page of the bundle is there alone as it is in the image with the bundle's pages in place

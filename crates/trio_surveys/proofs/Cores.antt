@@ -1,13 +1,12 @@
 -- The pages that a file in the grammar lists are core pages.
-use Rattle.std.proofs.Common.{◌≡◌, ℕ, suc, zero, ◌-◌, min, Bool, true, false, cond, ◌&&◌, eqb, List, [], ◌∷◌, ◌++◌, length, Option, Some, None, Ok, sym, ap, refl, ◌∙◌, subst, inl, inr}
+use Rattle.std.proofs.Common.{◌≡◌, ℕ, suc, zero, ◌-◌, min, Bool, true, false, cond, eqb, List, ◌∷◌, ◌++◌, Option, Some, None, Ok, sym, ap, refl, ◌∙◌, subst, inl, inr, arith}
 use Rattle.std.specs.List.{list_all}
-use Rattle.std.specs.Str.{bytes_eq}
 use Rattle.std.proofs.lemmas.Bool.{and_parts}
 use Rattle.std.proofs.lemmas.Option.{cond_some}
 use Rattle.trio_layout.specs.declared.range.CoreRange.{CoreRange}
 use Rattle.trio_layout.specs.Range.{is_core}
 use Rattle.trio_layout.specs.Body.{block_count}
-use Rattle.trio_layout.specs.Index.{Index, index_at, index_bytes, index_fits, index_of, link_fits}
+use Rattle.trio_layout.specs.Index.{Index, index_of}
 use Rattle.trio_lists.specs.Lists.{In, result_map}
 use Rattle.trio_layout.specs.Core.{Core, at_page, page_of}
 use Rattle.trio_layout.specs.Chain.{Chain, chain_from, index_count, index_page, with_index}
@@ -25,20 +24,10 @@ page_is_core core at page e = page_cond (is_core core.range at) _ page e
 
 index_core : (range : CoreRange) (used : ℕ) (last : Bool) (page : List ℕ) (i : Index) → index_of used last range page ≡ Some i → list_all (is_core range) i.numbers ≡ true
 unfolding index_of
-index_core range used last page i e =
-    let x : Index = index_at used page in
-    let spelled : Bool = bytes_eq page (index_bytes x) in
-    let many : Bool = eqb (length x.numbers) used in
-    let inside : Bool = list_all (is_core range) x.numbers in
-    let c = cond_some (spelled && index_fits used last range x) x i e in
-    let fits = (and_parts spelled (index_fits used last range x) c.0).1 in
-    let p = and_parts (many && inside) (link_fits last range x.next) fits in
-    ap (λ (y : Index). list_all (is_core range) y.numbers) (sym c.1) ∙ (and_parts many inside p.0).1
+index_core range used last page i e = search (arith, cond_some, and_parts)
 
 pub chain_core : (core : Core) (n blocks at : ℕ) (c : Chain) (p : ℕ) → chain_from core n blocks at ≡ Ok c → In p (c.index ++ c.blocks) → is_core core.range p ≡ true
-chain_core core zero blocks at c p e i =
-    let k : record { index = []; blocks = [] } ≡ c = cc e in
-    let none : In p [] = subst (λ (x : Chain). In p (x.index ++ x.blocks)) (sym k) i in absurd none
+chain_core core zero blocks at c p e i = search (arith, min, result_then-Ok, result_map-Ok, option_and_then-Some, there_or-Ok, page_is_core, In-cases, In-left, list_all-In, index_core, In-right)
 chain_core core (suc n) blocks at c p e i =
     let used : ℕ = min blocks 511 in
     let s1 = result_then-Ok (λ i. result_map (with_index at i) (chain_from core n (blocks - 511) i.next)) (index_page core at used (eqb n 0)) c e in

@@ -1,5 +1,5 @@
 -- What a sound survey and its tables say of files, rows, owners and bodies.
-use Rattle.std.proofs.Common.{◌≡◌, ℕ, ◌+◌, ◌<◌, ◌≤◌, true, false, cond, eqb, ltb, leb, List, [], ◌∷◌, get_or, Option, Some, None, Result, Ok, Err, sym, refl, ap, ◌∙◌, subst, inl, inr, ◌⊎◌, arith}
+use Rattle.std.proofs.Common.{◌≡◌, ℕ, ◌<◌, ◌≤◌, true, false, cond, eqb, ltb, leb, List, [], ◌∷◌, Option, Some, None, Result, Ok, Err, sym, refl, ap, ◌∙◌, subst, inl, inr, ◌⊎◌, arith}
 use Rattle.std.specs.Prelude.{is_some, slice_index}
 use Rattle.std.specs.List.{find}
 use Rattle.std.specs.Option.{option_and_then, option_map_or}
@@ -57,11 +57,7 @@ pub record MetAt (core : Core) (pick : Pick) (n : ℕ) (r : Row) : Type 0 where
 
 module _ (core : Core) (pick : Pick) (fit : IsFit core) (sound : is_sound core pick ≡ true) where
   pub numbers_new : are_new [] (numbers (survey core pick)) ≡ true
-  numbers_new =
-      let p = sound_parts core pick sound in
-      ap (λ l. are_new [] (numbers l)) (survey_tree core pick fit.numbers sound)
-      ∙ ap (are_new (1 ∷ [])) (numbers-flat (children core pick) (survey core pick))
-      ∙ p.numbered
+  numbers_new = search (arith, sound_parts, survey_tree, numbers-flat)
 
   pub one_met : (m m' : Met) → In m (survey core pick) → In m' (survey core pick) → m.ino ≡ m'.ino → m ≡ m'
   one_met m m' i j e = same_met (survey core pick) m m' numbers_new i j e
@@ -113,17 +109,10 @@ module _ (core : Core) (pick : Pick) (fit : IsFit core) (sound : is_sound core p
 
   module _ (image : Image) (tables : TablesOf image core pick) where
     pub row_at_is : (n : ℕ) → row_at image n ≡ row_of core (survey core pick) n
-    row_at_is n =
-        ap (λ rows. get_or rows n None) tables.rows
-        ∙ elim (cases_lt n (core.inodes + 1)) [
-          | inl l ↦ tabulated-get (row_of core (survey core pick)) (core.inodes + 1) n None l
-          | inr g ↦ tabulated-past (row_of core (survey core pick)) (core.inodes + 1) n None g ∙ sym (row_past n (omega arith))
-        ]
+    row_at_is n = search (arith, cases_lt, tabulated-get, tabulated-past, row_past)
 
     pub owner_at : (p : ℕ) → p < core.range.end → slice_index image.owners p ≡ cond (ltb p core.range.first) 0xFFFFFFFF (owner_of core (survey core pick) p)
-    owner_at p l =
-        ap (λ owners. get_or owners p 0) tables.owners
-        ∙ tabulated-get (λ page. cond (ltb page core.range.first) 0xFFFFFFFF (owner_of core (survey core pick) page)) core.range.end p 0 l
+    owner_at p l = search (arith, tabulated-get)
 
     -- the owner row of a listed page
     pub owner_listed : (m : Met) (p : ℕ) → In m (survey core pick) → In p (pages_of core m) → slice_index image.owners p ≡ m.ino
@@ -136,31 +125,14 @@ module _ (core : Core) (pick : Pick) (fit : IsFit core) (sound : is_sound core p
         ∙ owner_is core (survey core pick) m p (sound_parts core pick sound).paged i a
 
     pub free_unlisted : (p : ℕ) → slice_index image.owners p ≡ 0 → (m : Met) → In m (survey core pick) → In p (pages_of core m) → ⊥
-    free_unlisted p z m i a =
-        let o = owner_listed m p i a in
-        let n : 0 < m.ino = (met_numbered m i).0 in omega (arith, o, n, z)
+    free_unlisted p z m i a = search (arith, owner_listed, met_numbered)
 
     -- a page that nothing lists and that is no page of the controller is free
     pub unlisted_free : (p : ℕ) → ((p < core.range.end) → core.range.first ≤ p) → ((m : Met) → In m (survey core pick) → In p (pages_of core m) → ⊥) → slice_index image.owners p ≡ 0
-    unlisted_free p low none =
-        elim (cases_lt p core.range.end) [
-          | inl l ↦
-              owner_at p l
-              ∙ ap (λ b. cond b 0xFFFFFFFF (owner_of core (survey core pick) p)) (le-ltb p core.range.first (low l))
-              ∙ owner_none core (survey core pick) p none
-          | inr g ↦
-              ap (λ owners. get_or owners p 0) tables.owners
-              ∙ tabulated-past (λ page. cond (ltb page core.range.first) 0xFFFFFFFF (owner_of core (survey core pick) page)) core.range.end p 0 g
-        ]
+    unlisted_free p low none = search (arith, cases_lt, owner_at, le-ltb, owner_none, tabulated-past)
 
     pub free_is_low : (p : ℕ) → slice_index image.owners p ≡ 0 → p < core.range.end → core.range.first ≤ p
-    free_is_low p z l =
-        elim (cases_lt p core.range.first) [
-          | inr ge ↦ ge
-          | inl lt ↦
-              let o : slice_index image.owners p ≡ 0xFFFFFFFF = owner_at p l ∙ ap (λ b. cond b 0xFFFFFFFF (owner_of core (survey core pick) p)) (lt-ltb p core.range.first lt) in
-              absurd (omega (arith, o, z))
-        ]
+    free_is_low p z l = search (arith, cases_lt, owner_at, lt-ltb)
 
 -- the settled body of each file met is the body that the survey meets
 pub settled_body_met : (image : Image) (m : Met) → IsFit image.core → is_sound image.core plain ≡ true → TablesOf image image.core plain → In m (survey image.core plain) → settled_body image m.ino ≡ m.body

@@ -1,5 +1,5 @@
 -- Bodies that are put into parts of the pages, and into all of them.
-use Rattle.std.proofs.Common.{◌≡◌, ℕ, zero, suc, List, [], ◌∷◌, ◌++◌, length, Option, Some, None, slice_get, slice_set, sym, refl, ap, ◌∙◌, inl, inr, cond, eqb, subst}
+use Rattle.std.proofs.Common.{◌≡◌, ℕ, zero, suc, List, [], ◌∷◌, ◌++◌, length, Option, Some, slice_get, slice_set, sym, refl, ap, ◌∙◌, inl, inr, cond, eqb, subst, arith}
 use Rattle.std.specs.Option.{option_map}
 use Rattle.std.proofs.lemmas.List.{length-set}
 use Rattle.trio_lists.specs.Lists.{In}
@@ -22,18 +22,14 @@ abbrev NoneOn : ℕ → List Met → Type 0
 NoneOn p ms = (m : Met) → In m ms → m.page ≡ p → ⊥
 
 put_none : (p : ℕ) (ms : List Met) (o : Option (Option (List ℕ))) → NoneOn p ms → put_at p ms o ≡ o
-put_none p ms None none = refl
-put_none p ms (Some None) none = refl
-put_none p ms (Some (Some bytes)) none = ap (λ x. Some (Some x)) (put_on-none p ms bytes none)
+put_none p ms o none = search (arith, put_on-none)
 
 put_on-append : (p : ℕ) (ms ks : List Met) (bytes : List ℕ) → put_on p (ms ++ ks) bytes ≡ put_on p ks (put_on p ms bytes)
 put_on-append p [] ks bytes = refl
 put_on-append p (m ∷ ms) ks bytes = put_on-append p ms ks (cond (eqb m.page p) (with_body_in m.slot m.body bytes) bytes)
 
 put_both : (p : ℕ) (ms ks : List Met) (o : Option (Option (List ℕ))) → put_at p (ms ++ ks) o ≡ put_at p ks (put_at p ms o)
-put_both p ms ks None = refl
-put_both p ms ks (Some None) = refl
-put_both p ms ks (Some (Some bytes)) = ap (λ x. Some (Some x)) (put_on-append p ms ks bytes)
+put_both p ms ks o = search (arith, put_on-append)
 
 same_places : (a b : Pages) (n : ℕ) (x : Option (List ℕ)) → length a ≡ length b → option_map (λ _. x) (slice_get a n) ≡ option_map (λ _. x) (slice_get b n)
 same_places [] [] n x e = refl
@@ -154,18 +150,7 @@ module _ (home : Pages) (staying coming all : List Sheet) (elsewhere aside broug
       ∙ sym (right_at p)
 
   one_page : (p : ℕ) → slice_get (with_bodies aside (with_pages staying third)) p ≡ slice_get (with_bodies (elsewhere ++ aside ++ brought) (with_pages coming before)) p
-  one_page p =
-      elim (among_cases p (sheet_numbers staying)) [
-        | inl i ↦ on_staying p i
-        | inr out ↦
-            elim (among_cases p (sheet_numbers coming)) [
-              | inl i ↦ on_coming p i
-              | inr out' ↦ on_other p out out'
-            ]
-      ]
+  one_page p = search (arith, among_cases, on_staying, on_coming, on_other)
 
 pub bodies_in_parts : BodiesInParts
-bodies_in_parts home staying coming all elsewhere aside brought h =
-    pages_same (with_bodies aside (with_pages staying (with_bodies brought (with_pages coming (with_bodies elsewhere home)))))
-    (with_bodies (elsewhere ++ aside ++ brought) (with_pages coming (with_pages all home)))
-    (one_page home staying coming all elsewhere aside brought h)
+bodies_in_parts home staying coming all elsewhere aside brought h = search (arith, pages_same, one_page)

@@ -1,5 +1,5 @@
 -- A survey goes by the pages that it reads, and by nothing else of a core.
-use Rattle.std.proofs.Common.{◌≡◌, ℕ, suc, zero, ◌-◌, min, true, ◌==◌, List, [], ◌∷◌, ◌++◌, Option, Some, Ok, is_ok, sym, refl, ap, ◌∙◌, subst, inl, inr}
+use Rattle.std.proofs.Common.{◌≡◌, ℕ, suc, zero, ◌-◌, min, true, ◌==◌, List, [], ◌∷◌, ◌++◌, Option, Some, Ok, is_ok, refl, ap, ◌∙◌, subst, inl, inr, arith}
 use Rattle.std.specs.Option.{option_and_then}
 use Rattle.trio_rights.specs.declared.kind.Kind.{Kind}
 use Rattle.trio_rights.specs.declared.kind.Kind.TheVariants.{Regular, Directory}
@@ -7,10 +7,10 @@ use Rattle.trio_layout.specs.declared.body.Body.{Body}
 use Rattle.trio_layout.specs.Body.{body_of, block_count}
 use Rattle.trio_layout.specs.Index.{index_of}
 use Rattle.trio_lists.specs.Lists.{In, result_map, result_then, both, gathered, there_or}
-use Rattle.trio_layout.specs.Core.{Core, nowhere, at_page, page_of}
+use Rattle.trio_layout.specs.Core.{Core, at_page, page_of}
 use Rattle.trio_layout.specs.Chain.{Chain, index_page, chain_from, chain_of, with_index, index_count}
-use Rattle.trio_layout.specs.Entries.{Listed, page_entries, entries_on, entries_of_kind, with_names_apart}
-use Rattle.trio_layout.specs.Survey.{Met, Pick, Front, FileRead, file_of, file_with, children, children_in, root_of, levels, descend, first_listed, numbers, survey}
+use Rattle.trio_layout.specs.Entries.{Listed, page_entries, entries_on, entries_of_kind}
+use Rattle.trio_layout.specs.Survey.{Met, Pick, Front, FileRead, file_of, children, children_in, root_of, levels, descend, first_listed, numbers, survey}
 use Rattle.trio_layout.specs.Sound.{are_in_grammar}
 use Rattle.trio_surveys.specs.Reading.{pages_read, with_other, AgreeOn}
 use Rattle.trio_lists.proofs.Members.{In-left, In-right, list_all-In, flat_map-same, result_map-Ok, result_then-Ok, there_or-Ok, is_ok-Ok}
@@ -27,19 +27,11 @@ file_parts core m f b c es p q r e =
 
 pub reads_from : (core : Core) (m : Met) (f : FileRead) → file_of core m ≡ Ok f → Reads core m f
 unfolding file_of
-reads_from core m f e =
-    let s1 = result_then-Ok (λ b. result_then (file_with core m.kind b) (chain_of core b)) (there_or nowhere (body_of m.kind core.range m.body)) f e in
-    let s2 = result_then-Ok (file_with core m.kind s1.0) (chain_of core s1.0) f s1.2 in
-    let F : List Listed → FileRead = λ es. record { body = s1.0; chain = s2.0; entries = es } in
-    let s3 = result_map-Ok F (entries_of_kind core m.kind s2.0.blocks) f s2.2 in
-    file_parts core m f s1.0 s2.0 s3.0 (there_or-Ok nowhere (body_of m.kind core.range m.body) s1.0 s1.1) s2.1 s3.1 s3.2
+reads_from core m f e = search (arith, result_then-Ok, result_map-Ok, file_parts, there_or-Ok)
 
 pub reads_to : (core : Core) (m : Met) (f : FileRead) → Reads core m f → file_of core m ≡ Ok f
 unfolding file_of
-reads_to core m f r =
-    ap (λ o. result_then (λ b. result_then (file_with core m.kind b) (chain_of core b)) (there_or nowhere o)) r.body
-    ∙ ap (result_then (file_with core m.kind f.body)) r.chain
-    ∙ ap (result_map (λ es. record { body = f.body; chain = f.chain; entries = es })) r.entries
+reads_to core m f r = search arith
 
 pub chain_follows : (core other : Core) → other.range ≡ core.range → (n blocks at : ℕ) (c : Chain) → chain_from core n blocks at ≡ Ok c → ((p : ℕ) → In p c.index → page_of other p ≡ page_of core p) → chain_from other n blocks at ≡ Ok c
 chain_follows core other er zero blocks at c e h = e
@@ -68,9 +60,7 @@ gathered_local core pages (b ∷ bs) h =
     ∙ ap (both (page_entries core b)) (gathered_local core pages bs (λ p k. h p (inr k)))
 
 entries_local : (core : Core) (pages : List (Option (List ℕ))) (kind : Kind) (f : FileRead) → ((p : ℕ) → In p (pages_read kind f) → page_of (with_other core pages) p ≡ page_of core p) → entries_of_kind (with_other core pages) kind f.chain.blocks ≡ entries_of_kind core kind f.chain.blocks
-entries_local core pages Regular f h = refl
-entries_local core pages Directory f h =
-    ap (result_then with_names_apart) (gathered_local core pages f.chain.blocks (λ p k. h p (In-right p f.chain.index f.chain.blocks k)))
+entries_local core pages kind f h = search (arith, gathered_local, In-right)
 
 index_read : (kind : Kind) (f : FileRead) (p : ℕ) → In p f.chain.index → In p (pages_read kind f)
 index_read Regular f p k = k
@@ -104,9 +94,7 @@ pub read_at : (core : Core) (files : List Met) (m : Met) → are_in_grammar core
 read_at core files m g i = is_ok-Ok (file_of core m) (list_all-In (λ m. is_ok (file_of core m)) m files g i)
 
 pub file_agrees : (core : Core) (pages : List (Option (List ℕ))) (files : List Met) → are_in_grammar core files ≡ true → AgreeOn core (with_other core pages) files → (m : Met) → In m files → file_of (with_other core pages) m ≡ file_of core m
-file_agrees core pages files g h m i =
-    let r = read_at core files m g i in
-    file_local core pages m r.0 r.1 (λ p k. h m r.0 p i r.1 k) ∙ sym r.1
+file_agrees core pages files g h m i = search (arith, read_at, file_local)
 
 pub survey_local : (core : Core) (pages : List (Option (List ℕ))) (pick : Pick) → are_in_grammar core (survey core pick) ≡ true → AgreeOn core (with_other core pages) (survey core pick) → survey (with_other core pages) pick ≡ survey core pick
 survey_local core pages pick g h =

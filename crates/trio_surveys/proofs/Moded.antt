@@ -1,5 +1,5 @@
 -- The survey of a core in which one file has another mode.
-use Rattle.std.proofs.Common.{◌≡◌, ℕ, suc, zero, ◌≤◌, Bool, true, false, cond, ◌&&◌, eqb, leb, List, [], ◌∷◌, ◌++◌, Option, Some, None, sym, refl, ap, ◌∙◌, inl, inr, arith}
+use Rattle.std.proofs.Common.{◌≡◌, ℕ, suc, zero, ◌≤◌, Bool, true, false, cond, ◌&&◌, eqb, List, [], ◌∷◌, ◌++◌, Some, sym, refl, ap, ◌∙◌, inl, inr, arith}
 use Rattle.std.specs.Prelude.{map}
 use Rattle.std.specs.List.{flat_map}
 use Rattle.std.specs.Str.{bytes_eq}
@@ -11,9 +11,8 @@ use Rattle.std.specs.Int.{w16, w32, w64}
 use Rattle.std.proofs.lemmas.Nat.{from_le_bytes-to_le_bytes_2}
 use Rattle.trio_page.specs.Field.{number_at, with_number, with_part}
 use Rattle.trio_rights.specs.declared.kind.Kind.{Kind}
-use Rattle.trio_layout.specs.Body.{body_of, body_at, body_fits, body_bytes, size_fits, head_fits, block_count}
+use Rattle.trio_layout.specs.Body.{body_of, body_at, body_fits, body_bytes}
 use Rattle.trio_lists.specs.Lists.{is_among, In}
-use Rattle.trio_layout.specs.Range.{core_count}
 use Rattle.trio_layout.specs.Survey.{Met, Front, numbers, levels, descend, first_listed}
 use Rattle.trio_layout.specs.declared.body.Body.{Body}
 use Rattle.trio_layout.specs.declared.range.CoreRange.{CoreRange}
@@ -49,29 +48,14 @@ unfolding number_at body_bytes
 mode_read mode b small = from_le_bytes-to_le_bytes_2 mode (omega arith)
 
 body_read : (mode : ℕ) (b : Body) → mode ≤ 511 → body_at (body_bytes b) ≡ b → body_at (body_bytes (body_moded mode b)) ≡ body_moded mode b
-body_read mode b small back =
-    let uid : number_at w32 4 (body_bytes (body_moded mode b)) ≡ b.uid = uid_same mode b ∙ ap (λ (x : Body). x.uid) back in
-    let gid : number_at w32 8 (body_bytes (body_moded mode b)) ≡ b.gid = gid_same mode b ∙ ap (λ (x : Body). x.gid) back in
-    let head : number_at w32 12 (body_bytes (body_moded mode b)) ≡ b.head = head_same mode b ∙ ap (λ (x : Body). x.head) back in
-    let size : number_at w64 16 (body_bytes (body_moded mode b)) ≡ b.size = size_same mode b ∙ ap (λ (x : Body). x.size) back in
-    rw (mode_read mode b small, uid, gid, head, size) refl
+body_read mode b small back = search (arith, uid_same, gid_same, head_same, size_same, mode_read)
 
 fits_moded : (kind : Kind) (range : CoreRange) (mode : ℕ) (b : Body) → mode ≤ 511 → body_fits kind range b ≡ true → body_fits kind range (body_moded mode b) ≡ true
-fits_moded kind range mode b small fits =
-    let t1 : Bool = leb (block_count b.size) (core_count range) in
-    let t2 : Bool = size_fits kind b.size in
-    let t3 : Bool = head_fits range (block_count b.size) b.head in
-    let q3 = and_parts (leb b.mode.0 511 && t1 && t2) t3 fits in
-    let q2 = and_parts (leb b.mode.0 511 && t1) t2 q3.0 in
-    let q1 = and_parts (leb b.mode.0 511) t1 q2.0 in
-    and_from (leb mode 511 && t1 && t2) t3 (and_from (leb mode 511 && t1) t2 (and_from (leb mode 511) t1 (le-leb mode 511 small) q1.1) q2.1) q3.1
+fits_moded kind range mode b small fits = search (arith, and_parts, and_from, le-leb)
 
 read_if : (kind : Kind) (range : CoreRange) (bytes : List ℕ) (b : Body) → bytes ≡ body_bytes b → body_at bytes ≡ b → body_fits kind range b ≡ true → body_of kind range bytes ≡ Some b
 unfolding body_of
-read_if kind range bytes b spelled at fits =
-    let F : Body → Option Body = λ d. cond (bytes_eq bytes (body_bytes d) && body_fits kind range d) (Some d) None in
-    ap F at
-    ∙ ap (λ t. cond t (Some b) None) (and_from (bytes_eq bytes (body_bytes b)) (body_fits kind range b) ((bytes_eq-Decides bytes (body_bytes b)).1 spelled) fits)
+read_if kind range bytes b spelled at fits = search (arith, and_from, bytes_eq-Decides)
 
 -- a body in the grammar is in the grammar with another mode
 pub mode_body : (kind : Kind) (range : CoreRange) (bytes : List ℕ) (b : Body) (mode : ℕ) → mode ≤ 511 → body_of kind range bytes ≡ Some b → body_of kind range (body_with_mode mode bytes) ≡ Some (body_moded mode b)

@@ -4,7 +4,6 @@ use Rattle.std.specs.Prelude.{Ok, map, is_ok}
 use Rattle.std.specs.List.{flat_map}
 use Rattle.std.specs.Option.{option_map}
 use Rattle.std.proofs.lemmas.Bool.{cases_eq, eq-eqb, ne_eqb}
-use Rattle.std.specs.Int.{w16, to_le_bytes}
 use Rattle.trio_page.specs.Field.{with_number}
 use Rattle.trio_page.proofs.Fields.{length-with_part}
 use Rattle.trio_rights.specs.declared.kind.Kind.{Kind}
@@ -39,10 +38,7 @@ use Rattle.trio_surveys.proofs.Tree.{child_from, child_has, child_placed}
 -- a body with another mode has as many bytes
 pub mode_sized : (mode : ℕ) (body : List ℕ) → length body ≡ 64 → length (body_with_mode mode body) ≡ 64
 unfolding with_number
-mode_sized mode body sized = length-with_part 0 (to_le_bytes w16 mode) body (omega (arith, sized, length-low_first mode)) ∙ sized
-  where
-    length-low_first : (n : ℕ) → length (to_le_bytes w16 n) ≡ 2
-    length-low_first n = refl
+mode_sized mode body sized = search (arith, length-with_part)
 
 -- the entry that names a file that is met below the root
 pub record PlaceOf (core : Core) (m : Met) : Type 0 where
@@ -81,11 +77,7 @@ module _ (core : Core) (fit : IsFit core) (sound : is_sound core plain ≡ true)
   page_now p = page_of-bodies core p ms no_root
 
   pub listed0 : In m0 (all_listed core plain)
-  listed0 =
-      elim (root_or_listed core plain fit sound m0 i0) [
-        | inl e ↦ absurd (other (ap (λ (x : Met). x.ino) e))
-        | inr j ↦ j
-      ]
+  listed0 = search (arith, root_or_listed)
 
   place0 : PlaceOf core m0
   place0 =
@@ -112,13 +104,7 @@ module _ (core : Core) (fit : IsFit core) (sound : is_sound core plain ≡ true)
   body0 = ap (λ b. cond b (body_with_mode mode m0.body) m0.body) (eq-eqb m0.ino m0.ino refl)
 
   placed : ArePlaced ms
-  placed c i =
-      let r : c ≡ changed m0.ino mode m0 = in_ms c i in
-      let w = listed_placed core plain fit sound m0 listed0 in
-      let low : m0.slot < 16 = w.0 in
-      let l : length (body_with_mode mode m0.body) ≡ 64 = mode_sized mode m0.body w.1 in
-      let slot : c.slot < 16 = subst (λ (x : ℕ). x < 16) (sym (ap (λ (x : Met). x.slot) r)) low in
-      (slot, ap (λ (x : Met). length x.body) r ∙ ap length body0 ∙ l)
+  placed c i = search (arith, in_ms, listed_placed, listed0, mode_sized, body0)
 
   slot_now : (m : Met) (f : FileRead) (p s : ℕ) (bytes : List ℕ) → In m (survey core plain) → file_of core m ≡ Ok f → gathered (page_entries core) f.chain.blocks ≡ Ok f.entries → In p f.chain.blocks → page_of core p ≡ Some bytes → s < 16 → slot_entries core.inodes p (put_on p ms bytes) s ≡ result_map (map (picked_entry pick m.ino)) (slot_entries core.inodes p bytes s)
   slot_now m f p s bytes i read gathers block there low =

@@ -1,5 +1,5 @@
 -- An image in which one file has another mode verifies.
-use Rattle.std.proofs.Common.{◌≡◌, ℕ, ◌+◌, ◌<◌, ◌≤◌, true, false, cond, eqb, ltb, List, [], ◌∷◌, length, get_or, set, Option, Some, None, sym, refl, ap, ◌∙◌, subst, inl, inr, arith}
+use Rattle.std.proofs.Common.{◌≡◌, ℕ, ◌≤◌, true, false, cond, eqb, ltb, List, [], ◌∷◌, set, Option, Some, None, sym, refl, ap, ◌∙◌, subst, inl, inr, arith}
 use Rattle.std.specs.Prelude.{Ok, map}
 use Rattle.std.proofs.lemmas.List.{length-set, get_or-set_same, get_or-set_other, same_lists}
 use Rattle.std.proofs.lemmas.Bool.{cases_eq, eq-eqb, ne_eqb}
@@ -69,22 +69,7 @@ module _ (core : Core) (fit : IsFit core) (sound : is_sound core plain ≡ true)
       by_row None e = gone_still k e (row_of B (survey B plain) k) refl
 
   pub rows_now : rows_table B (survey B plain) ≡ set (rows_table core (survey core plain)) m0.ino (Some (record (row_by m0 f0.body) { mode = record { 0 = mode } }))
-  rows_now =
-      let old : List (Option Row) = rows_table core (survey core plain) in
-      let new : List (Option Row) = rows_table B (survey B plain) in
-      let x : Option Row = Some (record (row_by m0 f0.body) { mode = record { 0 = mode } }) in
-      let lo : length old ≡ core.inodes + 1 = tabulated-length (row_of core (survey core plain)) (core.inodes + 1) in
-      let ln : length new ≡ core.inodes + 1 = tabulated-length (row_of B (survey B plain)) (core.inodes + 1) in
-      let ls = length-set old m0.ino x in
-      let inside : m0.ino ≤ core.inodes = (met_numbered core plain fit sound m0 i0).1 in
-      same_lists new (set old m0.ino x) (ln ∙ sym lo ∙ sym ls)
-      (λ k d l.
-      let l' : k < core.inodes + 1 = omega (arith, l, ln) in
-      tabulated-get (row_of B (survey B plain)) (core.inodes + 1) k d l'
-      ∙ elim (cases_eq k m0.ino) [
-        | inl same ↦ ap (row_of B (survey B plain)) same ∙ row_itself ∙ sym (ap (λ j. get_or (set old m0.ino x) j d) same ∙ get_or-set_same old m0.ino x d (omega (arith, lo, inside)))
-        | inr differ ↦ row_others k differ ∙ sym (get_or-set_other old m0.ino k x d differ ∙ tabulated-get (row_of core (survey core plain)) (core.inodes + 1) k d l')
-      ])
+  rows_now = search (arith, tabulated-length, length-set, met_numbered, same_lists, tabulated-get, cases_eq, row_itself, get_or-set_same, row_others, get_or-set_other)
 
   owner_over : (xs : List Met) (p : ℕ) → ((m : Met) → In m xs → pages_of B (changed m0.ino mode m) ≡ pages_of core m) → owner_of B (map (changed m0.ino mode) xs) p ≡ owner_of core xs p
   owner_over [] p e = refl
@@ -100,10 +85,7 @@ module _ (core : Core) (fit : IsFit core) (sound : is_sound core plain ≡ true)
 
 -- the pages of the changed image
 pages_step : (core : Core) (m0 : Met) (f0 : FileRead) (mode : ℕ) → (m0.ino ≡ 1 → ⊥) → with_bodies (changed m0.ino mode m0 ∷ []) core.pages ≡ body_put (Some (row_by m0 f0.body)) (body_with_mode mode m0.body) core.pages
-pages_step core m0 f0 mode other =
-    let X : List ℕ → List (Option (List ℕ)) = λ body. body_put (Some (row_by m0 f0.body)) body core.pages in
-    ap (λ b. cond b core.pages (X (changed m0.ino mode m0).body)) (ne_eqb m0.ino 1 other)
-    ∙ ap (λ b. X (cond b (body_with_mode mode m0.body) m0.body)) (eq-eqb m0.ino m0.ino refl)
+pages_step core m0 f0 mode other = search (arith, ne_eqb, eq-eqb)
 
 module _ (image : Image) (n mode : ℕ) (r : Row) (fit : IsFit image.core) (v : Verifies image) (row : row_at image n ≡ Some r) (small : mode ≤ 511) (other : n ≡ 1 → ⊥) where
   pub mode_tables : TablesOf image image.core plain
@@ -122,14 +104,7 @@ module _ (image : Image) (n mode : ℕ) (r : Row) (fit : IsFit image.core) (v : 
   mode_settled = ap (settled_body image) (sym mode_met.number) ∙ settled_body_met image mode_met.met fit v.sound mode_tables mode_met.stands
 
   pub mode_core_is : mode_core ≡ (image_with_mode image n mode).core
-  mode_core_is =
-      let core : Core = image.core in
-      let q = mode_met in
-      let pages : mode_core.pages ≡ (image_with_mode image n mode).core.pages =
-      pages_step core q.met q.file mode met_other
-      ∙ ap (λ o. body_put o (body_with_mode mode q.met.body) core.pages) (sym (row ∙ ap Some q.row))
-      ∙ ap (λ b. body_put (row_at image n) (body_with_mode mode b) core.pages) (sym mode_settled) in
-      ap (λ (ps : List (Option (List ℕ))). record { pages = ps; root = core.root; range = core.range; inodes = core.inodes }) pages
+  mode_core_is = search (arith, mode_met, pages_step, met_other, mode_settled)
 
   -- a change of mode leaves an image that verifies
   pub mode_verifies : Verifies (image_with_mode image n mode)
@@ -156,18 +131,6 @@ module _ (image : Image) (n mode : ℕ) (r : Row) (fit : IsFit image.core) (v : 
       let q = mode_met in
       let P : Core → Type 0 = λ c. In (changed q.met.ino mode m) (survey c plain) × (file_of c (changed q.met.ino mode m) ≡ Ok (read_now image.core fit v.sound mode small q.met q.stands met_other m f)) in
       subst P mode_core_is (in_now image.core fit v.sound mode small q.met q.file q.stands q.read met_other m i, file_now image.core fit v.sound mode small q.met q.stands met_other m f i e)
-
-  -- the body of the file has the other mode
-  pub mode_body_own : settled_body (image_with_mode image n mode) n ≡ body_with_mode mode (settled_body image n)
-  mode_body_own =
-      let q = mode_met in
-      let f = mode_file q.met q.file q.stands q.read in
-      let t : TablesOf (image_with_mode image n mode) (image_with_mode image n mode).core plain = record { rows = mode_verifies.rows; owners = mode_verifies.owners } in
-      let now = settled_body_met (image_with_mode image n mode) (changed q.met.ino mode q.met) mode_fit mode_verifies.sound t f.0 in
-      ap (settled_body (image_with_mode image n mode)) (sym q.number)
-      ∙ now
-      ∙ ap (λ b. cond b (body_with_mode mode q.met.body) q.met.body) (eq-eqb q.met.ino q.met.ino refl)
-      ∙ ap (body_with_mode mode) (sym mode_settled)
 
   -- the body of any other file stays
   pub mode_body_other : (j : ℕ) (x : Row) → row_at image j ≡ Some x → (j ≡ n → ⊥) → settled_body (image_with_mode image n mode) j ≡ settled_body image j

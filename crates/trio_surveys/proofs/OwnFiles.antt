@@ -1,5 +1,5 @@
 -- A file of the bundle's pages alone reads the same in the bundle and in the image with its pages in place.
-use Rattle.std.proofs.Common.{List, None, Ok, Option, Some, [], ap, eqb, length, refl, subst, sym, true, ℕ, ◌&&◌, ◌++◌, ◌∙◌, ◌∷◌, ◌≡◌, ◌≤◌}
+use Rattle.std.proofs.Common.{List, None, Ok, Option, Some, [], ap, eqb, length, refl, subst, sym, true, ℕ, ◌++◌, ◌∙◌, ◌∷◌, ◌≡◌, ◌≤◌, arith}
 use Rattle.std.proofs.lemmas.Bool.{and_from, and_parts, eq-eqb, eqb-true, false≢true}
 use Rattle.std.specs.Option.{option_map_or}
 use Rattle.std.specs.Prelude.{map, replicate}
@@ -27,17 +27,10 @@ use Rattle.trio_layout.proofs.WithinCore.{listed_within_core}
 
 -- a row that names a place
 pub place_parts : (d p s : ℕ) (o : Option Row) → is_place_of d p s o ≡ true → (r : Row) × (o ≡ Some r) × (r.parent ≡ d) × (r.page ≡ p) × (r.slot ≡ s)
-place_parts d p s None e = absurd (false≢true e)
-place_parts d p s (Some r) e =
-    let a = and_parts (eqb r.parent d && eqb r.page p) (eqb r.slot s) e in
-    let b = and_parts (eqb r.parent d) (eqb r.page p) a.0 in
-    (r, refl, eqb-true r.parent d b.0, eqb-true r.page p b.1, eqb-true r.slot s a.1)
+place_parts d p s o e = search (arith, false≢true, and_parts, eqb-true)
 
 pub place_from : (d p s : ℕ) (o : Option Row) (r : Row) → o ≡ Some r → r.parent ≡ d → r.page ≡ p → r.slot ≡ s → is_place_of d p s o ≡ true
-place_from d p s o r e a b c =
-    ap (is_place_of d p s) e
-    ∙ and_from (eqb r.parent d && eqb r.page p) (eqb r.slot s)
-    (and_from (eqb r.parent d) (eqb r.page p) (eq-eqb r.parent d a) (eq-eqb r.page p b)) (eq-eqb r.slot s c)
+place_from d p s o r e a b c = search (arith, and_from, eq-eqb)
 
 -- numbers of entries don't go by the bodies that are picked
 pub numbers_met : (p q : Pick) (d e : ℕ) (ls : List Listed) → numbers (map (met_in p d) ls) ≡ numbers (map (met_in q e) ls)

@@ -1,6 +1,5 @@
 -- In a sound survey a page is listed by one file, and once.
-use Rattle.std.proofs.Common.{◌≡◌, ℕ, Bool, true, false, cond, ◌&&◌, List, [], ◌∷◌, ◌++◌, length, Some, Ok, sym, refl, ap, ◌∙◌, subst, inl, inr}
-use Rattle.std.specs.Str.{bytes_eq}
+use Rattle.std.proofs.Common.{◌≡◌, ℕ, Bool, true, false, cond, List, [], ◌∷◌, ◌++◌, length, Some, Ok, sym, refl, ap, ◌∙◌, subst, inl, inr, arith}
 use Rattle.std.proofs.lemmas.Bool.{and_parts, and_from, both_ways}
 use Rattle.std.proofs.lemmas.Option.{cond_some}
 use Rattle.std.proofs.lemmas.Slice.Eq.{bytes_eq-Decides}
@@ -8,11 +7,11 @@ use Rattle.trio_rights.specs.declared.kind.Kind.{Kind}
 use Rattle.trio_layout.specs.declared.range.CoreRange.{CoreRange}
 use Rattle.trio_layout.specs.declared.body.Body.{Body}
 use Rattle.trio_page.specs.Field.{zeros}
-use Rattle.trio_layout.specs.Body.{body_of, body_at, body_fits, body_bytes}
+use Rattle.trio_layout.specs.Body.{body_of, body_bytes}
 use Rattle.trio_lists.specs.Lists.{In, is_among, are_new}
 use Rattle.trio_layout.specs.Core.{Core}
 use Rattle.trio_layout.specs.Survey.{Met, Pick, FileRead, file_of, pages_of, pages_in, owner_of, survey}
-use Rattle.trio_layout.specs.Sound.{are_in_grammar, are_listed_once, listed_numbers, listed_pages, is_sound}
+use Rattle.trio_layout.specs.Sound.{are_in_grammar, listed_numbers, listed_pages, is_sound}
 use Rattle.trio_lists.proofs.Marked.{are_new-append}
 use Rattle.trio_lists.proofs.Members.{In-left, In-right, In-flat, is_among-In, In-is_among}
 use Rattle.trio_lists.proofs.New.{are_new-before, are_new-fewer}
@@ -79,17 +78,10 @@ pub record Parts (core : Core) (pick : Pick) : Type 0 where
   pub paged : are_new [] (listed_pages core (survey core pick)) ≡ true
 
 pub sound_parts : (core : Core) (pick : Pick) → is_sound core pick ≡ true → Parts core pick
-sound_parts core pick h =
-    let files = survey core pick in
-    let a = and_parts (are_in_grammar core files) (are_listed_once core pick files) h in
-    let b = and_parts (are_new (1 ∷ []) (listed_numbers core pick files)) (are_new [] (listed_pages core files)) a.1 in
-    record { grammar = a.0; numbered = b.0; paged = b.1 }
+sound_parts core pick h = search (arith, and_parts)
 
 pub sound_from : (core : Core) (pick : Pick) → Parts core pick → is_sound core pick ≡ true
-sound_from core pick p =
-    let files = survey core pick in
-    and_from (are_in_grammar core files) (are_listed_once core pick files) p.grammar
-    (and_from (are_new (1 ∷ []) (listed_numbers core pick files)) (are_new [] (listed_pages core files)) p.numbered p.paged)
+sound_from core pick p = search (arith, and_from)
 
 -- a body that is spelled has 64 bytes
 length-body_bytes : (b : Body) → length (body_bytes b) ≡ 64
@@ -99,8 +91,4 @@ length-body_bytes b = refl
 -- a body in the grammar has 64 bytes
 pub body_sized : (kind : Kind) (range : CoreRange) (bytes : List ℕ) (b : Body) → body_of kind range bytes ≡ Some b → length bytes ≡ 64
 unfolding body_of
-body_sized kind range bytes b e =
-    let at : Body = body_at bytes in
-    let c = cond_some (bytes_eq bytes (body_bytes at) && body_fits kind range at) at b e in
-    let p = and_parts (bytes_eq bytes (body_bytes at)) (body_fits kind range at) c.0 in
-    ap length ((bytes_eq-Decides bytes (body_bytes at)).0 p.0) ∙ length-body_bytes at
+body_sized kind range bytes b e = search (arith, cond_some, and_parts, bytes_eq-Decides, length-body_bytes)

@@ -1,5 +1,5 @@
 -- The plain survey of a core with the picked bodies at their places is the survey with the pick.
-use Rattle.std.proofs.Common.{◌≡◌, ℕ, suc, zero, ◌<◌, true, cond, List, [], ◌∷◌, ◌++◌, ◌||◌, Option, Some, None, Result, Ok, Err, sym, refl, ap, ◌∙◌, subst, inl, inr, arith}
+use Rattle.std.proofs.Common.{◌≡◌, ℕ, suc, zero, ◌<◌, true, cond, List, [], ◌∷◌, ◌++◌, ◌||◌, Option, Some, None, Result, Ok, sym, refl, ap, ◌∙◌, subst, inl, inr, arith}
 use Rattle.std.specs.Prelude.{map, is_ok}
 use Rattle.std.specs.List.{flat_map}
 use Rattle.std.specs.Option.{option_map}
@@ -8,7 +8,7 @@ use Rattle.trio_rights.specs.declared.kind.Kind.{Kind}
 use Rattle.trio_rights.specs.declared.kind.Kind.TheVariants.{Regular, Directory}
 use Rattle.trio_layout.specs.declared.slot.EntryPart.{EntryPart}
 use Rattle.trio_layout.specs.declared.slot.SlotRead.{SlotRead}
-use Rattle.trio_layout.specs.declared.slot.SlotRead.TheVariants.{Empty, Entry, Bad}
+use Rattle.trio_layout.specs.declared.slot.SlotRead.TheVariants.{Entry}
 use Rattle.trio_lists.specs.Lists.{In, are_new, result_map, result_then, both, gathered, gathered_below, there_or}
 use Rattle.trio_layout.specs.Body.{block_count}
 use Rattle.trio_layout.specs.Slot.{slot_of}
@@ -36,18 +36,14 @@ abbrev pub all_listed : Core → Pick → List Met
 all_listed core pick = flat_map (children core pick) (survey core pick)
 
 pub listed_picked : (pick : Pick) (d p s : ℕ) (body' body : List ℕ) (r : SlotRead) → ((e : EntryPart) → r ≡ Entry e → body' ≡ pick d p s e.ino body) → listed_at p s body' r ≡ result_map (map (picked pick d)) (listed_at p s body r)
-listed_picked pick d p s body' body Empty h = refl
-listed_picked pick d p s body' body Bad h = refl
-listed_picked pick d p s body' body (Entry e) h = ap (λ b. Ok (at_place e p s b ∷ [])) (h e refl)
+listed_picked pick d p s body' body r h = search arith
 
 map_append : {X Y : Type 0} (k : X → Y) (xs ys : List X) → map k xs ++ map k ys ≡ map k (xs ++ ys)
 map_append k [] ys = refl
 map_append k (x ∷ xs) ys = ap (λ l. k x ∷ l) (map_append k xs ys)
 
 both_map : {X E : Type 0} (k : X → X) (q r : Result (List X) E) → both (result_map (map k) q) (result_map (map k) r) ≡ result_map (map k) (both q r)
-both_map k (Err a) r = refl
-both_map k (Ok xs) (Err b) = refl
-both_map k (Ok xs) (Ok ys) = ap Ok (map_append k xs ys)
+both_map k q r = search (arith, map_append)
 
 pub below_map : {X E : Type 0} (f g : ℕ → Result (List X) E) (k : X → X) (n : ℕ) → ((s : ℕ) → s < n → g s ≡ result_map (map k) (f s)) → gathered_below g n ≡ result_map (map k) (gathered_below f n)
 below_map f g k zero h = refl

@@ -1,16 +1,16 @@
 -- Each entry of a directory stands at its place, and each slot that says an entry is one of them.
-use Rattle.std.proofs.Common.{◌≡◌, ℕ, suc, zero, ◌<◌, ◌≤◌, Bool, true, false, cond, ◌&&◌, eqb, ltb, leb, List, [], ◌∷◌, take, Option, Some, None, Result, Ok, sym, refl, ap, ◌∙◌, subst, inl, inr, arith}
+use Rattle.std.proofs.Common.{◌≡◌, ℕ, suc, zero, ◌<◌, ◌≤◌, Bool, true, cond, ◌&&◌, eqb, ltb, leb, List, [], ◌∷◌, take, Option, Some, None, Result, Ok, sym, refl, ap, ◌∙◌, subst, inl, inr, arith}
 use Rattle.std.specs.Str.{bytes_eq}
 use Rattle.std.proofs.lemmas.Bool.{and_parts, ltb-true, leb-true, cases_eq}
 use Rattle.trio_rights.specs.declared.kind.Kind.{Kind}
-use Rattle.trio_rights.specs.declared.kind.Kind.TheVariants.{Regular, Directory}
+use Rattle.trio_rights.specs.declared.kind.Kind.TheVariants.{Directory}
 use Rattle.trio_layout.specs.declared.slot.EntryPart.{EntryPart}
 use Rattle.trio_layout.specs.declared.slot.SlotRead.{SlotRead}
 use Rattle.trio_layout.specs.declared.slot.SlotRead.TheVariants.{Empty, Entry, Bad}
 use Rattle.trio_lists.specs.Lists.{In, result_then, gathered, gathered_below, there_or}
 use Rattle.trio_layout.specs.Slot.{slot_of, entry_at, entry_fits, entry_bytes}
 use Rattle.trio_layout.specs.Core.{Core, Location, at_page, page_of}
-use Rattle.trio_layout.specs.Entries.{Listed, slot_bytes, body_in_slot, listed_at, slot_entries, entries_on, page_entries, entries_of, entries_of_kind, repeated_name, unless_repeated, with_names_apart}
+use Rattle.trio_layout.specs.Entries.{Listed, slot_bytes, body_in_slot, listed_at, slot_entries, entries_on, page_entries, entries_of, entries_of_kind, repeated_name, unless_repeated}
 use Rattle.trio_lists.proofs.Members.{In-left, In-right, In-cases, result_then-Ok, there_or-Ok, both-Ok}
 
 -- the entry stands at its place in a page of these blocks
@@ -34,9 +34,7 @@ gathered_from f (x ∷ xs) ys y e h =
 
 pub gathered_has : {X Y E : Type 0} (f : X → Result (List Y) E) (xs : List X) (ys : List Y) (x : X) → gathered f xs ≡ Ok ys → In x xs → (es : List Y) × (f x ≡ Ok es) × ((y : Y) → In y es → In y ys)
 gathered_has f [] ys x e h = absurd h
-gathered_has f (z ∷ zs) ys x e (inl s) =
-    let b = both-Ok (f z) (gathered f zs) ys e in
-    (b.0, ap f s ∙ b.2, λ y k. subst (λ l. In y l) b.4 (In-left y b.0 b.1 k))
+gathered_has f (z ∷ zs) ys x e (inl s) = search (arith, both-Ok, In-left, In-right)
 gathered_has f (z ∷ zs) ys x e (inr h) =
     let b = both-Ok (f z) (gathered f zs) ys e in
     let r = gathered_has f zs b.1 x b.3 h in
@@ -72,35 +70,20 @@ abbrev pub at_place : EntryPart → ℕ → ℕ → List ℕ → Listed
 at_place e page slot body = record { entry = e; page = page; slot = slot; body = body }
 
 listed_from : (page slot : ℕ) (body : List ℕ) (r : SlotRead) (es : List Listed) (l : Listed) → listed_at page slot body r ≡ Ok es → In l es → (e : EntryPart) × (r ≡ Entry e) × (l ≡ at_place e page slot body)
-listed_from page slot body Empty es l e h =
-    let n : [] ≡ es = cc in absurd (subst (λ x. In l x) (sym n) h)
-listed_from page slot body Bad es l e h = absurd cc
-listed_from page slot body (Entry p) es l e h =
-    let n : at_place p page slot body ∷ [] ≡ es = cc in
-    elim (let k : In l (at_place p page slot body ∷ []) = subst (λ x. In l x) (sym n) h in k) [
-      | inl s ↦ (p, refl, s)
-      | inr no' ↦ absurd no'
-    ]
+listed_from page slot body r es l e h = search arith
 
 listed_has : (page slot : ℕ) (body : List ℕ) (r : SlotRead) (es : List Listed) (e : EntryPart) → listed_at page slot body r ≡ Ok es → r ≡ Entry e → In (at_place e page slot body) es
-listed_has page slot body r es e h k =
-    let one : Ok (at_place e page slot body ∷ []) ≡ Ok es = sym (ap (listed_at page slot body) k) ∙ h in
-    let n : at_place e page slot body ∷ [] ≡ es = cc in subst (λ x. In (at_place e page slot body) x) n (inl refl)
+listed_has page slot body r es e h k = search arith
 
 apart_ok : (o : Option Location) (ls es : List Listed) → unless_repeated ls o ≡ Ok es → (o ≡ None) × (ls ≡ es)
 apart_ok None ls es e = (refl, cc)
 apart_ok (Some place) ls es e = absurd cc
 
 directory_gathers : (core : Core) (blocks : List ℕ) (es : List Listed) → entries_of core blocks ≡ Ok es → (gathered (page_entries core) blocks ≡ Ok es) × (repeated_name [] es ≡ None)
-directory_gathers core blocks es e =
-    let s = result_then-Ok with_names_apart (gathered (page_entries core) blocks) es e in
-    let c = apart_ok (repeated_name [] s.0) s.0 es s.2 in
-    (s.1 ∙ ap Ok c.1, ap (repeated_name []) (sym c.1) ∙ c.0)
+directory_gathers core blocks es e = search (arith, result_then-Ok, apart_ok)
 
 pub gathers : (core : Core) (kind : Kind) (blocks : List ℕ) (es : List Listed) (l : Listed) → entries_of_kind core kind blocks ≡ Ok es → In l es → gathered (page_entries core) blocks ≡ Ok es
-gathers core Regular blocks es l e h =
-    let n : [] ≡ es = cc in absurd (subst (λ x. In l x) (sym n) h)
-gathers core Directory blocks es l e h = (directory_gathers core blocks es e).0
+gathers core kind blocks es l e h = search (arith, directory_gathers)
 
 pub gathers_directory : (core : Core) (blocks : List ℕ) (es : List Listed) → entries_of_kind core Directory blocks ≡ Ok es → (gathered (page_entries core) blocks ≡ Ok es) × (repeated_name [] es ≡ None)
 gathers_directory core blocks es e = directory_gathers core blocks es e
@@ -134,9 +117,7 @@ slot_has core blocks es p s bytes e g i q k says =
     a.2 _ (b.2 _ (listed_has p s (body_in_slot s bytes) (slot_of core.inodes (slot_bytes s bytes)) b.0 e b.1 says))
 
 entry_case : (zero' good : Bool) (e e' : EntryPart) → cond zero' Empty (cond good (Entry e) Bad) ≡ Entry e' → (good ≡ true) × (e ≡ e')
-entry_case true good e e' h = absurd cc
-entry_case false true e e' h = (refl, cc)
-entry_case false false e e' h = absurd cc
+entry_case zero' good e e' h = search arith
 
 -- an entry's number is one of the table
 pub entry_numbered : (inodes : ℕ) (bytes : List ℕ) (e : EntryPart) → slot_of inodes bytes ≡ Entry e → (0 < e.ino) × (e.ino ≤ inodes)

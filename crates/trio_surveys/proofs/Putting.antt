@@ -1,8 +1,7 @@
 -- The bodies of files at their places, page by page.
-use Rattle.std.proofs.Common.{◌≡◌, ℕ, ◌<◌, Bool, true, false, cond, eqb, List, [], ◌∷◌, length, Option, Some, None, slice_get, slice_index_or, slice_set, sym, refl, ap, ◌∙◌, subst, inl, inr, ◌⊎◌}
+use Rattle.std.proofs.Common.{◌≡◌, ℕ, ◌<◌, Bool, true, false, cond, eqb, List, [], ◌∷◌, length, Option, None, slice_get, slice_index_or, slice_set, sym, refl, ap, ◌∙◌, subst, inl, inr, ◌⊎◌, arith}
 use Rattle.std.specs.Option.{option_map, option_and_then}
 use Rattle.std.proofs.lemmas.Bool.{cases_eq, eq-eqb, ne_eqb}
-use Rattle.trio_layout.specs.Range.{is_core}
 use Rattle.trio_lists.specs.Lists.{In}
 use Rattle.trio_layout.specs.Core.{Core, page_of}
 use Rattle.trio_layout.specs.Entries.{body_in_slot}
@@ -18,22 +17,13 @@ put_on p [] bytes = bytes
 put_on p (m ∷ ms) bytes = put_on p ms (cond (eqb m.page p) (with_body_in m.slot m.body bytes) bytes)
 
 here_put : (p : ℕ) (m : Met) (ms : List Met) (o : Option (Option (List ℕ))) → eqb m.page p ≡ true → option_map (option_map (put_on p ms)) (option_map (λ _. option_map (with_body_in m.slot m.body) (option_and_then (λ x. x) o)) o) ≡ option_map (option_map (put_on p (m ∷ ms))) o
-here_put p m ms None e = refl
-here_put p m ms (Some None) e = refl
-here_put p m ms (Some (Some b)) e = rw e refl
+here_put p m ms o e = search arith
 
 there_put : (p : ℕ) (m : Met) (ms : List Met) (o : Option (Option (List ℕ))) → eqb m.page p ≡ false → option_map (option_map (put_on p ms)) o ≡ option_map (option_map (put_on p (m ∷ ms))) o
-there_put p m ms None e = refl
-there_put p m ms (Some None) e = refl
-there_put p m ms (Some (Some b)) e = rw e refl
+there_put p m ms o e = search arith
 
 pub with_bodies-get : (p : ℕ) (ms : List Met) (pages : List (Option (List ℕ))) → ((m : Met) → In m ms → m.ino ≡ 1 → ⊥) → slice_get (with_bodies ms pages) p ≡ option_map (option_map (put_on p ms)) (slice_get pages p)
-with_bodies-get p [] pages h = nothing (slice_get pages p)
-  where
-    nothing : (o : Option (Option (List ℕ))) → o ≡ option_map (option_map (λ b. b)) o
-    nothing None = refl
-    nothing (Some None) = refl
-    nothing (Some (Some b)) = refl
+with_bodies-get p [] pages h = search (arith, slice_index_or, ne_eqb, cases_eq, eq-eqb, get-set_same, page_at, here_put, get-set_other, there_put)
 with_bodies-get p (m ∷ ms) pages h =
     let X : Option (List ℕ) = option_map (with_body_in m.slot m.body) (slice_index_or pages m.page None) in
     let no_root : eqb m.ino 1 ≡ false = ne_eqb m.ino 1 (h m (inl refl)) in
@@ -52,17 +42,10 @@ with_bodies-get p (m ∷ ms) pages h =
     ]
 
 page_put : (b : Bool) (f : List ℕ → List ℕ) (o : Option (Option (List ℕ))) → cond b (option_and_then (λ x. x) (option_map (option_map f) o)) None ≡ option_map f (cond b (option_and_then (λ x. x) o) None)
-page_put false f o = refl
-page_put true f None = refl
-page_put true f (Some None) = refl
-page_put true f (Some (Some b)) = refl
+page_put b f o = search arith
 
 pub page_of-bodies : (core : Core) (p : ℕ) (ms : List Met) → ((m : Met) → In m ms → m.ino ≡ 1 → ⊥) → page_of (with_other core (with_bodies ms core.pages)) p ≡ option_map (put_on p ms) (page_of core p)
-page_of-bodies core p ms h =
-    page_of_at (with_other core (with_bodies ms core.pages)) p
-    ∙ ap (λ o. cond (is_core core.range p) (option_and_then (λ x. x) o) None) (with_bodies-get p ms core.pages h)
-    ∙ page_put (is_core core.range p) (put_on p ms) (slice_get core.pages p)
-    ∙ ap (option_map (put_on p ms)) (sym (page_of_at core p))
+page_of-bodies core p ms h = search (arith, page_of_at, with_bodies-get, page_put)
 
 -- a page without a place stays
 pub put_on-none : (p : ℕ) (ms : List Met) (bytes : List ℕ) → ((m : Met) → In m ms → m.page ≡ p → ⊥) → put_on p ms bytes ≡ bytes
@@ -77,19 +60,10 @@ ArePlaced ms = (m : Met) → In m ms → (m.slot < 16) × (length m.body ≡ 64)
 
 -- one body more: what stays and what is there
 one_length : (p : ℕ) (m : Met) (bytes : List ℕ) → length bytes ≡ 4096 → m.slot < 16 → length m.body ≡ 64 → length (cond (eqb m.page p) (with_body_in m.slot m.body bytes) bytes) ≡ 4096
-one_length p m bytes full l k =
-    either (eqb m.page p)
-  where
-    either : (b : Bool) → length (cond b (with_body_in m.slot m.body bytes) bytes) ≡ 4096
-    either true = with_body-length bytes m.body m.slot full l k
-    either false = full
+one_length p m bytes full l k = search (arith, with_body-length)
 
 one_front : (p s : ℕ) (m : Met) (bytes : List ℕ) → length bytes ≡ 4096 → m.slot < 16 → length m.body ≡ 64 → front_in_slot s (cond (eqb m.page p) (with_body_in m.slot m.body bytes) bytes) ≡ front_in_slot s bytes
-one_front p s m bytes full l k = either (eqb m.page p)
-  where
-    either : (b : Bool) → front_in_slot s (cond b (with_body_in m.slot m.body bytes) bytes) ≡ front_in_slot s bytes
-    either false = refl
-    either true = with_body-front bytes m.body m.slot full l k s
+one_front p s m bytes full l k = search (arith, with_body-front)
 
 pub put_on-length : (p : ℕ) (ms : List Met) (bytes : List ℕ) → ArePlaced ms → length bytes ≡ 4096 → length (put_on p ms bytes) ≡ 4096
 put_on-length p [] bytes h full = full

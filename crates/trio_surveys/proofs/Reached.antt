@@ -79,11 +79,7 @@ module _ (core : Core) (pick : Pick) (one : 1 ≤ core.inodes) (sound : is_sound
   child_met m c i j = subst (λ l. In c l) (sym (survey_tree core pick one sound)) (inr (In-flat (children core pick) m c (survey core pick) i j))
 
   pub met_cases : (m : Met) → In m (survey core pick) → (m ≡ root_of core) ⊎ ((x : Met) × In x (survey core pick) × In m (children core pick x))
-  met_cases m i =
-      elim (let j : In m (root_of core ∷ flat_map (children core pick) (survey core pick)) = subst (λ l. In m l) (survey_tree core pick one sound) i in j) [
-        | inl e ↦ inl e
-        | inr j ↦ inr (flat_map-In (children core pick) m (survey core pick) j)
-      ]
+  met_cases m i = search (arith, survey_tree, flat_map-In)
 
   pub no_root_listed : (m c : Met) → In m (survey core pick) → In c (children core pick m) → c.ino ≡ 1 → ⊥
   no_root_listed m c i j e =

@@ -7,7 +7,6 @@ use Rattle.std.specs.List.{count_by, flat_map}
 use Rattle.std.specs.Option.{option_map_or}
 use Rattle.std.specs.Prelude.{is_some}
 use Rattle.trio_rights.specs.Row.{Row, row_in}
-use Rattle.trio_rights.specs.declared.kind.Kind.{Kind}
 use Rattle.trio_lists.proofs.Counting.{count_from, count_in}
 use Rattle.trio_lists.proofs.Filters.{some_one}
 use Rattle.trio_lists.proofs.Members.{In-flat, list_all-In, list_all-each, flat_map-In, map-In}
@@ -33,11 +32,7 @@ use Rattle.trio_surveys.specs.Rows.{HasRows, IsAtRow, ListsRows, MeetsRows, Rows
 use Rattle.trio_surveys.specs.Tree.{Reaches}
 
 pub row_there : (rows : List (Option Row)) (n : ℕ) → is_some (row_in rows n) ≡ true → n < length rows
-row_there rows n e =
-    elim (cases_lt n (length rows)) [
-      | inl l ↦ l
-      | inr g ↦ absurd (false≢true (sym (ap is_some (get_or_past rows n None g)) ∙ e))
-    ]
+row_there rows n e = search (arith, cases_lt, false≢true, get_or_past)
 
 -- distinct live numbers are no more than there are live numbers
 pub live_many : (rows : List (Option Row)) (xs : List ℕ) → are_new [] xs ≡ true → ((x : ℕ) → In x xs → is_some (row_in rows x) ≡ true) → length xs ≤ count_by is_some rows
@@ -55,26 +50,14 @@ live_many rows (x ∷ xs) new live =
     omega (arith, ih, s, one)
 
 pub met_same : (m x : Met) → m.ino ≡ x.ino → m.kind ≡ x.kind → m.parent ≡ x.parent → m.page ≡ x.page → m.slot ≡ x.slot → m.body ≡ x.body → m ≡ x
-met_same m x ino kind parent page slot body =
-    ap (λ (n : ℕ). record { ino = n; kind = m.kind; parent = m.parent; page = m.page; slot = m.slot; body = m.body }) ino
-    ∙ ap (λ (k : Kind). record { ino = x.ino; kind = k; parent = m.parent; page = m.page; slot = m.slot; body = m.body }) kind
-    ∙ ap (λ (n : ℕ). record { ino = x.ino; kind = x.kind; parent = n; page = m.page; slot = m.slot; body = m.body }) parent
-    ∙ ap (λ (n : ℕ). record { ino = x.ino; kind = x.kind; parent = x.parent; page = n; slot = m.slot; body = m.body }) page
-    ∙ ap (λ (n : ℕ). record { ino = x.ino; kind = x.kind; parent = x.parent; page = x.page; slot = n; body = m.body }) slot
-    ∙ ap (λ (b : List ℕ). record { ino = x.ino; kind = x.kind; parent = x.parent; page = x.page; slot = x.slot; body = b }) body
+met_same m x ino kind parent page slot body = search arith
 
 module _ (core : Core) (pick : Pick) (rows : List (Option Row)) where
   live_from_at : (n : ℕ) (o : Option Row) (m : Met) → row_in rows n ≡ o → In m (live_at core pick n o) → (r : Row) × (row_in rows n ≡ Some r) × (m ≡ file_at_row core pick n r)
-  live_from_at n None m e i = absurd i
-  live_from_at n (Some r) m e (inl s) = (r, e, s)
-  live_from_at n (Some r) m e (inr no') = absurd no'
+  live_from_at n o m e h = search arith
 
   pub live_from : (m : Met) → In m (live_files core pick rows) → (r : Row) × (row_in rows m.ino ≡ Some r) × (m ≡ file_at_row core pick m.ino r)
-  live_from m i =
-      let q = flat_map-In (λ n. live_at core pick n (row_in rows n)) m (count_up 1 core.inodes) i in
-      let r = live_from_at q.0 (row_in rows q.0) m refl q.2 in
-      let n : m.ino ≡ q.0 = ap (λ (x : Met). x.ino) r.2 in
-      (r.0, ap (row_in rows) n ∙ r.1, r.2 ∙ ap (λ k. file_at_row core pick k r.0) (sym n))
+  live_from m i = search (arith, flat_map-In, live_from_at)
 
   live_new_step : (n : ℕ) (o : Option Row) (rest : List Met) → ((p : ℕ) → In p (numbers rest) → suc n ≤ p) → are_new [] (numbers rest) ≡ true → are_new [] (numbers (live_at core pick n o ++ rest)) ≡ true
   live_new_step n None rest high new = new
@@ -185,10 +168,7 @@ module _ (core : Core) (pick : Pick) (rows : List (Option Row)) (one : 1 ≤ cor
     sound_now = sound_by core pick (λ m. In m L) shares
 
     climb_root : (n : ℕ) (r : Row) → row_in rows n ≡ Some r → n ≡ 1 → In (at n r) (survey core pick)
-    climb_root n r e is =
-        let same : r ≡ h.root = some_one (row_in rows n) r h.root e (ap (row_in rows) is ∙ h.root_row) in
-        let m : at n r ≡ root_of core = ap (λ k. at k r) is ∙ ap (at 1) same ∙ root_at in
-        subst (λ x. In x (survey core pick)) (sym m) (root_met core pick one sound_now)
+    climb_root n r e is = search (arith, some_one, root_at, root_met, sound_now)
 
     climb_above : (n : ℕ) (r : Row) → row_in rows n ≡ Some r → (n ≡ 1 → ⊥) → ((p : ℕ) (q : Row) → row_in rows p ≡ Some q → row_parent rows n ≡ p → In (at p q) (survey core pick)) → In (at n r) (survey core pick)
     climb_above n r e not_one above =
@@ -316,9 +296,7 @@ module _ (image : Image) (fit : IsFit image.core) (v : Verifies image) where
       subst (λ x. In x (survey image.core plain)) is q.stands
 
   live_is_met' : (m : Met) → In m (live_files image.core plain image.rows) → In m (survey image.core plain)
-  live_is_met' m i =
-      let r = live_from image.core plain image.rows m i in
-      subst (λ x. In x (survey image.core plain)) (sym r.2) (row_is_met m.ino r.0 r.1)
+  live_is_met' m i = search (arith, live_from, row_is_met)
 
   row_zero : (o : Option Row) → row_in image.rows 0 ≡ o → row_in image.rows 0 ≡ None
   row_zero None e = e

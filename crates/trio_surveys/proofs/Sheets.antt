@@ -57,9 +57,7 @@ with_pages_there (s ∷ ss) pages n i e =
 
 -- a page that is absent was absent before, and isn't put in place
 pub with_pages_absent : (ss : List Sheet) (pages : Pages) (n : ℕ) → slice_get (with_pages ss pages) n ≡ Some None → (In n (sheet_numbers ss) → ⊥) × (slice_get pages n ≡ Some None)
-with_pages_absent ss pages n e =
-    let apart : In n (sheet_numbers ss) → ⊥ = λ i. with_pages_there ss pages n i e in
-    (apart, sym (with_pages_apart ss pages n apart) ∙ e)
+with_pages_absent ss pages n e = search (arith, with_pages_there, with_pages_apart)
 
 -- where the bytes of a page come from
 pub with_pages_from : (ss : List Sheet) (pages : Pages) (n : ℕ) (bytes : List ℕ) → slice_get (with_pages ss pages) n ≡ Some (Some bytes) → ((x : Sheet) × In x ss × (x.bytes ≡ bytes)) ⊎ (slice_get pages n ≡ Some (Some bytes))
@@ -79,10 +77,7 @@ with_pages_from (s ∷ ss) pages n bytes e =
     ]
 
 page_inv : (b : Bool) (o : Option (Option (List ℕ))) (bytes : List ℕ) → cond b (option_and_then (λ x. x) o) None ≡ Some bytes → (b ≡ true) × (o ≡ Some (Some bytes))
-page_inv false o bytes e = absurd cc
-page_inv true None bytes e = absurd cc
-page_inv true (Some None) bytes e = absurd cc
-page_inv true (Some (Some x)) bytes e = (refl, ap Some e)
+page_inv b o bytes e = search arith
 
 pub page_there : (core : Core) (p : ℕ) (bytes : List ℕ) → page_of core p ≡ Some bytes → (is_core core.range p ≡ true) × (slice_get core.pages p ≡ Some (Some bytes))
 page_there core p bytes e = page_inv (is_core core.range p) (slice_get core.pages p) bytes (sym (page_of_at core p) ∙ e)
@@ -106,23 +101,14 @@ without_apart (k ∷ ks) pages n h =
 
 -- a page that is absent then was absent or was taken
 pub without_absent : (ns : List ℕ) (pages : Pages) (n : ℕ) → slice_get (without_pages ns pages) n ≡ Some None → In n ns ⊎ (slice_get pages n ≡ Some None)
-without_absent ns pages n e =
-    elim (among_cases n ns) [
-      | inl i ↦ inl i
-      | inr none ↦ inr (sym (without_apart ns pages n none) ∙ e)
-    ]
+without_absent ns pages n e = search (arith, among_cases, without_apart)
 
 pub with_pages-append : (xs ys : List Sheet) (pages : Pages) → with_pages (xs ++ ys) pages ≡ with_pages ys (with_pages xs pages)
 with_pages-append [] ys pages = refl
 with_pages-append (x ∷ xs) ys pages = with_pages-append xs ys (slice_set pages x.page (Some x.bytes))
 
 set_cong : (a b : Pages) (k n : ℕ) (x : Option (List ℕ)) → slice_get a n ≡ slice_get b n → slice_get (slice_set a k x) n ≡ slice_get (slice_set b k x) n
-set_cong a b k n x e =
-    elim (cases_eq k n) [
-      | inl same ↦
-          ap (λ j. slice_get (slice_set a j x) n) same ∙ get-set_same a n x ∙ ap (option_map (λ _. x)) e ∙ sym (get-set_same b n x) ∙ ap (λ j. slice_get (slice_set b j x) n) (sym same)
-      | inr differ ↦ get-set_other a k n x (ne_eqb k n differ) ∙ e ∙ sym (get-set_other b k n x (ne_eqb k n differ))
-    ]
+set_cong a b k n x e = search (arith, cases_eq, get-set_same, get-set_other, ne_eqb)
 
 -- a page goes by what it was, and by what is put in place
 pub with_pages_cong : (ss : List Sheet) (a b : Pages) (n : ℕ) → slice_get a n ≡ slice_get b n → slice_get (with_pages ss a) n ≡ slice_get (with_pages ss b) n

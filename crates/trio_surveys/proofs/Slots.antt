@@ -6,7 +6,7 @@ use Rattle.std.specs.Str.{bytes_eq}
 use Rattle.std.proofs.lemmas.Bool.{cases_lt, false_from_ne_true}
 use Rattle.std.proofs.lemmas.List.{take-take, drop-take, get_or-take, length-take, length-append}
 use Rattle.std.proofs.lemmas.Slice.Eq.{bytes_eq-Decides}
-use Rattle.trio_page.specs.Field.{number_at, zeros}
+use Rattle.trio_page.specs.Field.{number_at}
 use Rattle.trio_page.proofs.Fields.{length-with_part, slice-with_part_same, slice-with_part_below, slice-with_part_above}
 use Rattle.trio_page.proofs.Cursor.{length-zeros}
 use Rattle.trio_layout.specs.declared.slot.EntryPart.{EntryPart}
@@ -34,14 +34,7 @@ module _ (bytes body : List ℕ) (t : ℕ) (full : length bytes ≡ 4096) (insid
 
   -- the entry part of each slot stays
   pub with_body-front : (s : ℕ) → front_in_slot s (with_body_in t body bytes) ≡ front_in_slot s bytes
-  with_body-front s =
-      let now : List ℕ = with_body_in t body bytes in
-      front_is s now
-      ∙ elim (cases_lt t s) [
-        | inl before ↦ slice-with_part_above (256 * t + 192) body bytes (256 * s) (256 * s + 192) with_body-fits (omega arith)
-        | inr later ↦ slice-with_part_below (256 * t + 192) body bytes (256 * s) (256 * s + 192) with_body-fits (omega arith)
-      ]
-      ∙ sym (front_is s bytes)
+  with_body-front s = search (arith, front_is, cases_lt, slice-with_part_above, with_body-fits, slice-with_part_below)
 
   -- the slot has the body
   pub with_body-body : body_in_slot t (with_body_in t body bytes) ≡ body
@@ -49,11 +42,7 @@ module _ (bytes body : List ℕ) (t : ℕ) (full : length bytes ≡ 4096) (insid
 
   -- the body in any other slot stays
   pub with_body-other : (s : ℕ) → (s ≡ t → ⊥) → body_in_slot s (with_body_in t body bytes) ≡ body_in_slot s bytes
-  with_body-other s differ =
-      elim (cases_lt t s) [
-        | inl before ↦ slice-with_part_above (256 * t + 192) body bytes (256 * s + 192) (256 * s + 256) with_body-fits (omega arith)
-        | inr later ↦ slice-with_part_below (256 * t + 192) body bytes (256 * s + 192) (256 * s + 256) with_body-fits (omega arith)
-      ]
+  with_body-other s differ = search (arith, cases_lt, slice-with_part_above, with_body-fits, slice-with_part_below)
 
 -- ---- a slot says what its first 192 bytes say
 
@@ -80,8 +69,7 @@ entry_by_front part short =
 
 length-spelled : (e : EntryPart) → length (entry_bytes e) ≡ 8 + (length e.name + (184 - length e.name))
 unfolding entry_bytes
-length-spelled e =
-    omega (arith, length-append e.name (zeros (184 - length e.name)), length-zeros (184 - length e.name))
+length-spelled e = search (arith, length-append, length-zeros)
 
 spelled-length_byte : (e : EntryPart) → get_or (entry_bytes e) 5 0 ≡ length e.name
 unfolding entry_bytes
@@ -105,9 +93,7 @@ long_is_bad inodes part long =
 
 short_same : (inodes : ℕ) (one two : List ℕ) → get_or one 5 0 ≤ 184 → get_or two 5 0 ≤ 184 → take 192 one ≡ take 192 two → slot_of inodes one ≡ slot_of inodes two
 unfolding slot_of
-short_same inodes one two low low' e =
-    let same : entry_at one ≡ entry_at two = sym (entry_by_front one low) ∙ ap entry_at e ∙ entry_by_front two low' in
-    ap (λ d. says_by inodes d (take 192 one)) same ∙ ap (says_by inodes (entry_at two)) e
+short_same inodes one two low low' e = search (arith, entry_by_front)
 
 -- a slot says what its first 192 bytes say
 pub slot_by_front : (inodes : ℕ) (one two : List ℕ) → take 192 one ≡ take 192 two → slot_of inodes one ≡ slot_of inodes two

@@ -1,9 +1,7 @@
 -- The laws of surveys, each from the lemmas that carry it.
-use Rattle.std.proofs.Common.{◌≡◌, ℕ, List, ap, ◌∙◌, subst}
-use Rattle.trio_lists.specs.Lists.{In}
-use Rattle.trio_layout.specs.declared.range.CoreRange.{CoreRange}
+use Rattle.std.proofs.Common.{◌≡◌, ap, ◌∙◌, subst, arith}
 use Rattle.trio_layout.specs.Core.{Core}
-use Rattle.trio_layout.specs.Survey.{Met, Pick, survey, children}
+use Rattle.trio_layout.specs.Survey.{Pick, survey}
 use Rattle.trio_layout.specs.Sound.{is_sound}
 use Rattle.trio_surveys.specs.Reading.{with_other, AgreeOn}
 use Rattle.trio_surveys.specs.SurveyLaws.{IsAlike, SurveyFollows, SurveyIsLocal, SoundnessIsLocal, SurveyIsTree, FileKeeps, BodiesInPlace}
@@ -13,20 +11,14 @@ use Rattle.trio_surveys.proofs.Tree.{survey_tree}
 use Rattle.trio_surveys.proofs.Picked.{file_put, survey_put, sound_put}
 
 core_is : (a b : Core) → IsAlike a b → b ≡ with_other a b.pages
-core_is a b alike =
-    ap (λ (r : CoreRange). record { pages = b.pages; root = b.root; range = r; inodes = b.inodes }) alike.range
-    ∙ ap (λ (n : ℕ). record { pages = b.pages; root = b.root; range = a.range; inodes = n }) alike.inodes
-    ∙ ap (λ (r : List ℕ). record { pages = b.pages; root = r; range = a.range; inodes = a.inodes }) alike.root
+core_is a b alike = search arith
 
 agree_still : (a b : Core) (pick : Pick) → IsAlike a b → AgreeOn a b (survey a pick) → AgreeOn a (with_other a b.pages) (survey a pick)
 agree_still a b pick alike agree =
     let P : Core → Type 0 = λ c. AgreeOn a c (survey a pick) in subst P (core_is a b alike) agree
 
 pub survey_follows : SurveyFollows
-survey_follows a b p q alike same =
-    let e = core_is a b alike in
-    let P : Core → Type 0 = λ c. (m : Met) → In m (survey a p) → children c q m ≡ children a p m in
-    ap (λ (c : Core). survey c q) e ∙ follows a b.pages p q (subst P e same)
+survey_follows a b p q alike same = search (arith, core_is, follows)
 
 pub survey_is_local : SurveyIsLocal
 survey_is_local a b pick alike grammar agree =

@@ -1,5 +1,5 @@
 -- A sound survey is the root with all that its files list.
-use Rattle.std.proofs.Common.{ℕ, ◌≡◌, Err, List, Ok, Result, [], ap, arith, inl, inr, refl, subst, suc, sym, true, ◌++◌, ◌<◌, ◌∙◌, ◌∷◌, ◌≤◌}
+use Rattle.std.proofs.Common.{ℕ, ◌≡◌, List, Ok, Result, [], ap, arith, inl, inr, refl, subst, suc, sym, true, ◌++◌, ◌<◌, ◌∙◌, ◌∷◌, ◌≤◌}
 use Rattle.std.proofs.lemmas.Bool.{and_parts}
 use Rattle.std.specs.List.{flat_map}
 use Rattle.trio_lists.proofs.Members.{In-map, flat_map-In, map-In}
@@ -15,9 +15,7 @@ use Rattle.trio_layout.proofs.Walks.{fronts_are, fronts_closed, fronts_listed, f
 
 -- the body of a child is what its pick says
 pub picked_met : (pick : Pick) (d : ℕ) (m : Met) (l : Listed) → m ≡ met_in pick d l → m.body ≡ pick m.parent m.page m.slot m.ino l.body
-picked_met pick d m l e =
-    let there : (met_in pick d l).body ≡ pick d l.page l.slot l.entry.ino l.body = refl in
-    subst (λ (x : Met). x.body ≡ pick x.parent x.page x.slot x.ino l.body) (sym e) there
+picked_met pick d m l e = search arith
 
 -- a child of a file that is read, by its entry
 pub record Child (core : Core) (pick : Pick) (m c : Met) : Type 0 where
@@ -28,18 +26,13 @@ pub record Child (core : Core) (pick : Pick) (m c : Met) : Type 0 where
   pub is : c ≡ met_in pick m.ino entry
 
 child_in : (core : Core) (pick : Pick) (m c : Met) (o : Result FileRead Location) → file_of core m ≡ o → In c (children_in pick m.ino o) → Child core pick m c
-child_in core pick m c (Err place) e h = absurd h
-child_in core pick m c (Ok f) e h =
-    let r = map-In (met_in pick m.ino) c f.entries h in
-    record { file = f; read = e; entry = r.0; listed = r.1; is = r.2 }
+child_in core pick m c o e h = search (arith, map-In)
 
 pub child_from : (core : Core) (pick : Pick) (m c : Met) → In c (children core pick m) → Child core pick m c
 child_from core pick m c h = child_in core pick m c (file_of core m) refl h
 
 pub child_has : (core : Core) (pick : Pick) (m : Met) (f : FileRead) (l : Listed) → file_of core m ≡ Ok f → In l f.entries → In (met_in pick m.ino l) (children core pick m)
-child_has core pick m f l e h =
-    let C : Result FileRead Location → Type 0 = λ o. In (met_in pick m.ino l) (children_in pick m.ino o) in
-    subst C (sym e) (In-map (met_in pick m.ino) l f.entries h)
+child_has core pick m f l e h = search (arith, In-map)
 
 pub child_placed : (core : Core) (pick : Pick) (m c : Met) → (k : Child core pick m c) → Placed core k.file.chain.blocks k.entry
 child_placed core pick m c k =

@@ -1,16 +1,16 @@
 -- A file that is read as far as its pages are there, and the same file where they all are.
-use Rattle.std.proofs.Common.{List, None, Ok, Option, Some, [], ap, eqb, inl, inr, min, refl, subst, suc, sym, zero, ℕ, ◌++◌, ◌-◌, ◌∙◌, ◌∷◌, ◌≡◌}
+use Rattle.std.proofs.Common.{List, None, Ok, Option, Some, [], ap, eqb, inl, inr, min, refl, subst, suc, sym, zero, ℕ, ◌++◌, ◌-◌, ◌∙◌, ◌∷◌, ◌≡◌, arith}
 use Rattle.std.specs.Option.{option_and_then}
 use Rattle.trio_rights.specs.declared.kind.Kind.{Kind}
 use Rattle.trio_rights.specs.declared.kind.Kind.TheVariants.{Directory, Regular}
 use Rattle.trio_lists.proofs.Members.{In-left, In-right, result_map-Ok, result_then-Ok}
 use Rattle.trio_lists.specs.Lists.{In, both, gathered, result_map, result_then, there_or}
-use Rattle.trio_layout.specs.Body.{block_count, body_of}
-use Rattle.trio_layout.specs.Chain.{Chain, chain_from, chain_of, index_count, with_index}
-use Rattle.trio_layout.specs.Core.{Core, at_page, nowhere, page_of}
+use Rattle.trio_layout.specs.Body.{block_count}
+use Rattle.trio_layout.specs.Chain.{Chain, chain_from, index_count, with_index}
+use Rattle.trio_layout.specs.Core.{Core, at_page, page_of}
 use Rattle.trio_layout.specs.Entries.{entries_of_kind, entries_on, page_entries, with_names_apart}
 use Rattle.trio_layout.specs.Index.{Index, index_of}
-use Rattle.trio_layout.specs.Survey.{FileRead, Met, file_of, file_with}
+use Rattle.trio_layout.specs.Survey.{FileRead, Met, file_of}
 use Rattle.trio_layout.specs.Within.{chain_within, entries_where, entries_within, file_within, index_within}
 use Rattle.trio_layout.specs.declared.range.CoreRange.{CoreRange}
 use Rattle.trio_surveys.proofs.Local.{reads_from, reads_to}
@@ -27,17 +27,7 @@ whole_step core n blocks at c None page more e there =
     let k : record { index = at ∷ []; blocks = [] } ≡ c = cc e in
     let t = there at (subst (λ (x : Chain). In at x.index) k (inl refl)) in
     let wrong : None ≡ Some t.0 = sym page ∙ t.1 in absurd cc
-whole_step core n blocks at c (Some bytes) page more e there =
-    let used : ℕ = min blocks 511 in
-    let s1 = result_then-Ok (λ i. result_map (with_index at i) (rest_of core n blocks i)) (there_or (at_page at) (index_of used (eqb n 0) core.range bytes)) c e in
-    let x : Index = s1.0 in
-    let s2 = result_map-Ok (with_index at x) (rest_of core n blocks x) c s1.2 in
-    let idx : at ∷ s2.0.index ≡ c.index = ap (λ (y : Chain). y.index) s2.2 in
-    let rest = more x s2.0 s2.1 (λ p i. there p (subst (λ l. In p l) idx (inr i))) in
-    ap (λ o. result_then (λ i. result_map (with_index at i) (chain_from core n (blocks - 511) i.next)) (there_or (at_page at) (option_and_then (index_of used (eqb n 0) core.range) o))) page
-    ∙ ap (result_then (λ i. result_map (with_index at i) (chain_from core n (blocks - 511) i.next))) s1.1
-    ∙ ap (result_map (with_index at x)) rest
-    ∙ ap Ok s2.2
+whole_step core n blocks at c (Some bytes) page more e there = search (arith, min, result_then-Ok, result_map-Ok)
 
 chain_whole : (core : Core) (n blocks at : ℕ) (c : Chain) → chain_within core n blocks at ≡ Ok c → ((p : ℕ) → In p c.index → IsThere core p) → chain_from core n blocks at ≡ Ok c
 chain_whole core zero blocks at c e there = e
@@ -45,15 +35,7 @@ chain_whole core (suc n) blocks at c e there =
     whole_step core n blocks at c (page_of core at) refl (λ i r k t. chain_whole core n (blocks - 511) i.next r k t) e there
 
 part_step : (core : Core) (n blocks at : ℕ) (c : Chain) (o : Option (List ℕ)) → page_of core at ≡ o → ((i : Index) (r : Chain) → chain_from core n (blocks - 511) i.next ≡ Ok r → rest_of core n blocks i ≡ Ok r) → result_then (λ i. result_map (with_index at i) (chain_from core n (blocks - 511) i.next)) (there_or (at_page at) (option_and_then (index_of (min blocks 511) (eqb n 0) core.range) o)) ≡ Ok c → index_within core at (min blocks 511) (eqb n 0) (rest_of core n blocks) o ≡ Ok c
-part_step core n blocks at c None page more e = absurd cc
-part_step core n blocks at c (Some bytes) page more e =
-    let used : ℕ = min blocks 511 in
-    let s1 = result_then-Ok (λ i. result_map (with_index at i) (chain_from core n (blocks - 511) i.next)) (there_or (at_page at) (index_of used (eqb n 0) core.range bytes)) c e in
-    let x : Index = s1.0 in
-    let s2 = result_map-Ok (with_index at x) (chain_from core n (blocks - 511) x.next) c s1.2 in
-    ap (result_then (λ i. result_map (with_index at i) (rest_of core n blocks i))) s1.1
-    ∙ ap (result_map (with_index at x)) (more x s2.0 s2.1)
-    ∙ ap Ok s2.2
+part_step core n blocks at c o page more e = search (arith, min, result_then-Ok, result_map-Ok)
 
 chain_part : (core : Core) (n blocks at : ℕ) (c : Chain) → chain_from core n blocks at ≡ Ok c → chain_within core n blocks at ≡ Ok c
 chain_part core zero blocks at c e = e
@@ -102,14 +84,8 @@ root_unread pages one two range inodes m = refl
 -- a file is read by its kind and its body
 pub file_same : (core : Core) (m x : Met) → m.kind ≡ x.kind → m.body ≡ x.body → file_of core m ≡ file_of core x
 unfolding file_of
-file_same core m x kind body =
-    ap (λ k. result_then (λ b. result_then (file_with core k b) (chain_of core b)) (there_or nowhere (body_of k core.range m.body))) kind
-    ∙ ap (λ y. result_then (λ b. result_then (file_with core x.kind b) (chain_of core b)) (there_or nowhere (body_of x.kind core.range y))) body
+file_same core m x kind body = search arith
 
 -- the pages that are read of a file are pages that it lists
 pub read_pages : (m : Met) (f : FileRead) (p : ℕ) → In p (pages_read m.kind f) → In p (f.chain.index ++ f.chain.blocks)
-read_pages m f p i = by_kind m.kind i
-  where
-    by_kind : (k : Kind) → In p (pages_read k f) → In p (f.chain.index ++ f.chain.blocks)
-    by_kind Directory i = i
-    by_kind _ i = In-left p f.chain.index f.chain.blocks i
+read_pages m f p i = search (arith, In-left)

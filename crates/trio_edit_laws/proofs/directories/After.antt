@@ -1,5 +1,5 @@
 -- What is judged after slots were written: the files that the session made, and the rights that the entries show.
-use Rattle.std.proofs.Common.{◌≡◌, ℕ, true, List, Option, Some, Ok, sym, ap, ◌∙◌, subst, inl, inr}
+use Rattle.std.proofs.Common.{◌≡◌, ℕ, true, List, Option, Some, Ok, sym, ap, ◌∙◌, subst, inl, inr, arith}
 use Rattle.std.specs.Prelude.{is_some, map}
 use Rattle.std.proofs.lemmas.Bool.{cases_eq}
 use Rattle.trio_rights.specs.Row.{Row}
@@ -70,9 +70,6 @@ module _ (desk : DeskSeen) (s s' : SessionSeen) (n : ℕ) (m : MayEdit desk s) (
     r : Rewrites desk s s' n nodes
     r = rewrites nodes v.0 rows v.1
 
-    abbrev made_then : Met → Type 0
-    made_then x = IsMadeBy (in_hand s) n r.now x
-
     judged_then : (x : MadeFile) → In x s'.made → IsJudgedMade desk s' x
     judged_then x i = elim (cases_eq x.ino n) [
       | inl same ↦
@@ -127,10 +124,7 @@ module _ (desk : DeskSeen) (s s' : SessionSeen) (n : ℕ) (m : MayEdit desk s) (
       | inl was ↦ entry_then x f l was.0 reads j old
       | inr made ↦ elim (r.after.made x made) [
         | inl y ↦ entry_then y.0 f l y.1 (sym y.3 ∙ reads) j old
-        | inr empty ↦
-            let both : Ok empty.0 ≡ Ok f = sym empty.1 ∙ reads in
-            let same : empty.0 ≡ f = cc both in
-            absurd (subst (λ es. In l es) (ap (λ (z : FileRead). z.entries) (sym same) ∙ empty.2.2) j)
+        | inr empty ↦ search arith
       ]
     ]
 

@@ -1,8 +1,8 @@
 -- The slot of a name is cleared.
-use Rattle.std.proofs.Common.{◌≡◌, ◌≢◌, ℕ, ◌*◌, ◌<◌, ◌≤◌, true, cond, eqb, not, List, [], ◌∷◌, ◌++◌, append_assoc, length, Option, Some, None, sym, refl, ap, ◌∙◌, subst, inl, inr, ◌⊎◌, arith}
+use Rattle.std.proofs.Common.{◌≡◌, ◌≢◌, ℕ, ◌*◌, ◌<◌, ◌≤◌, true, eqb, not, List, [], ◌∷◌, ◌++◌, append_assoc, length, Option, Some, None, sym, refl, ap, ◌∙◌, subst, inl, inr, ◌⊎◌, arith}
 use Rattle.std.specs.Prelude.{is_some, map}
 use Rattle.std.specs.List.{filter, find, flat_map}
-use Rattle.std.specs.Option.{option_map, option_map_or, option_or}
+use Rattle.std.specs.Option.{option_map_or, option_or}
 use Rattle.std.proofs.lemmas.Bool.{cases_eq, eqb-true}
 use Rattle.std.proofs.lemmas.List.{append-nil, map-append}
 use Rattle.std.proofs.lemmas.List.Concat.{flat_map-append}
@@ -23,18 +23,16 @@ use Rattle.trio_layout.specs.Slot.{slot_of}
 use Rattle.trio_layout.proofs.SlotLemmas.{empty_value}
 use Rattle.trio_auxdir.specs.declared.place.Place.{Place}
 use Rattle.trio_auxdir.specs.Slots.{slots_of}
-use Rattle.trio_lease.specs.Shown.{Shown}
 use Rattle.trio_lease.specs.declared.parts.HoldParts.{HoldParts}
 use Rattle.trio_nodes.specs.Nodes.{Nodes, with_node}
-use Rattle.trio_nodes.specs.Walk.{is_directory}
 use Rattle.trio_desk.specs.Call.{DeskSeen}
 use Rattle.trio_desk.specs.Out.{hold_numbers, ino_numbers}
 use Rattle.trio_laws.specs.session.Sees.{IsView}
-use Rattle.trio_laws.specs.session.SlotEdits.{AreSlotWrites, IsClear, IsHeldIn, IsMade, IsSlotWrite, SlotWrite}
+use Rattle.trio_laws.specs.session.SlotEdits.{AreSlotWrites, IsClear, IsHeldIn, IsMade, SlotWrite}
 use Rattle.trio_laws.proofs.session.FilesRemoved.{after_clear, clear_shows as law}
 use Rattle.trio_laws.proofs.session.SlotCases.{none_not, only}
 use Rattle.trio_session.specs.Layout.{cleared as cleared_slot, page_in}
-use Rattle.trio_session.specs.Seen.{MadeFile, SessionSeen, block_number, chain_in, children_shown, clear, cleared_file, entry_count, entry_in, entry_shown, every_number, grant_in, held_file, in_hand, made_body, made_children, made_file, number_shown, open_kind, place_shown, slots_shown, without_made, written_file}
+use Rattle.trio_session.specs.Seen.{MadeFile, SessionSeen, block_number, chain_in, children_shown, clear, cleared_file, entry_count, entry_in, entry_shown, every_number, grant_in, held_file, in_hand, made_body, made_file, number_shown, open_kind, place_shown, slots_shown, without_made}
 use Rattle.trio_session.proofs.SlotBytes.{number-cleared}
 use Rattle.trio_session.proofs.SlotEdits.{body-else, entry_on-cleared, slot_bytes-else}
 use Rattle.trio_edit_laws.specs.DirLaws.{Changes, ClearLeaves, ClearShows, HasSlot, LeavesCleared, LeavesFiles, StaysTree}
@@ -50,8 +48,8 @@ use Rattle.trio_edit_laws.proofs.directories.Mades.{In-part, In-parted, In-witho
 use Rattle.trio_edit_laws.proofs.directories.Places.{IsNamedPlace, named_place}
 use Rattle.trio_edit_laws.proofs.directories.Sees.{pages_open, slot_wide}
 use Rattle.trio_edit_laws.proofs.directories.Slotted.{no_entries}
-use Rattle.trio_edit_laws.proofs.directories.Stays.{EditsDirs, IsAsBefore, IsNewFile, WritesDirs, body_else, chain_else, core_same, grant-none, open_else, reads_same, unlent_still}
-use Rattle.trio_edit_laws.proofs.directories.Writes.{WritesSlot, slot_write, write_of}
+use Rattle.trio_edit_laws.proofs.directories.Stays.{EditsDirs, IsAsBefore, IsNewFile, WritesDirs, body_else, chain_else, grant-none, open_else, unlent_still}
+use Rattle.trio_edit_laws.proofs.directories.Writes.{WritesSlot, write_of, slot_writes}
 
 -- ---- what is left of the files that were made
 
@@ -61,11 +59,7 @@ made_pages ys = flat_map pages_of_chain (map (λ (y : MadeFile). y.chain) ys)
 
 pub chained_parts : (cs : List Chain) (before after : List MadeFile)
     → flat_map pages_of_chain (cs ++ map (λ (y : MadeFile). y.chain) (before ++ after)) ≡ (flat_map pages_of_chain cs ++ made_pages before) ++ made_pages after
-chained_parts cs before after =
-    ap (λ l. flat_map pages_of_chain (cs ++ l)) (map-append (λ (y : MadeFile). y.chain) before after)
-    ∙ flat_map-append pages_of_chain cs (map (λ (y : MadeFile). y.chain) before ++ map (λ (y : MadeFile). y.chain) after)
-    ∙ ap (λ l. flat_map pages_of_chain cs ++ l) (flat_map-append pages_of_chain (map (λ (y : MadeFile). y.chain) before) (map (λ (y : MadeFile). y.chain) after))
-    ∙ sym (append_assoc (flat_map pages_of_chain cs) (made_pages before) (made_pages after))
+chained_parts cs before after = search (arith, map-append, flat_map-append, append_assoc)
 
 -- the chains without one file have no page more, and each once
 pub record IsLeft (s : SessionSeen) (made' : List MadeFile) : Type 0 where
@@ -94,27 +88,11 @@ left_all s n once out = subst (IsLeft s) (sym (filter-absent n s.made out)) (rec
 -- the numbers, each once still
 pub numbers_split : (s : SessionSeen) (n : ℕ) (x : MadeFile) → are_new [] (map number_of (s.made ++ s.cleared)) ≡ true → (q : IsSplit n s.made x)
     → are_new [] (map number_of (filter (is_not_of n) s.made ++ (s.cleared ++ filter (is_of n) s.made))) ≡ true
-numbers_split s n x once q =
-    let b : List ℕ = map number_of q.before in
-    let a : List ℕ = map number_of q.after in
-    let c : List ℕ = map number_of s.cleared in
-    let one : List ℕ = x.ino ∷ [] in
-    let was : map number_of (s.made ++ s.cleared) ≡ b ++ (one ++ (a ++ c)) =
-    ap (λ l. map number_of (l ++ s.cleared)) q.are ∙ map-append number_of (q.before ++ x ∷ q.after) s.cleared ∙ ap (λ l. l ++ c) (map-append number_of q.before (x ∷ q.after))
-    ∙ append_assoc b (x.ino ∷ a) c in
-    let now : map number_of (filter (is_not_of n) s.made ++ (s.cleared ++ filter (is_of n) s.made)) ≡ b ++ ((a ++ c) ++ one) =
-    ap (λ l. map number_of (l ++ (s.cleared ++ filter (is_of n) s.made))) q.rest ∙ ap (λ l. map number_of ((q.before ++ q.after) ++ (s.cleared ++ l))) q.only
-    ∙ map-append number_of (q.before ++ q.after) (s.cleared ++ x ∷ []) ∙ ap (λ l. l ++ map number_of (s.cleared ++ x ∷ [])) (map-append number_of q.before q.after)
-    ∙ ap (λ l. (b ++ a) ++ l) (map-append number_of s.cleared (x ∷ [])) ∙ append_assoc b a (c ++ one) ∙ ap (λ l. b ++ l) (sym (append_assoc a c one)) in
-    ap (are_new []) now ∙ swapped b one (a ++ c) (ap (are_new []) (sym was) ∙ once)
+numbers_split s n x once q = search (arith, map-append, append_assoc, only, swapped)
 
 pub numbers_all : (s : SessionSeen) (n : ℕ) → are_new [] (map number_of (s.made ++ s.cleared)) ≡ true → (In n (map number_of s.made) → ⊥)
     → are_new [] (map number_of (filter (is_not_of n) s.made ++ (s.cleared ++ filter (is_of n) s.made))) ≡ true
-numbers_all s n once out =
-    ap (λ l. are_new [] (map number_of (l ++ (s.cleared ++ filter (is_of n) s.made)))) (filter-absent n s.made out)
-    ∙ ap (λ l. are_new [] (map number_of (s.made ++ (s.cleared ++ l)))) (filter-absent_none n s.made out)
-    ∙ ap (λ l. are_new [] (map number_of (s.made ++ l))) (append-nil s.cleared)
-    ∙ once
+numbers_all s n once out = search (arith, filter-absent, filter-absent_none, append-nil)
 
 -- ---- the edit
 
@@ -194,9 +172,7 @@ module _ (desk : DeskSeen) (s : SessionSeen) (dir : ℕ) (place : Place) (e : En
   pub is_mine : (y : MadeFile) → In y s.made → IsAtSlot y p.there.number place.slot → y.ino ≡ e.ino
   is_mine y i here =
       let a = m.made.slots y i in
-      let was : Entry a.entry ≡ Entry e =
-      sym a.says ∙ ap (λ k. slot_of every_number (slot_bytes y.slot (page_in s.parcel k))) here.page
-      ∙ ap (λ k. slot_of every_number (slot_bytes k (page_in s.parcel num))) here.slot ∙ p.says in
+      let was : Entry a.entry ≡ Entry e = search (arith, p) in
       let same : a.entry ≡ e = cc was in
       sym a.number ∙ ap (λ (z : EntryPart). z.ino) same
 
@@ -236,9 +212,7 @@ module _ (desk : DeskSeen) (s : SessionSeen) (dir : ℕ) (place : Place) (e : En
   gone_unlent x f = (let at = made_at s e.ino x f in unlent_still s then' writes e.ino (subst (IsUnlent s) at.1 (m.made.apart x at.0)))
 
   gone_open : (x : MadeFile) → made_file s e.ino ≡ Some x → open_kind then' e.ino ≡ None
-  gone_open x f =
-      ap (λ z. option_or (option_map (λ (y : MadeFile). y.kind) z) (option_map (λ (g : Shown). g.kind) (written_file then' e.ino))) found_none
-      ∙ ap (option_map (λ (g : Shown). g.kind)) (gone_unlent x f).written
+  gone_open x f = search (arith, found_none, gone_unlent)
 
   gone : (x : MadeFile) → made_file s e.ino ≡ Some x → (grant_in then' e.ino ≡ None) × (cleared_file then' e.ino ≡ Some x)
   gone x f =
@@ -257,10 +231,7 @@ module _ (desk : DeskSeen) (s : SessionSeen) (dir : ℕ) (place : Place) (e : En
     writes = writes;
     found = found_else;
     bodies = λ y i d. body_same y i d;
-    within = λ k i. elim i [
-      | inl same ↦ (dir, inl refl, q.opens, subst (λ j. In j (chain_in s dir).blocks) (sym same) p.there.block)
-      | inr none ↦ absurd none
-    ];
+    within = search (arith, p);
   })
 
   slot_has : dir ≢ e.ino → HasSlot s then' dir place None
@@ -274,9 +245,7 @@ module _ (desk : DeskSeen) (s : SessionSeen) (dir : ℕ) (place : Place) (e : En
   used_then : (k : ℕ) → In k (map number_of (made' ++ cleared')) → In k (map number_of (s.made ++ s.cleared))
   used_then k i =
       let gone : List MadeFile = filter (is_of e.ino) s.made in
-      let back : In k (map number_of s.made) ⊎ In k (map number_of s.cleared) → In k (map number_of (s.made ++ s.cleared)) =
-      λ j. subst (λ l. In k l) (sym (map-append number_of s.made s.cleared))
-      (elim j [ inl a ↦ In-left k (map number_of s.made) (map number_of s.cleared) a | inr c ↦ In-right k (map number_of s.made) (map number_of s.cleared) c ]) in
+      let back : In k (map number_of s.made) ⊎ In k (map number_of s.cleared) → In k (map number_of (s.made ++ s.cleared)) = search (arith, map-append, In-left, In-right) in
       elim (In-cases k (map number_of made') (map number_of cleared') (subst (λ l. In k l) (map-append number_of made' cleared') i)) [
         | inl a ↦ back (inl (In-part (is_not_of e.ino) k s.made a))
         | inr c ↦ elim (In-cases k (map number_of s.cleared) (map number_of gone) (subst (λ l. In k l) (map-append number_of s.cleared gone) c)) [
@@ -288,12 +257,8 @@ module _ (desk : DeskSeen) (s : SessionSeen) (dir : ℕ) (place : Place) (e : En
   used_now : (k : ℕ) → In k (map number_of (s.made ++ s.cleared)) → In k (map number_of (made' ++ cleared'))
   used_now k i =
       let gone : List MadeFile = filter (is_of e.ino) s.made in
-      let there : In k (map number_of made') ⊎ In k (map number_of cleared') → In k (map number_of (made' ++ cleared')) =
-      λ j. subst (λ l. In k l) (sym (map-append number_of made' cleared'))
-      (elim j [ inl a ↦ In-left k (map number_of made') (map number_of cleared') a | inr c ↦ In-right k (map number_of made') (map number_of cleared') c ]) in
-      let behind : In k (map number_of s.cleared) ⊎ In k (map number_of gone) → In k (map number_of cleared') =
-      λ j. subst (λ l. In k l) (sym (map-append number_of s.cleared gone))
-      (elim j [ inl a ↦ In-left k (map number_of s.cleared) (map number_of gone) a | inr c ↦ In-right k (map number_of s.cleared) (map number_of gone) c ]) in
+      let there : In k (map number_of made') ⊎ In k (map number_of cleared') → In k (map number_of (made' ++ cleared')) = search (arith, map-append, In-left, In-right) in
+      let behind : In k (map number_of s.cleared) ⊎ In k (map number_of gone) → In k (map number_of cleared') = search (arith, map-append, gone, In-left, In-right) in
       elim (In-cases k (map number_of s.made) (map number_of s.cleared) (subst (λ l. In k l) (map-append number_of s.made s.cleared) i)) [
         | inr c ↦ there (inr (behind (inl c)))
         | inl a ↦ elim (In-parted e.ino k s.made a) [ inl j ↦ there (inl j) | inr j ↦ there (inr (behind (inr j))) ]
@@ -313,17 +278,7 @@ module _ (desk : DeskSeen) (s : SessionSeen) (dir : ℕ) (place : Place) (e : En
   module _ (childless : children_shown s e.ino ≡ Some 0) where
     -- a file that was made and is gone had no entries
     was_empty : (x : MadeFile) → made_file s e.ino ≡ Some x → open_kind s e.ino ≡ Some Directory → entry_count (slots_shown s e.ino) ≡ 0
-    was_empty x found o =
-        let count : Some (made_children s x) ≡ Some 0 =
-        sym (ap (λ z. option_or (option_map (made_children s) z) (option_map (λ (h : HoldParts). h.children) (held_file s e.ino))) found) ∙ childless in
-        let none : made_children s x ≡ 0 = cc count in
-        let kinds : Some x.kind ≡ Some Directory =
-        sym (ap (λ z. option_or (option_map (λ (y : MadeFile). y.kind) z) (option_map (λ (f : Shown). f.kind) (written_file s e.ino))) found) ∙ o in
-        let kind : x.kind ≡ Directory = cc kinds in
-        let number : x.ino ≡ e.ino = (made_at s e.ino x found).1 in
-        ap (λ k. entry_count (slots_shown s k)) (sym number)
-        ∙ sym (ap (λ k. cond (is_directory k) (entry_count (slots_shown s x.ino)) 0) kind)
-        ∙ none
+    was_empty x found o = search (arith, made_at)
 
     -- the directory of a file's slot stays
     stays : (d k slot' : ℕ) (x : EntryPart) → open_kind s d ≡ Some Directory → In k (chain_in s d).blocks → slot' < 16
@@ -409,9 +364,7 @@ module _ (desk : DeskSeen) (s : SessionSeen) (dir : ℕ) (place : Place) (e : En
             let t = find-In (λ (k : HoldParts). eqb k.ino e.ino) s.parcel.holds h g in
             inl (subst (λ k. In k (hold_numbers s.parcel.holds)) (eqb-true h.ino e.ino t.1) (In-map (λ (k : HoldParts). k.ino) h s.parcel.holds t.0))
         by None f None g =
-            let none : children_shown s e.ino ≡ None =
-            ap (λ z. option_or (option_map (made_children s) z) (option_map (λ (k : HoldParts). k.children) (held_file s e.ino))) f
-            ∙ ap (option_map (λ (k : HoldParts). k.children)) g in
+            let none : children_shown s e.ino ≡ None = search arith in
             let wrong : None ≡ Some 0 = sym none ∙ childless in absurd (cc wrong)
 
     -- ---- what is shown
@@ -421,17 +374,7 @@ module _ (desk : DeskSeen) (s : SessionSeen) (dir : ℕ) (place : Place) (e : En
       w = write_of desk s then' dir num slot new m writes q.opens slot_then nodes nodes' rows v
 
       are : AreSlotWrites desk (in_hand s) (in_hand then') (write_of desk s then' dir num slot new m writes q.opens slot_then nodes nodes' rows v ∷ [])
-      are = record {
-        each = λ y i. only w (IsSlotWrite desk (in_hand s) (in_hand then')) (slot_write desk s then' dir num slot new m writes q.opens slot_then nodes nodes' rows v) y i;
-        once = refl;
-        bytes = λ k out. core_same desk s then' m writes k out;
-        files = writes.touches.files;
-        pages = writes.touches.pages;
-        lent = writes.touches.lent;
-        holds = writes.touches.holds;
-        inodes = writes.touches.inodes;
-        back = reads_same s then' writes;
-      }
+      are = slot_writes desk s then' dir num slot new m writes q.opens slot_then nodes nodes' rows v refl
 
       is_clear : IsClear desk (in_hand s) (in_hand then') (write_of desk s then' dir num slot new m writes q.opens slot_then nodes nodes' rows v) e
       is_clear = record {
@@ -450,13 +393,7 @@ module _ (desk : DeskSeen) (s : SessionSeen) (dir : ℕ) (place : Place) (e : En
 
       turns : StaysTree desk s then' (λ ns. with_node ns e.ino None) → Turns desk s then' e.ino nodes nodes' rows (λ ns. with_node ns e.ino None)
       turns tree = record {
-        rewrites = record {
-          writes = w ∷ [];
-          now = None;
-          are = are;
-          after = after_clear desk (in_hand s) (in_hand then') w e nodes nodes' rows is_clear v (tree nodes nodes' rows v.shows);
-          listed = listed_then;
-        };
+        rewrites = search (arith, are, after_clear, is_clear, listed_then);
         shows = (law desk (in_hand s) (in_hand then') w e m.order is_clear tree).shows nodes nodes' rows v.shows;
       }
 

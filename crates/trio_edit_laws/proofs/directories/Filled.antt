@@ -1,9 +1,8 @@
 -- A new file is put into the first empty slot of a directory.
 use Rattle.std.proofs.Common.{◌≡◌, ℕ, ◌*◌, ◌<◌, ◌≤◌, Bool, true, false, cond, eqb, ltb, leb, not, ◌&&◌, List, [], ◌∷◌, ◌++◌, append_assoc, length, Option, Some, None, sym, refl, ap, ◌∙◌, subst, inl, inr, ◌⊎◌, arith, length-append}
 use Rattle.std.specs.Prelude.{is_some, map, if◌then◌else◌}
-use Rattle.std.specs.List.{filter, flat_map}
-use Rattle.std.specs.Option.{option_map, option_map_or, option_or}
-use Rattle.std.specs.Str.{bytes_eq}
+use Rattle.std.specs.List.{filter}
+use Rattle.std.specs.Option.{option_map_or}
 use Rattle.std.proofs.lemmas.Bool.{and_from, and_parts, cases_eq, eq-eqb, eqb-true, false≢true, le-leb, lt-ltb, ne_eqb}
 use Rattle.std.proofs.lemmas.List.{append-nil, map-append}
 use Rattle.std.proofs.lemmas.List.Concat.{flat_map-append}
@@ -22,35 +21,31 @@ use Rattle.trio_layout.specs.declared.range.CoreRange.{CoreRange}
 use Rattle.trio_layout.specs.declared.slot.EntryPart.{EntryPart}
 use Rattle.trio_layout.specs.declared.slot.SlotRead.{SlotRead}
 use Rattle.trio_layout.specs.declared.slot.SlotRead.TheVariants.{Empty, Entry, Bad}
-use Rattle.trio_layout.specs.Body.{block_count, body_at, body_bytes, body_fits, body_of, head_fits, size_fits}
+use Rattle.trio_layout.specs.Body.{body_of}
 use Rattle.trio_layout.specs.Chain.{Chain}
 use Rattle.trio_layout.specs.Entries.{body_in_slot, slot_bytes}
-use Rattle.trio_layout.specs.Range.{core_count}
 use Rattle.trio_layout.specs.Slot.{IsEntry, entry_bytes, entry_fits, slot_of}
 use Rattle.trio_layout.specs.Survey.{Met, met_in, plain}
 use Rattle.trio_layout.proofs.SlotLemmas.{entry_value}
 use Rattle.trio_surveys.proofs.Owned.{body_sized}
 use Rattle.trio_auxdir.specs.declared.place.Place.{Place}
-use Rattle.trio_lease.specs.Shown.{Shown}
 use Rattle.trio_lease.specs.declared.parts.InoParts.{InoParts}
-use Rattle.trio_nodes.specs.Nodes.{Nodes, node_at, with_node}
+use Rattle.trio_nodes.specs.Nodes.{Nodes, with_node}
 use Rattle.trio_nodes.specs.Tree.{IsTree}
-use Rattle.trio_desk.specs.Agrees.{HasRights}
 use Rattle.trio_desk.specs.Call.{DeskSeen}
-use Rattle.trio_desk.specs.Contents.{AreWithinLimits, rights_in}
+use Rattle.trio_desk.specs.Contents.{AreWithinLimits}
 use Rattle.trio_desk.specs.Edits.{InHand}
 use Rattle.trio_desk.specs.Out.{ino_numbers}
-use Rattle.trio_desk.specs.Ready.{parcel_case}
-use Rattle.trio_desk.specs.Shows.{Naming, Shows, made_by, naming_of}
+use Rattle.trio_desk.specs.Shows.{Naming, made_by, naming_of, Shows}
 use Rattle.trio_laws.specs.session.Sees.{IsView}
-use Rattle.trio_laws.specs.session.SlotEdits.{AreSlotWrites, IsFill, IsSlotWrite, SlotWrite, filled as nodes_filled, naming_after}
+use Rattle.trio_laws.specs.session.SlotEdits.{AreSlotWrites, IsFill, SlotWrite, filled as nodes_filled, naming_after}
 use Rattle.trio_laws.specs.session.Takes.{case_as_stands}
 use Rattle.trio_laws.proofs.session.FileEdits.{body_stands}
 use Rattle.trio_laws.proofs.session.FilesMade.{after_fill, fill_shows as law}
 use Rattle.trio_laws.proofs.session.Named.{made_is_judged, named_is_read}
 use Rattle.trio_laws.proofs.session.SlotCases.{named_so, only}
 use Rattle.trio_session.specs.Layout.{filled, page_in}
-use Rattle.trio_session.specs.Seen.{IsOpenDir, MadeFile, SessionSeen, block_number, chain_in, cleared_file, empty_shown, entry_in, every_number, fill, filled_at, grant_in, held_file, in_hand, is_allotted, made_body, made_file, no_chain, open_kind, place_shown, placed_made, read_file, spare_numbers, used_numbers, written_file}
+use Rattle.trio_session.specs.Seen.{IsOpenDir, MadeFile, SessionSeen, block_number, chain_in, cleared_file, empty_shown, entry_in, every_number, fill, grant_in, held_file, in_hand, is_allotted, made_body, made_file, no_chain, open_kind, place_shown, placed_made, read_file, spare_numbers, used_numbers, written_file}
 use Rattle.trio_session.proofs.Pages.{page_in-with_page_same}
 use Rattle.trio_session.proofs.SlotBytes.{body_in_slot-filled, entry-filled, entry_fits-every, length-entry_bytes}
 use Rattle.trio_session.proofs.SlotEdits.{EditsSlotIn, IsWhole, body-else, body-filled, edits_filled, entry_on, slot_bytes-else}
@@ -58,7 +53,7 @@ use Rattle.trio_edit_laws.specs.DirLaws.{Changes, FillLeaves, FillShows, HasSlot
 use Rattle.trio_edit_laws.specs.Written.{IsUnlent, IsInSlot, MayEdit, chained, made_met}
 use Rattle.trio_edit_laws.proofs.Anew.{body-made}
 use Rattle.trio_edit_laws.proofs.Keeps.{made_at}
-use Rattle.trio_edit_laws.proofs.Opens.{chain-made, pages_of_chain}
+use Rattle.trio_edit_laws.proofs.Opens.{chain-made}
 use Rattle.trio_edit_laws.proofs.Touches.{touches_page}
 use Rattle.trio_edit_laws.proofs.directories.After.{IsListedThen, OthersStay}
 use Rattle.trio_edit_laws.proofs.directories.Changes.{Turns, changes_by}
@@ -66,14 +61,13 @@ use Rattle.trio_edit_laws.proofs.directories.Leaves.{block_at, blocks_edited, ha
 use Rattle.trio_edit_laws.proofs.directories.Mades.{filter-absent, find-absent, find-added_other, find-added_same, number_of, one_more}
 use Rattle.trio_edit_laws.proofs.directories.Places.{IsEmptyPlace, empty_place, free_name}
 use Rattle.trio_edit_laws.proofs.directories.Sees.{r, slot_good, slot_wide}
-use Rattle.trio_edit_laws.proofs.directories.Stays.{EditsDirs, IsAsBefore, IsDirBlock, IsNewFile, WritesDirs, body_else, chain_else, core_same, no_grant, open_else, reads_same, unlent_still}
-use Rattle.trio_edit_laws.proofs.directories.Writes.{WritesSlot, block_whole, body-written_slot, length-slot_with_part, slot_bytes-written, slot_with_part, slot_write, with_part-slot, write_of}
+use Rattle.trio_edit_laws.proofs.directories.Stays.{EditsDirs, IsAsBefore, IsDirBlock, IsNewFile, WritesDirs, body_else, chain_else, no_grant, open_else, unlent_still}
+use Rattle.trio_edit_laws.proofs.directories.Writes.{WritesSlot, block_whole, body-written_slot, length-slot_with_part, slot_bytes-written, slot_with_part, with_part-slot, write_of, slot_writes}
+use Rattle.trio_desk.specs.Ready.{parcel_case}
 
 -- a slot without an entry is empty
 pub empty_from : (x : SlotRead) → entry_in x ≡ None → (x ≡ Bad → ⊥) → x ≡ Empty
-empty_from Empty e good = refl
-empty_from (Entry y) e good = absurd (let t : Some y ≡ None = e in cc t)
-empty_from Bad e good = absurd (good refl)
+empty_from x e good = search arith
 
 -- an allotted number that no file has which was made is named nowhere
 pub unnamed : (desk : DeskSeen) (s : SessionSeen) (h' : InHand) (nodes nodes' : Nodes) (rows : List (Option Row)) (n : ℕ) → MayEdit desk s
@@ -99,13 +93,7 @@ cond_some false x y e = absurd (let both : None ≡ Some y = e in cc both)
 -- an empty body names no index page
 head_none : (kind : Kind) (range : CoreRange) (bytes : List ℕ) (b : Body) → body_of kind range bytes ≡ Some b → b.size ≡ 0 → b.head ≡ 0
 unfolding body_of
-head_none kind range bytes b e empty =
-    let x : Body = body_at bytes in
-    let k = cond_some (bytes_eq bytes (body_bytes x) && body_fits kind range x) x b e in
-    let fits : body_fits kind range b ≡ true = subst (λ y. body_fits kind range y ≡ true) k.1 (and_parts (bytes_eq bytes (body_bytes x)) (body_fits kind range x) k.0).1 in
-    let head : head_fits range (block_count b.size) b.head ≡ true =
-    (and_parts (leb b.mode.0 511 && leb (block_count b.size) (core_count range) && size_fits kind b.size) (head_fits range (block_count b.size) b.head) fits).1 in
-    eqb-true b.head 0 (ap (λ n. head_fits range (block_count n) b.head) (sym empty) ∙ head)
+head_none kind range bytes b e empty = search (arith, cond_some, and_parts, eqb-true)
 
 -- a slot that is filled, with a file of an allotted number made
 abbrev pub filled_session : SessionSeen → ℕ → Kind → ℕ → ℕ → List ℕ → List ℕ → Bool → SessionSeen
@@ -119,10 +107,7 @@ pub fill_at : (s : SessionSeen) (dir : ℕ) (place : Place) (name : List ℕ) (n
     → block_number s dir place.block ≡ k → is_allotted s n ≡ t
     → fill dir name n kind body s ≡ filled_session s n kind k place.slot name body t
 unfolding fill
-fill_at s dir place name n kind body k t empty number allotted =
-    ap (λ o. option_map_or (λ pl. filled_at dir pl (record { ino = n; kind = kind; name = name }) body s) o s) empty
-    ∙ ap (λ j. filled_session s n kind j place.slot name body (is_allotted s n)) number
-    ∙ ap (filled_session s n kind k place.slot name body) allotted
+fill_at s dir place name n kind body k t empty number allotted = search arith
 
 -- what a fill is given
 pub record FillNeeds (desk : DeskSeen) (s : SessionSeen) (dir' : ℕ) (place' : Place) (name' : List ℕ) (n' : ℕ) (kind' : Kind) (body' : List ℕ) (b : Body) : Type 0 where
@@ -234,12 +219,7 @@ module _ (desk : DeskSeen) (s : SessionSeen) (dir : ℕ) (place : Place) (name :
   bytes_then = page_in-with_page_same num (with_part (256 * place.slot) part page) s.parcel whole.hand
 
   slot_then : WritesSlot s then' dir p.there.number place.slot (slot_with_part place.slot (entry_bytes (record { ino = n; kind = kind; name = name }) ++ body) (page_in s.parcel p.there.number))
-  slot_then = record {
-    block = p.there.block;
-    below = p.there.slot;
-    sized = new_sized;
-    after = bytes_then ∙ with_part-slot place.slot part page whole.whole p.there.slot short;
-  }
+  slot_then = search (arith, p, sized, new_sized, bytes_then, with_part-slot, whole, short)
 
   new_is : slot_bytes place.slot (with_part (256 * place.slot) part page) ≡ new
   new_is =
@@ -249,14 +229,10 @@ module _ (desk : DeskSeen) (s : SessionSeen) (dir : ℕ) (place : Place) (name :
   entry_is = entry-filled e body page place.slot whole.whole p.there.slot fits sized
 
   says_here : slot_of desk.sizes.inodes new ≡ Entry e
-  says_here =
-      ap (slot_of desk.sizes.inodes) (sym new_is)
-      ∙ sym (entry_value desk.sizes.inodes (slot_bytes place.slot (with_part (256 * place.slot) part page)) e (record { spelled = entry_is.spelled; narrow = entry_is.narrow; fits = fits_here }))
+  says_here = search (arith, new_is, entry_value, entry_is, fits, fits_here)
 
   says_now : slot_of every_number (slot_bytes place.slot (page_in then'.parcel p.there.number)) ≡ Entry e
-  says_now =
-      ap (λ l. slot_of every_number (slot_bytes place.slot l)) bytes_then
-      ∙ sym (entry_value every_number (slot_bytes place.slot (with_part (256 * place.slot) part page)) e entry_is)
+  says_now = search (arith, bytes_then, entry_value, entry_is)
 
   body_new : body_in_slot 0 new ≡ body
   body_new =
@@ -365,29 +341,10 @@ module _ (desk : DeskSeen) (s : SessionSeen) (dir : ℕ) (place : Place) (name :
   ]
     where
       new_file : open_kind then' n ≡ Some kind' → IsNewFile desk then' n kind'
-      new_file o' =
-          let is : Some kind ≡ Some kind' =
-          sym (ap (λ z. option_or (option_map (λ (y : MadeFile). y.kind) z) (option_map (λ (f : Shown). f.kind) (written_file then' n))) found_new) ∙ o' in
-          let k' : kind ≡ kind' = cc is in
-          record {
-            chain = chain-made then' n x found_new ∙ new_chain;
-            body = b;
-            is =
-                ap (body_of kind' desk.sizes.range) (body-made then' n x found_new ∙ body_now)
-                ∙ ap (λ z. body_of z desk.sizes.range body) (sym k')
-                ∙ q.body.is;
-            size = q.body.size;
-            head = head_none kind desk.sizes.range body b q.body.is q.body.size;
-          }
+      new_file o' = search (arith, found_new, chain-made, new_chain, body-made, body_now, head_none)
 
   chained_same : chained then' ≡ chained s
-  chained_same =
-      let old : List Chain = s.chains ++ map (λ (y : MadeFile). y.chain) s.made in
-      ap (λ l. flat_map pages_of_chain (s.chains ++ l)) (map-append (λ (y : MadeFile). y.chain) s.made (x ∷ []))
-      ∙ ap (flat_map pages_of_chain) (sym (append_assoc s.chains (map (λ (y : MadeFile). y.chain) s.made) (x.chain ∷ [])))
-      ∙ flat_map-append pages_of_chain old (x.chain ∷ [])
-      ∙ ap (λ (c : Chain). flat_map pages_of_chain old ++ (pages_of_chain c ++ [])) new_chain
-      ∙ append-nil (flat_map pages_of_chain old)
+  chained_same = search (arith, map-append, append_assoc, flat_map-append, new_chain, append-nil)
 
   once_then : are_new [] (map (λ (y : MadeFile). y.ino) (then'.made ++ then'.cleared)) ≡ true
   once_then =
@@ -399,15 +356,7 @@ module _ (desk : DeskSeen) (s : SessionSeen) (dir : ℕ) (place : Place) (name :
       (λ i. unused (subst (λ l. In n l) (sym (map-append number_of s.made s.cleared)) i))
 
   written_none : written_file s n ≡ None
-  written_none = by (written_file s n) refl
-    where
-      by : (o : Option Shown) → written_file s n ≡ o → written_file s n ≡ None
-      by None f = f
-      by (Some f) g =
-          let some : open_kind s n ≡ Some f.kind =
-          ap (λ z. option_or (option_map (λ (y : MadeFile). y.kind) z) (option_map (λ (f : Shown). f.kind) (written_file s n))) none_made
-          ∙ ap (option_map (λ (f : Shown). f.kind)) g in
-          let wrong : None ≡ Some f.kind = sym q.unopened ∙ some in absurd (cc wrong)
+  written_none = search (arith, none_made)
 
   unlent_new : IsUnlent s n
   unlent_new = record { written = written_none; held = q.unheld; read = q.unread }
@@ -437,21 +386,8 @@ module _ (desk : DeskSeen) (s : SessionSeen) (dir : ℕ) (place : Place) (name :
     abbrev w : SlotWrite
     w = write_of desk s then' dir num place.slot new m front q.opens slot_then nodes nodes' rows v
 
-    w_is : IsSlotWrite desk (in_hand s) (in_hand then') (write_of desk s then' dir num place.slot new m front q.opens slot_then nodes nodes' rows v)
-    w_is = slot_write desk s then' dir num place.slot new m front q.opens slot_then nodes nodes' rows v
-
     are : AreSlotWrites desk (in_hand s) (in_hand then') (write_of desk s then' dir num place.slot new m front q.opens slot_then nodes nodes' rows v ∷ [])
-    are = record {
-      each = λ y i. only w (IsSlotWrite desk (in_hand s) (in_hand then')) w_is y i;
-      once = refl;
-      bytes = λ k out. core_same desk s then' m front k out;
-      files = front.touches.files;
-      pages = front.touches.pages;
-      lent = front.touches.lent;
-      holds = front.touches.holds;
-      inodes = front.touches.inodes;
-      back = reads_same s then' front;
-    }
+    are = slot_writes desk s then' dir num place.slot new m front q.opens slot_then nodes nodes' rows v refl
 
     empty_before : slot_of desk.sizes.inodes (slot_bytes place.slot (page_in s.parcel p.there.number)) ≡ Empty
     empty_before =
@@ -474,10 +410,7 @@ module _ (desk : DeskSeen) (s : SessionSeen) (dir : ℕ) (place : Place) (name :
     }
 
     node_is : made_by (naming_after (write_of desk s then' dir num place.slot new m front q.opens slot_then nodes nodes' rows v) e) ≡ node_made dir name kind b
-    node_is =
-        let at : body_at (body_in_slot 0 new) ≡ b = ap body_at body_new ∙ body_stands kind desk.sizes.range body b q.body.is in
-        ap (λ (y : Body). node_made w.directory.ino name kind y) at
-        ∙ ap (λ d. node_made d name kind b) (r desk s dir (in_hand then') nodes nodes' rows m v q.opens).is.number
+    node_is = search (arith, body_new, body_stands, r)
 
     module _ (tree : StaysTree desk s then' (λ ns. with_node ns n (Some (node_made dir name kind b)))) where
       tree_then : (ns : Nodes) → IsTree (with_node ns n (Some (node_made dir name kind b)))
@@ -496,9 +429,7 @@ module _ (desk : DeskSeen) (s : SessionSeen) (dir : ℕ) (place : Place) (name :
           ]
         ];
         made = λ y is. ap (λ (z : Met). is_some (made_file then' z.ino)) is.1 ∙ ap is_some found_new;
-        rights =
-            λ g is old. named_so (naming_after w e) (λ z. (In z.listed.entry.ino (ino_numbers s.parcel.inodes) → ⊥) → HasRights (rights_in z.listed.entry.kind z.listed.body) (node_at nodes z.listed.entry.ino))
-            (λ old'. absurd (old' spare.0)) g is old;
+        rights = search (arith, named_so, spare);
       }
 
       turns : Turns desk s then' n nodes nodes' rows (λ ns. with_node ns n (Some (node_made dir name kind b)))
@@ -530,10 +461,7 @@ module _ (desk : DeskSeen) (s : SessionSeen) (dir : ℕ) (place : Place) (name :
     writes = front;
     found = found_else;
     bodies = λ y i d. body_same y i;
-    within = λ k i. elim i [
-      | inl same ↦ (dir, inl refl, q.opens, subst (λ j. In j (chain_in s dir).blocks) (sym same) p.there.block)
-      | inr none ↦ absurd none
-    ];
+    within = search (arith, p);
   })
 
   slot_has : HasSlot s then' dir place (Some (record { ino = n; kind = kind; name = name }))
@@ -601,9 +529,7 @@ module _ (desk : DeskSeen) (s : SessionSeen) (dir : ℕ) (place : Place) (name :
 needs_of : (desk : DeskSeen) (s : SessionSeen) (dir : ℕ) (place : Place) (name : List ℕ) (n : ℕ) (kind : Kind) (body : List ℕ) (b : Body)
     → AreWithinLimits desk.sizes → MayEdit desk s → IsOpenDir s dir → empty_shown s dir ≡ Some place → place_shown s dir name ≡ None → is_name name ≡ true
     → In n (spare_numbers s) → grant_in s n ≡ None → IsEmptyBody desk kind body b → FillNeeds desk s dir place name n kind body b
-needs_of desk s dir place name n kind body b limits m open_dir empty free is spare nothing body_is =
-    let none = no_grant s n nothing in
-    record { limits = limits; may = m; opens = open_dir.directory; empty = empty; free = free; name = is; spare = spare; unopened = none.0; unheld = none.1; unread = none.2; body = body_is }
+needs_of desk s dir place name n kind body b limits m open_dir empty free is spare nothing body_is = search (arith, FillNeeds, spare, no_grant)
 
 pub fill_shows : FillShows
 fill_shows desk s dir place name n kind body b limits m open_dir empty free is spare nothing body_is tree =

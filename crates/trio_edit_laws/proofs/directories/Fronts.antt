@@ -1,5 +1,5 @@
 -- The front of one slot of an open directory is written: a slot is cleared, or its entry gets another name.
-use Rattle.std.proofs.Common.{◌≡◌, ◌≢◌, ℕ, ◌*◌, ◌<◌, ◌≤◌, Bool, true, false, cond, eqb, ◌&&◌, List, [], ◌∷◌, length, take, Option, Some, sym, refl, ap, ◌∙◌, subst, inl, inr, ◌⊎◌, arith}
+use Rattle.std.proofs.Common.{◌≡◌, ◌≢◌, ℕ, ◌*◌, ◌<◌, ◌≤◌, Bool, true, cond, eqb, ◌&&◌, List, [], ◌∷◌, length, take, Option, Some, sym, refl, ap, ◌∙◌, subst, inl, inr, ◌⊎◌, arith}
 use Rattle.std.specs.Str.{bytes_eq}
 use Rattle.std.proofs.lemmas.Bool.{cases_eq}
 use Rattle.trio_page.specs.Field.{with_part}
@@ -34,10 +34,7 @@ use Rattle.trio_edit_laws.proofs.directories.Writes.{WritesSlot, block_whole, bo
 -- ---- entries
 
 fits_by : (x e : EntryPart) (a b f : Bool) → cond a Empty (cond (b && f) (Entry x) Bad) ≡ Entry e → (f ≡ true) × (x ≡ e)
-fits_by x e true b f h = absurd cc
-fits_by x e false false f h = absurd cc
-fits_by x e false true false h = absurd cc
-fits_by x e false true true h = (refl, let both : Entry x ≡ Entry e = h in cc both)
+fits_by x e a b f h = search arith
 
 -- an entry that a slot says fits
 pub fits_from : (inodes : ℕ) (bytes : List ℕ) (e : EntryPart) → slot_of inodes bytes ≡ Entry e → entry_fits inodes e ≡ true
@@ -71,10 +68,7 @@ pub record IsAtSlot (y : MadeFile) (n' slot' : ℕ) : Type 0 where
   pub slot : y.slot ≡ slot'
 
 pub at_slot_or : (y : MadeFile) (n slot : ℕ) → IsAtSlot y n slot ⊎ (y.page ≡ n → y.slot ≢ slot)
-at_slot_or y n slot = elim (cases_eq y.page n) [
-  | inr d ↦ inr (λ same. absurd (d same))
-  | inl at ↦ elim (cases_eq y.slot slot) [ inl is ↦ inl (record { page = at; slot = is }) | inr d ↦ inr (λ same. d) ]
-]
+at_slot_or y n slot = search (arith, cases_eq)
 
 -- ---- the front of a slot
 
@@ -119,12 +113,7 @@ module _ (desk : DeskSeen) (s : SessionSeen) (dir n slot : ℕ) (part : List ℕ
   bytes_then = page_in-with_page_same n (with_part (256 * slot) part page) s.parcel front_whole.hand
 
   pub front_slot : WritesSlot s (front_written n slot part made' cleared' s) dir n slot (slot_with_part slot part (page_in s.parcel n))
-  front_slot = record {
-    block = block;
-    below = lt;
-    sized = front_sized;
-    after = bytes_then ∙ with_part-slot slot part page front_whole.whole lt short;
-  }
+  front_slot = search (arith, front_sized, bytes_then, with_part-slot, front_whole)
 
   -- the slot's bytes then
   pub front_is : slot_bytes slot (with_part (256 * slot) part (page_in s.parcel n)) ≡ slot_with_part slot part (page_in s.parcel n)
@@ -135,6 +124,4 @@ module _ (desk : DeskSeen) (s : SessionSeen) (dir n slot : ℕ) (part : List ℕ
 
   -- and its body
   pub front_body : body_in_slot 0 (slot_with_part slot part (page_in s.parcel n)) ≡ body_in_slot slot (page_in (with_part_in n (256 * slot) part s.parcel) n)
-  front_body =
-      body-written_slot slot front_new page front_whole.whole lt front_sized
-      ∙ ap (body_in_slot slot) (sym (with_part-slot slot part page front_whole.whole lt short) ∙ sym bytes_then)
+  front_body = search (arith, body-written_slot, front_whole, front_sized, with_part-slot, bytes_then)

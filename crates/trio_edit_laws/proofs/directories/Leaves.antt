@@ -1,8 +1,8 @@
 -- What an edit of slots of directories leaves of all other files, and of the slots of the directories themselves.
-use Rattle.std.proofs.Common.{◌≡◌, ◌≢◌, ℕ, ◌+◌, ◌*◌, eqb, not, List, [], ◌∷◌, Option, Some, None, sym, refl, ap, ◌∙◌, subst, inl, inr}
-use Rattle.std.specs.Prelude.{map, drop, slice_get, slice_set}
+use Rattle.std.proofs.Common.{◌≡◌, ◌≢◌, ℕ, ◌+◌, ◌*◌, eqb, not, List, [], ◌∷◌, Option, Some, None, sym, refl, ap, ◌∙◌, subst, inl, inr, arith}
+use Rattle.std.specs.Prelude.{map, drop, slice_set}
 use Rattle.std.specs.List.{filter, find}
-use Rattle.std.specs.Option.{option_and_then, option_map, option_map_or, option_or}
+use Rattle.std.specs.Option.{option_and_then, option_map_or}
 use Rattle.trio_rights.specs.declared.kind.Kind.{Kind}
 use Rattle.trio_rights.specs.declared.kind.Kind.TheVariants.{Directory}
 use Rattle.trio_lists.specs.Lists.{In, is_among}
@@ -13,15 +13,14 @@ use Rattle.trio_layout.specs.Entries.{slot_bytes}
 use Rattle.trio_layout.specs.Slot.{slot_of}
 use Rattle.trio_layout.specs.declared.slot.EntryPart.{EntryPart}
 use Rattle.trio_auxdir.specs.declared.place.Place.{Place}
-use Rattle.trio_auxdir.specs.Places.{slot_number}
 use Rattle.trio_auxdir.specs.Slots.{slots_of}
-use Rattle.trio_lease.specs.Shown.{Shown, page_at}
+use Rattle.trio_lease.specs.Shown.{Shown}
 use Rattle.trio_lease.specs.declared.parts.InoParts.{InoParts}
 use Rattle.trio_desk.specs.Call.{DeskSeen}
 use Rattle.trio_desk.specs.Out.{Parcel, ino_numbers, page_numbers}
 use Rattle.trio_laws.proofs.session.Starts.{among_alike}
 use Rattle.trio_session.specs.Layout.{page_in}
-use Rattle.trio_session.specs.Seen.{MadeFile, SessionSeen, block_shown, chain_in, dir_pages, entry_in, entry_shown, every_number, kind_shown, made_body, made_file, open_kind, pages_shown, place_of, read_file, slots_shown, spare_numbers, used_numbers}
+use Rattle.trio_session.specs.Seen.{MadeFile, SessionSeen, block_shown, chain_in, dir_pages, entry_in, entry_shown, every_number, kind_shown, made_body, made_file, open_kind, pages_shown, place_of, slots_shown, spare_numbers, used_numbers}
 use Rattle.trio_session.proofs.Lists.{slice_get-In}
 use Rattle.trio_session.proofs.SlotEdits.{EditsSlotIn, IsBlockAt, entry_of, entry_of-block, entry_of-else, entry_on, slots_of-edited}
 use Rattle.trio_edit_laws.specs.DirLaws.{HasSlot, LeavesFiles}
@@ -57,9 +56,6 @@ pub record EditsOnly (s s' : SessionSeen) (dirs : List ℕ) (ino : ℕ) : Type 0
       → (dir : ℕ) × In dir dirs × (open_kind s dir ≡ Some Directory) × In n (chain_in s dir).blocks
 
 module _ (desk : DeskSeen) (s s' : SessionSeen) (dirs : List ℕ) (ino : ℕ) (m : MayEdit desk s) (e : EditsOnly s s' dirs ino) where
-  abbrev w : WritesDirs s s'
-  w = e.writes
-
   opens_left : (n : ℕ) → n ≢ ino → open_kind s' n ≡ open_kind s n
   opens_left n d = open_else s s' e.writes n (e.found n d)
 
@@ -88,27 +84,10 @@ module _ (desk : DeskSeen) (s s' : SessionSeen) (dirs : List ℕ) (ino : ℕ) (m
           ∙ sym (pages_shown-read s n o)
 
   blocks_left : (n k : ℕ) → n ≢ ino → (In n dirs → ⊥) → block_shown s' n k ≡ block_shown s n k
-  blocks_left n k d out = by (open_kind s n) refl
-    where
-      at : (kind : Kind) → open_kind s n ≡ Some kind → (q : Option ℕ) → slice_get (chain_in s n).blocks k ≡ q → option_map (page_in s'.parcel) q ≡ option_map (page_in s.parcel) q
-      at kind o None t = refl
-      at kind o (Some p) t = ap Some (page_left n kind p o out (slice_get-In (chain_in s n).blocks k p t))
-
-      by : (q : Option Kind) → open_kind s n ≡ q → block_shown s' n k ≡ block_shown s n k
-      by (Some kind) o =
-          block_shown-open s' n kind k (opens_left n d ∙ o)
-          ∙ ap (λ (c : Chain). option_map (page_in s'.parcel) (slice_get c.blocks k)) (chains_left n d)
-          ∙ at kind o (slice_get (chain_in s n).blocks k) refl
-          ∙ sym (block_shown-open s n kind k o)
-      by None o =
-          block_shown-read s' n k (opens_left n d ∙ o)
-          ∙ ap (λ (l : List Shown). option_and_then (λ (f : Shown). page_at f.blocks k) (find (λ (f : Shown). eqb f.ino n) l)) (reads_same s s' e.writes)
-          ∙ sym (block_shown-read s n k o)
+  blocks_left n k d out = search (arith, page_left, slice_get-In, block_shown-open, opens_left, chains_left, block_shown-read, reads_same)
 
   kinds_left : (n : ℕ) → n ≢ ino → kind_shown s' n ≡ kind_shown s n
-  kinds_left n d =
-      ap (λ q. option_or q (option_map (λ (f : Shown). f.kind) (read_file s' n))) (opens_left n d)
-      ∙ ap (λ (l : List Shown). option_or (open_kind s n) (option_map (λ (f : Shown). f.kind) (find (λ (f : Shown). eqb f.ino n) l))) (reads_same s s' e.writes)
+  kinds_left n d = search (arith, opens_left, reads_same)
 
   pub leaves_files : LeavesFiles s s' dirs ino
   leaves_files = record {
@@ -145,12 +124,7 @@ blocks_edited b b' blocks k n slot now edits is on = record {
 }
 
 entry_alike : (b b' : Parcel) (blocks : List ℕ) (j i : ℕ) → ((n : ℕ) → In n blocks → page_in b' n ≡ page_in b n) → entry_of b' blocks j i ≡ entry_of b blocks j i
-entry_alike b b' blocks j i same = by (slice_get blocks j) refl
-  where
-    by : (q : Option ℕ) → slice_get blocks j ≡ q
-        → option_and_then (λ page. entry_on page i) (option_map (page_in b') q) ≡ option_and_then (λ page. entry_on page i) (option_map (page_in b) q)
-    by None t = refl
-    by (Some n) t = ap (λ p. entry_on p i) (same n (slice_get-In blocks j n t))
+entry_alike b b' blocks j i same = search (arith, slice_get-In)
 
 -- and still, where pages are written that are none of the blocks
 pub blocks_after : (b between b' : Parcel) (blocks : List ℕ) (k slot : ℕ) (now : Option EntryPart) → BlocksHave b between blocks k slot now
@@ -183,14 +157,9 @@ pub has_slot : (s s' : SessionSeen) (dir : ℕ) (place : Place) (now : Option En
 has_slot s s' dir place now o o' chain h =
     let shown : (pl : Place) → entry_shown s dir pl ≡ entry_of s.parcel (chain_in s dir).blocks pl.block pl.slot =
     λ pl. ap (option_and_then (λ bytes. entry_in (slot_of every_number (slot_bytes pl.slot bytes)))) (block_open s dir o pl.block) in
-    let shown' : (pl : Place) → entry_shown s' dir pl ≡ entry_of s'.parcel (chain_in s dir).blocks pl.block pl.slot =
-    λ pl. ap (option_and_then (λ bytes. entry_in (slot_of every_number (slot_bytes pl.slot bytes)))) (block_open s' dir o' pl.block)
-    ∙ ap (λ (c : Chain). entry_of s'.parcel c.blocks pl.block pl.slot) chain in
+    let shown' : (pl : Place) → entry_shown s' dir pl ≡ entry_of s'.parcel (chain_in s dir).blocks pl.block pl.slot = search (arith, block_open) in
     record {
-      slots =
-          ap (slots_of every_number) (pages_open s' dir o' ∙ ap (λ (c : Chain). map (page_in s'.parcel) c.blocks) chain)
-          ∙ h.slots
-          ∙ ap (λ ps. slice_set (slots_of every_number ps) (slot_number place) (name_of_part now)) (sym (pages_open s dir o));
+      slots = search (arith, pages_open);
       entry = shown' place ∙ h.entry;
       others = λ other d. shown' other ∙ h.others other.block other.slot d ∙ sym (shown other);
     }

@@ -1,5 +1,5 @@
 -- Lists of files that were made, where one is added or taken out.
-use Rattle.std.proofs.Common.{◌≡◌, ℕ, Bool, true, false, cond, eqb, not, List, [], ◌∷◌, ◌++◌, Option, Some, None, sym, refl, ap, ◌∙◌, subst, inl, inr, ◌⊎◌}
+use Rattle.std.proofs.Common.{◌≡◌, ℕ, Bool, true, false, cond, eqb, not, List, [], ◌∷◌, ◌++◌, Option, Some, None, sym, refl, ap, ◌∙◌, subst, inl, inr, ◌⊎◌, arith}
 use Rattle.std.specs.Prelude.{map}
 use Rattle.std.specs.List.{filter, find}
 use Rattle.std.specs.Option.{option_or}
@@ -12,6 +12,7 @@ use Rattle.trio_lists.proofs.New.{are_new-first}
 use Rattle.trio_laws.proofs.session.Again.{new_between}
 use Rattle.trio_session.specs.Seen.{MadeFile}
 use Rattle.trio_edit_laws.proofs.Chained.{apart_from, apart_to}
+use Rattle.trio_session.proofs.Numbers.{filter-all}
 
 abbrev pub number_of : MadeFile → ℕ
 number_of x = x.ino
@@ -50,12 +51,6 @@ find-added_other n xs x d = find-append (is_of n) xs (x ∷ []) ∙ ap (option_o
 pub find-added_same : (xs : List MadeFile) (x : MadeFile) → find (is_of x.ino) xs ≡ None → find (is_of x.ino) (xs ++ x ∷ []) ≡ Some x
 find-added_same xs x none = find-append (is_of x.ino) xs (x ∷ []) ∙ ap (λ q. option_or q (find (is_of x.ino) (x ∷ []))) none ∙ find-one_same x
 
--- ---- filters
-
-pub filter-all : {X : Type 0} (p : X → Bool) (xs : List X) → ((x : X) → In x xs → p x ≡ true) → filter p xs ≡ xs
-filter-all p [] h = refl
-filter-all p (x ∷ xs) h = ap (λ t. cond t (x ∷ filter p xs) (filter p xs)) (h x (inl refl)) ∙ ap (λ l. x ∷ l) (filter-all p xs (λ y i. h y (inr i)))
-
 -- where no file has the number all stay
 pub filter-absent : (n : ℕ) (xs : List MadeFile) → (In n (map number_of xs) → ⊥) → filter (is_not_of n) xs ≡ xs
 filter-absent n xs out =
@@ -76,17 +71,7 @@ pub record IsSplit (n' : ℕ) (xs : List MadeFile) (x : MadeFile) : Type 0 where
 split_step : (n : ℕ) (y : MadeFile) (ys : List MadeFile) (x : MadeFile) (v : Bool) → eqb y.ino n ≡ v → (find (is_of n) ys ≡ Some x → IsSplit n ys x)
     → cond v (Some y) (find (is_of n) ys) ≡ Some x
     → (In y.ino (map number_of ys) → ⊥) → IsSplit n (y ∷ ys) x
-split_step n y ys x true t later e new =
-    let same : y ≡ x = (let both : Some y ≡ Some x = e in cc both) in
-    let number : y.ino ≡ n = eqb-true y.ino n t in
-    let out : In n (map number_of ys) → ⊥ = λ i. new (subst (λ k. In k (map number_of ys)) (sym number) i) in
-    record {
-      before = [];
-      after = ys;
-      are = ap (λ z. z ∷ ys) same;
-      rest = ap (λ v. cond (not v) (y ∷ filter (is_not_of n) ys) (filter (is_not_of n) ys)) t ∙ filter-absent n ys out;
-      only = ap (λ v. cond v (y ∷ filter (is_of n) ys) (filter (is_of n) ys)) t ∙ ap (λ l. y ∷ l) (filter-absent_none n ys out) ∙ ap (λ z. z ∷ []) same;
-    }
+split_step n y ys x true t later e new = search (arith, IsSplit, eqb-true, filter-absent, filter-absent_none)
 split_step n y ys x false t later e new =
     let q = later e in
     record {
@@ -118,10 +103,7 @@ swapped a b c new =
 
 -- without some
 pub shorter : (a b c : List ℕ) → are_new [] (a ++ (b ++ c)) ≡ true → are_new [] (a ++ c) ≡ true
-shorter a b c new =
-    let p = apart_from a (b ++ c) new in
-    let q = apart_from b c p.right in
-    apart_to a c (record { left = p.left; right = q.right; apart = λ n i j. p.apart n i (In-right n b c j) })
+shorter a b c new = search (arith, apart_from, apart_to, In-right)
 
 -- with one more
 pub one_more : (xs zs : List ℕ) (n : ℕ) → are_new [] (xs ++ zs) ≡ true → (In n (xs ++ zs) → ⊥) → are_new [] ((xs ++ n ∷ []) ++ zs) ≡ true
@@ -131,14 +113,11 @@ one_more xs zs n new out = new_between xs (n ∷ []) zs new refl (λ k i. elim i
 
 find_step : (k n : ℕ) (x : MadeFile) (q r : Option MadeFile) (u v : Bool) → eqb x.ino n ≡ u → eqb x.ino k ≡ v → (k ≡ n → ⊥) → q ≡ r
     → cond (not u) (cond v (Some x) q) q ≡ cond v (Some x) r
-find_step k n x q r true true e f d h = absurd (d (sym (eqb-true x.ino k f) ∙ eqb-true x.ino n e))
-find_step k n x q r true false e f d h = h
-find_step k n x q r false v e f d h = ap (cond v (Some x)) h
+find_step k n x q r u v e f d h = search (arith, eqb-true)
 
 find-kept : (k : ℕ) (x : MadeFile) (xs : List MadeFile) (t : Bool)
     → find (is_of k) (cond t (x ∷ xs) xs) ≡ cond t (cond (eqb x.ino k) (Some x) (find (is_of k) xs)) (find (is_of k) xs)
-find-kept k x xs true = refl
-find-kept k x xs false = refl
+find-kept k x xs t = search arith
 
 -- each other file is found as before
 pub find-without_other : (k n : ℕ) (xs : List MadeFile) → (k ≡ n → ⊥) → find (is_of k) (filter (is_not_of n) xs) ≡ find (is_of k) xs
@@ -149,9 +128,7 @@ find-without_other k n (x ∷ xs) d =
 
 -- what stays is none of that number
 pub In-without : (n : ℕ) (x : MadeFile) (xs : List MadeFile) → In x (filter (is_not_of n) xs) → In x xs × (x.ino ≡ n → ⊥)
-In-without n x xs i =
-    let f = filter-In (is_not_of n) x xs i in
-    (f.0, λ e. false≢true (ap not (sym (eq-eqb x.ino n e)) ∙ f.1))
+In-without n x xs i = search (arith, filter-In, false≢true, eq-eqb)
 
 pub find-without_same : (n : ℕ) (xs : List MadeFile) → find (is_of n) (filter (is_not_of n) xs) ≡ None
 find-without_same n xs =
@@ -167,8 +144,7 @@ absent-find n xs none i =
 
 find-only_step : (n : ℕ) (x : MadeFile) (xs : List MadeFile) (t : Bool) → eqb x.ino n ≡ t → find (is_of n) (filter (is_of n) xs) ≡ find (is_of n) xs
     → find (is_of n) (cond t (x ∷ filter (is_of n) xs) (filter (is_of n) xs)) ≡ cond t (Some x) (find (is_of n) xs)
-find-only_step n x xs true e h = ap (λ v. cond v (Some x) (find (is_of n) (filter (is_of n) xs))) e
-find-only_step n x xs false e h = h
+find-only_step n x xs t e h = search arith
 
 -- among those of a number the first is the first of all
 pub find-only : (n : ℕ) (xs : List MadeFile) → find (is_of n) (filter (is_of n) xs) ≡ find (is_of n) xs
@@ -177,16 +153,7 @@ find-only n (x ∷ xs) = find-only_step n x xs (eqb x.ino n) refl (find-only n x
 
 -- each is of the number or isn't
 pub In-parted : (n k : ℕ) (xs : List MadeFile) → In k (map number_of xs) → In k (map number_of (filter (is_not_of n) xs)) ⊎ In k (map number_of (filter (is_of n) xs))
-In-parted n k xs i =
-    let q = map-In number_of k xs i in
-    elim (cases_eq q.0.ino n) [
-      | inl same ↦
-          inr (subst (λ j. In j (map number_of (filter (is_of n) xs))) (sym q.2) (In-map number_of q.0 (filter (is_of n) xs) (In-filter (is_of n) q.0 xs q.1 (eq-eqb q.0.ino n same))))
-      | inr d ↦
-          inl (subst (λ j. In j (map number_of (filter (is_not_of n) xs))) (sym q.2) (In-map number_of q.0 (filter (is_not_of n) xs) (In-filter (is_not_of n) q.0 xs q.1 (ap not (ne_eqb q.0.ino n d)))))
-    ]
+In-parted n k xs i = search (arith, map-In, cases_eq, In-map, In-filter, eq-eqb, ne_eqb)
 
 pub In-part : (p : MadeFile → Bool) (k : ℕ) (xs : List MadeFile) → In k (map number_of (filter p xs)) → In k (map number_of xs)
-In-part p k xs i =
-    let q = map-In number_of k (filter p xs) i in
-    subst (λ j. In j (map number_of xs)) (sym q.2) (In-map number_of q.0 xs (filter-In p q.0 xs q.1).0)
+In-part p k xs i = search (arith, map-In, In-map, filter-In)

@@ -121,9 +121,7 @@ module _ (desk : DeskSeen) (s : SessionSeen) (dir dir2 : ℕ) (place place2 : Pl
   page_moved = edits2.pages num pages_apart ∙ page_in-with_page_same num (with_part (256 * place.slot) (zeros 4) (page_in s.parcel num)) s.parcel whole.hand
 
   page2_moved : page_in moved_parcel p2.there.number ≡ with_part (256 * place2.slot) part2 (page_in s.parcel p2.there.number)
-  page2_moved =
-      page_in-with_page_same num2 (with_part (256 * place2.slot) part2 (page_in between num2)) between whole_between.hand
-      ∙ ap (with_part (256 * place2.slot) part2) page2_between
+  page2_moved = search (arith, page_in-with_page_same, whole_between, page2_between)
 
   pub moved_touches : Touches (λ k. In k (p.there.number ∷ p2.there.number ∷ [])) s.parcel moved_parcel
   moved_touches =
@@ -142,35 +140,25 @@ module _ (desk : DeskSeen) (s : SessionSeen) (dir dir2 : ℕ) (place place2 : Pl
   -- ---- what the slots say
 
   new_from_is : slot_bytes place.slot (with_part (256 * place.slot) (zeros 4) (page_in s.parcel p.there.number)) ≡ new_from
-  new_from_is =
-      ap (slot_bytes place.slot) (with_part-slot place.slot (zeros 4) (page_in s.parcel num) whole.whole p.there.slot short)
-      ∙ slot_bytes-written place.slot new_from (page_in s.parcel num) whole.whole p.there.slot (length-slot_with_part place.slot (zeros 4) (page_in s.parcel num) whole.whole p.there.slot short)
+  new_from_is = search (arith, with_part-slot, whole, short, slot_bytes-written, length-slot_with_part)
 
   pub empty_then : slot_of desk.sizes.inodes new_from ≡ Empty
-  empty_then =
-      ap (slot_of desk.sizes.inodes) (sym new_from_is)
-      ∙ sym (empty_value desk.sizes.inodes (slot_bytes place.slot (with_part (256 * place.slot) (zeros 4) (page_in s.parcel num))) (number-cleared (page_in s.parcel num) place.slot whole.whole p.there.slot))
+  empty_then = search (arith, new_from_is, empty_value, number-cleared, whole)
 
   new_to_sized : length new_to ≡ 256
   new_to_sized = length-slot_with_part place2.slot part2 (page_in s.parcel num2) whole2.whole p2.there.slot short2
 
   new_to_is : slot_bytes place2.slot (with_part (256 * place2.slot) part2 (page_in s.parcel p2.there.number)) ≡ new_to
-  new_to_is =
-      ap (slot_bytes place2.slot) (with_part-slot place2.slot part2 (page_in s.parcel num2) whole2.whole p2.there.slot short2)
-      ∙ slot_bytes-written place2.slot new_to (page_in s.parcel num2) whole2.whole p2.there.slot new_to_sized
+  new_to_is = search (arith, with_part-slot, whole2, whole, short2, slot_bytes-written, new_to_sized)
 
   entry_is : IsEntry every_number (slot_bytes place2.slot (with_part (256 * place2.slot) part2 (page_in s.parcel p2.there.number))) e2
   entry_is = entry-filled e2 body (page_in s.parcel num2) place2.slot whole2.whole p2.there.slot fits q.sized
 
   pub says_to : (inodes : ℕ) → entry_fits inodes e ≡ true → slot_of inodes new_to ≡ Entry (record { ino = e.ino; kind = kind; name = name })
-  says_to inodes f =
-      ap (slot_of inodes) (sym new_to_is)
-      ∙ sym (entry_value inodes (slot_bytes place2.slot (with_part (256 * place2.slot) part2 (page_in s.parcel num2))) e2 (record { spelled = entry_is.spelled; narrow = entry_is.narrow; fits = fits_named inodes f }))
+  says_to inodes f = search (arith, new_to_is, entry_value, entry_is, fits, fits_named)
 
   pub says_now : slot_of every_number (slot_bytes place2.slot (page_in moved_parcel p2.there.number)) ≡ Entry (record { ino = e.ino; kind = kind; name = name })
-  says_now =
-      ap (λ l. slot_of every_number (slot_bytes place2.slot l)) page2_moved
-      ∙ sym (entry_value every_number (slot_bytes place2.slot (with_part (256 * place2.slot) part2 (page_in s.parcel num2))) e2 entry_is)
+  says_now = search (arith, page2_moved, entry_value, entry_is)
 
   pub body_to : body_in_slot 0 new_to ≡ body
   body_to =
@@ -239,20 +227,10 @@ module _ (desk : DeskSeen) (s : SessionSeen) (dir dir2 : ℕ) (place place2 : Pl
     }
 
     pub writes_from : WritesSlot s moved_session dir p.there.number place.slot new_from
-    writes_from = record {
-      block = p.there.block;
-      below = p.there.slot;
-      sized = length-slot_with_part place.slot (zeros 4) (page_in s.parcel num) whole.whole p.there.slot short;
-      after = page_moved ∙ with_part-slot place.slot (zeros 4) (page_in s.parcel num) whole.whole p.there.slot short;
-    }
+    writes_from = search (arith, length-slot_with_part, whole, short, page_moved, with_part-slot)
 
     pub writes_to : WritesSlot s moved_session dir2 p2.there.number place2.slot new_to
-    writes_to = record {
-      block = p2.there.block;
-      below = p2.there.slot;
-      sized = new_to_sized;
-      after = page2_moved ∙ with_part-slot place2.slot part2 (page_in s.parcel num2) whole2.whole p2.there.slot short2;
-    }
+    writes_to = search (arith, new_to_sized, page2_moved, with_part-slot, whole2, whole, short2)
 
     -- each page that is written is a block of one of the two directories
     pub moved_within : (n : ℕ) → In n (p.there.number ∷ p2.there.number ∷ []) → (d : ℕ) × In d (dir ∷ dir2 ∷ []) × (open_kind s d ≡ Some Directory) × In n (chain_in s d).blocks

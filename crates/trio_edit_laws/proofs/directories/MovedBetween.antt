@@ -16,7 +16,6 @@ use Rattle.trio_desk.specs.Out.{ino_numbers}
 use Rattle.trio_session.specs.Layout.{cleared as cleared_slot, page_in}
 use Rattle.trio_session.specs.Seen.{MadeFile, SessionSeen, chain_in, clear, every_number, fill, is_allotted, made_file, open_kind, slots_shown}
 use Rattle.trio_session.proofs.SlotEdits.{map-page_in_else}
-use Rattle.trio_edit_laws.specs.Written.{MayEdit}
 use Rattle.trio_edit_laws.proofs.directories.Cleared.{clear_is, writes as clear_writes}
 use Rattle.trio_edit_laws.proofs.directories.Filled.{fill_at, filled_session}
 use Rattle.trio_edit_laws.proofs.directories.Mades.{find-without_other}
@@ -27,9 +26,6 @@ use Rattle.trio_edit_laws.proofs.directories.Stays.{WritesDirs, chain_else, open
 
 module _ (desk : DeskSeen) (s : SessionSeen) (dir dir2 : ℕ) (place place2 : Place) (e : EntryPart) (old name : List ℕ) (kind : Kind) (body : List ℕ)
     (q : MoveNeeds desk s dir dir2 place place2 e old name body) where
-  abbrev m : MayEdit desk s
-  m = q.entry.may
-
   abbrev from_place : IsNamedPlace s dir q.entry.opens place e old
   from_place = p desk s dir dir2 place place2 e old name kind body q
 

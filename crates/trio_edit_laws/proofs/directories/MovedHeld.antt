@@ -1,8 +1,7 @@
 -- An entry of a file that is held goes to another directory.
-use Rattle.std.proofs.Common.{◌≡◌, ℕ, false, eqb, List, [], ◌∷◌, ◌++◌, Option, Some, None, sym, refl, ap, ◌∙◌, subst, inl, inr}
+use Rattle.std.proofs.Common.{◌≡◌, ℕ, false, eqb, List, [], ◌∷◌, ◌++◌, Option, Some, None, sym, refl, ap, ◌∙◌, subst, inl, inr, arith}
 use Rattle.std.specs.Prelude.{map}
 use Rattle.std.specs.List.{filter}
-use Rattle.std.specs.Option.{option_map}
 use Rattle.std.proofs.lemmas.Bool.{eqb-true}
 use Rattle.std.proofs.lemmas.List.{append-nil}
 use Rattle.trio_rights.specs.Row.{Row}
@@ -20,7 +19,7 @@ use Rattle.trio_lease.specs.declared.parts.HoldParts.{HoldParts}
 use Rattle.trio_nodes.specs.Nodes.{Nodes, node_at}
 use Rattle.trio_desk.specs.Agrees.{HasRights}
 use Rattle.trio_desk.specs.Call.{DeskSeen}
-use Rattle.trio_desk.specs.Contents.{Rights, rights_in, rights_of}
+use Rattle.trio_desk.specs.Contents.{rights_in}
 use Rattle.trio_desk.specs.Out.{ino_numbers}
 use Rattle.trio_laws.specs.session.Sees.{IsView}
 use Rattle.trio_laws.specs.session.SlotEdits.{moved, naming_after, with_changed}
@@ -34,10 +33,10 @@ use Rattle.trio_edit_laws.proofs.directories.After.{OthersStay}
 use Rattle.trio_edit_laws.proofs.directories.Changes.{changes_by}
 use Rattle.trio_edit_laws.proofs.directories.Leaves.{has_slot, leaves_files, spare_same}
 use Rattle.trio_edit_laws.proofs.directories.Mades.{absent-find, filter-absent, filter-absent_none, number_of}
-use Rattle.trio_edit_laws.proofs.directories.Moved.{MoveNeeds, body_kept, body_to, from_has, moved_session, moved_within, moved_writes, new_to, p, p2, slot_kept, to_has}
+use Rattle.trio_edit_laws.proofs.directories.Moved.{MoveNeeds, body_kept, body_to, from_has, moved_session, moved_within, moved_writes, new_to, p, slot_kept, to_has}
 use Rattle.trio_edit_laws.proofs.directories.MovedNodes.{MovesFile, moved_turns, slot_to}
 use Rattle.trio_edit_laws.proofs.directories.MovedBetween.{move_at}
-use Rattle.trio_edit_laws.proofs.directories.Places.{IsEmptyPlace, IsNamedPlace}
+use Rattle.trio_edit_laws.proofs.directories.Places.{IsNamedPlace}
 use Rattle.trio_edit_laws.proofs.directories.Sees.{listed, listed_on, r}
 use Rattle.trio_edit_laws.proofs.directories.Stays.{EditsDirs, WritesDirs, body_else, chain_else, open_else, unlent_still}
 
@@ -50,14 +49,8 @@ module _ (desk : DeskSeen) (s : SessionSeen) (dir dir2 : ℕ) (place place2 : Pl
   abbrev from_place : IsNamedPlace s dir q.entry.opens place e old
   from_place = p desk s dir dir2 place place2 e old name kind body q
 
-  abbrev to_place : IsEmptyPlace s dir2 q.opens2 place2
-  to_place = p2 desk s dir dir2 place place2 e old name kind body q
-
   abbrev num : ℕ
   num = from_place.there.number
-
-  abbrev num2 : ℕ
-  num2 = to_place.there.number
 
   abbrev then' : SessionSeen
   then' = moved_session desk s dir dir2 place place2 e old name kind body q s.made s.cleared
@@ -129,9 +122,7 @@ module _ (desk : DeskSeen) (s : SessionSeen) (dir dir2 : ℕ) (place place2 : Pl
         (listed desk s dir (in_hand then') nodes nodes' rows m v q.entry.opens num place.slot e from_place.there.block from_place.there.slot from_place.says) old_number
 
     same_kind : h.kind ≡ e.kind
-    same_kind =
-        ap (λ (z : Rights). z.kind)
-        (some_one (option_map rights_of (node_at nodes e.ino)) (rights_in h.kind h.body) (rights_in e.kind (body_in_slot place.slot (page_in s.parcel num))) held_rights slot_rights)
+    same_kind = search (arith, some_one, held_rights, slot_rights)
 
     moves_file : MovesFile desk s dir dir2 place place2 e old name kind body q s.made s.cleared nodes nodes' rows v
     moves_file = record {

@@ -1,8 +1,8 @@
 -- An entry of a file that was made goes to another directory.
-use Rattle.std.proofs.Common.{◌≡◌, ℕ, true, cond, eqb, not, List, [], ◌∷◌, ◌++◌, append_assoc, Option, Some, None, sym, refl, ap, ◌∙◌, subst, inl, inr, ◌⊎◌}
+use Rattle.std.proofs.Common.{◌≡◌, ℕ, true, cond, eqb, not, List, [], ◌∷◌, ◌++◌, append_assoc, Option, Some, None, sym, refl, ap, ◌∙◌, subst, inl, inr, ◌⊎◌, arith}
 use Rattle.std.specs.Prelude.{is_some, map}
 use Rattle.std.specs.List.{filter, find, flat_map}
-use Rattle.std.specs.Option.{option_map, option_map_or, option_or}
+use Rattle.std.specs.Option.{option_map_or}
 use Rattle.std.proofs.lemmas.Bool.{cases_eq, eq-eqb, eqb-true}
 use Rattle.std.proofs.lemmas.List.{append-nil, map-append}
 use Rattle.std.proofs.lemmas.List.Concat.{flat_map-append}
@@ -19,16 +19,13 @@ use Rattle.trio_layout.specs.Chain.{Chain}
 use Rattle.trio_layout.specs.Slot.{slot_of}
 use Rattle.trio_layout.specs.Survey.{Met, met_in, plain}
 use Rattle.trio_auxdir.specs.declared.place.Place.{Place}
-use Rattle.trio_lease.specs.Shown.{Shown}
-use Rattle.trio_nodes.specs.Nodes.{Nodes, node_at}
-use Rattle.trio_desk.specs.Agrees.{HasRights}
+use Rattle.trio_nodes.specs.Nodes.{Nodes}
 use Rattle.trio_desk.specs.Call.{DeskSeen}
-use Rattle.trio_desk.specs.Contents.{rights_in}
 use Rattle.trio_desk.specs.Out.{ino_numbers}
 use Rattle.trio_laws.specs.session.Sees.{IsView}
-use Rattle.trio_laws.specs.session.SlotEdits.{moved, naming_after, with_changed}
+use Rattle.trio_laws.specs.session.SlotEdits.{moved, with_changed}
 use Rattle.trio_laws.proofs.session.SlotCases.{named_so}
-use Rattle.trio_session.specs.Seen.{MadeFile, SessionSeen, body_in, chain_in, clear, every_number, fill, in_hand, made_body, made_file, no_chain, open_kind, written_file}
+use Rattle.trio_session.specs.Seen.{MadeFile, SessionSeen, body_in, chain_in, clear, every_number, fill, in_hand, made_body, made_file, no_chain, open_kind}
 use Rattle.trio_edit_laws.specs.DirLaws.{Changes, LeavesMoved, StaysTree}
 use Rattle.trio_edit_laws.specs.Written.{IsUnlent, IsInSlot, MayEdit, chained, made_met}
 use Rattle.trio_edit_laws.proofs.Anew.{body-made}
@@ -107,20 +104,10 @@ module _ (desk : DeskSeen) (s : SessionSeen) (dir dir2 : ℕ) (place place2 : Pl
       ∙ append-nil s.cleared
 
   chain_found : option_map_or (λ (y : MadeFile). y.chain) (find (is_of e.ino) (s.cleared ++ filter (λ (y : MadeFile). eqb y.ino e.ino) s.made)) no_chain ≡ x.chain
-  chain_found =
-      ap (λ o. option_map_or (λ (y : MadeFile). y.chain) o no_chain)
-      (ap (λ l. find (is_of e.ino) (s.cleared ++ l)) q2.only
-      ∙ find-append (is_of e.ino) s.cleared (x ∷ [])
-      ∙ ap (λ o. option_or o (find (is_of e.ino) (x ∷ []))) (find-absent e.ino s.cleared uncleared)
-      ∙ ap (λ t. cond t (Some x) None) (eq-eqb x.ino e.ino at.1))
+  chain_found = search (arith, q2, find-append, find-absent, uncleared, eq-eqb, at)
 
   move_is : fill dir2 name e.ino kind body (clear dir old s) ≡ then'
-  move_is =
-      let with_it : Chain → List MadeFile → SessionSeen =
-      λ c l. moved_session desk s dir dir2 place place2 e old name kind body q (rest ++ record { ino = e.ino; kind = kind; page = num2; slot = place2.slot; chain = c } ∷ []) l in
-      move_at desk s dir dir2 place place2 e old name kind body q true (In-is_among e.ino (ino_numbers s.parcel.inodes) allotted)
-      ∙ ap (λ c. with_it c (filter (λ (y : MadeFile). not (eqb y.ino e.ino)) (s.cleared ++ filter (λ (y : MadeFile). eqb y.ino e.ino) s.made))) chain_found
-      ∙ ap (with_it x.chain) cleared_then
+  move_is = search (arith, move_at, In-is_among, allotted, chain_found, cleared_then)
 
   -- ---- files
 
@@ -138,11 +125,7 @@ module _ (desk : DeskSeen) (s : SessionSeen) (dir dir2 : ℕ) (place place2 : Pl
   ]
 
   open_placed : (k' : Kind) → open_kind s e.ino ≡ Some k' → open_kind then' e.ino ≡ Some k'
-  open_placed k' o =
-      let was : Some x.kind ≡ Some k' =
-      sym (ap (λ z. option_or (option_map (λ (y : MadeFile). y.kind) z) (option_map (λ (f : Shown). f.kind) (written_file s e.ino))) found) ∙ o in
-      ap (λ z. option_or (option_map (λ (y : MadeFile). y.kind) z) (option_map (λ (f : Shown). f.kind) (written_file then' e.ino))) found_now
-      ∙ ap Some kind_is ∙ was
+  open_placed k' o = search (arith, found_now)
 
   chain_placed : chain_in then' e.ino ≡ chain_in s e.ino
   chain_placed = chain-made then' e.ino placed found_now ∙ sym (chain-made s e.ino x found)
@@ -172,11 +155,7 @@ module _ (desk : DeskSeen) (s : SessionSeen) (dir dir2 : ℕ) (place place2 : Pl
   open_was : (k : ℕ) (kind' : Kind) → open_kind then' k ≡ Some kind' → open_kind s k ≡ Some kind'
   open_was k kind' o = elim (cases_eq k e.ino) [
     | inr d ↦ sym (open_else s then' writes k (found_else k d)) ∙ o
-    | inl same ↦
-        let was : open_kind s e.ino ≡ Some x.kind =
-        ap (λ z. option_or (option_map (λ (y : MadeFile). y.kind) z) (option_map (λ (f : Shown). f.kind) (written_file s e.ino))) found in
-        let is : Some x.kind ≡ Some kind' = sym (open_placed x.kind was) ∙ ap (open_kind then') (sym same) ∙ o in
-        ap (open_kind s) same ∙ was ∙ is
+    | inl same ↦ search (arith, open_placed)
   ]
 
   slots_then : (y : MadeFile) → In y then'.made → IsInSlot then' y
@@ -242,9 +221,7 @@ module _ (desk : DeskSeen) (s : SessionSeen) (dir dir2 : ℕ) (place place2 : Pl
   numbers_then =
       let front : List ℕ = map number_of q2.before in
       let back : List ℕ = map number_of q2.after ++ map number_of s.cleared in
-      let was : map number_of (s.made ++ s.cleared) ≡ front ++ ((x.ino ∷ []) ++ back) =
-      ap (λ l. map number_of (l ++ s.cleared)) q2.are ∙ map-append number_of (q2.before ++ x ∷ q2.after) s.cleared
-      ∙ ap (λ l. l ++ map number_of s.cleared) (map-append number_of q2.before (x ∷ q2.after)) ∙ append_assoc front (x.ino ∷ map number_of q2.after) (map number_of s.cleared) in
+      let was : map number_of (s.made ++ s.cleared) ≡ front ++ ((x.ino ∷ []) ++ back) = search (arith, q2, map-append, append_assoc) in
       let fewer : are_new [] (map number_of rest ++ map number_of s.cleared) ≡ true =
       ap (λ l. are_new [] (map number_of l ++ map number_of s.cleared)) q2.rest
       ∙ ap (λ l. are_new [] (l ++ map number_of s.cleared)) (map-append number_of q2.before q2.after)
@@ -277,10 +254,7 @@ module _ (desk : DeskSeen) (s : SessionSeen) (dir dir2 : ℕ) (place place2 : Pl
   }
 
   others : OthersStay s then' e.ino
-  others = record {
-    made = λ y i d. elim (kept_or y i) [ inl j ↦ (j.0, body_kept desk s dir dir2 place place2 e old name kind body q y j.0 j.1) | inr same ↦ absurd (d (ap number_of same)) ];
-    found = found_else;
-  }
+  others = search (arith, kept_or, body_kept, found_else)
 
   -- ---- what is shown
 
@@ -302,10 +276,7 @@ module _ (desk : DeskSeen) (s : SessionSeen) (dir dir2 : ℕ) (place place2 : Pl
               (d, (allotted, ap (made_met then' d) is ∙ ap as_met (body_now desk s dir dir2 place place2 e old name kind body q ∙ sym (body_to desk s dir dir2 place place2 e old name kind body q))))
         ];
         made = λ y is. ap (λ (z : Met). is_some (made_file then' z.ino)) is.1 ∙ ap is_some found_now;
-        rights =
-            λ g is old'. named_so (naming_after (slot_to desk s dir dir2 place place2 e old name kind body q (rest ++ placed ∷ []) s.cleared nodes nodes' rows v) (record { ino = e.ino; kind = kind; name = name }))
-            (λ z. (In z.listed.entry.ino (ino_numbers s.parcel.inodes) → ⊥) → HasRights (rights_in z.listed.entry.kind z.listed.body) (node_at nodes z.listed.entry.ino))
-            (λ out. absurd (out allotted)) g is old';
+        rights = search (arith, named_so, allotted);
       };
     }
 
@@ -321,17 +292,12 @@ module _ (desk : DeskSeen) (s : SessionSeen) (dir dir2 : ℕ) (place place2 : Pl
   -- ---- what is left
 
   open_now : open_kind then' e.ino ≡ open_kind s e.ino
-  open_now =
-      let was : open_kind s e.ino ≡ Some x.kind =
-      ap (λ z. option_or (option_map (λ (y : MadeFile). y.kind) z) (option_map (λ (f : Shown). f.kind) (written_file s e.ino))) found in
-      open_placed x.kind was ∙ sym was
+  open_now = search (arith, open_placed)
 
   -- the same numbers are used
   used_then : (k : ℕ) → In k (map number_of (then'.made ++ s.cleared)) → In k (map number_of (s.made ++ s.cleared))
   used_then k i =
-      let back : In k (map number_of s.made) ⊎ In k (map number_of s.cleared) → In k (map number_of (s.made ++ s.cleared)) =
-      λ j. subst (λ l. In k l) (sym (map-append number_of s.made s.cleared))
-      (elim j [ inl l ↦ In-left k (map number_of s.made) (map number_of s.cleared) l | inr l ↦ In-right k (map number_of s.made) (map number_of s.cleared) l ]) in
+      let back : In k (map number_of s.made) ⊎ In k (map number_of s.cleared) → In k (map number_of (s.made ++ s.cleared)) = search (arith, map-append, In-left, In-right) in
       elim (In-cases k (map number_of then'.made) (map number_of s.cleared) (subst (λ l. In k l) (map-append number_of then'.made s.cleared) i)) [
         | inr j ↦ back (inr j)
         | inl j ↦
@@ -344,9 +310,7 @@ module _ (desk : DeskSeen) (s : SessionSeen) (dir dir2 : ℕ) (place place2 : Pl
 
   used_now : (k : ℕ) → In k (map number_of (s.made ++ s.cleared)) → In k (map number_of (then'.made ++ s.cleared))
   used_now k i =
-      let there : In k (map number_of then'.made) ⊎ In k (map number_of s.cleared) → In k (map number_of (then'.made ++ s.cleared)) =
-      λ j. subst (λ l. In k l) (sym (map-append number_of then'.made s.cleared))
-      (elim j [ inl l ↦ In-left k (map number_of then'.made) (map number_of s.cleared) l | inr l ↦ In-right k (map number_of then'.made) (map number_of s.cleared) l ]) in
+      let there : In k (map number_of then'.made) ⊎ In k (map number_of s.cleared) → In k (map number_of (then'.made ++ s.cleared)) = search (arith, map-append, In-left, In-right) in
       let put : In k (map number_of rest) ⊎ (k ≡ e.ino) → In k (map number_of then'.made) = λ j. subst (λ l. In k l) (sym (map-append number_of rest (placed ∷ [])))
       (elim j [ inl l ↦ In-left k (map number_of rest) (e.ino ∷ []) l | inr l ↦ In-right k (map number_of rest) (e.ino ∷ []) (inl l) ]) in
       elim (In-cases k (map number_of s.made) (map number_of s.cleared) (subst (λ l. In k l) (map-append number_of s.made s.cleared) i)) [

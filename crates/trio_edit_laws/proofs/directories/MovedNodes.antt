@@ -1,5 +1,5 @@
 -- What an entry that goes to another directory shows, whether its file was made or is held.
-use Rattle.std.proofs.Common.{◌≡◌, ℕ, true, List, [], ◌∷◌, Option, Some, sym, refl, ap, ◌∙◌, subst, inl, inr}
+use Rattle.std.proofs.Common.{◌≡◌, ℕ, true, List, [], ◌∷◌, Option, Some, sym, ap, ◌∙◌, subst, arith}
 use Rattle.trio_rights.specs.Row.{Row}
 use Rattle.trio_rights.specs.declared.kind.Kind.{Kind}
 use Rattle.trio_lists.specs.Lists.{are_new}
@@ -87,10 +87,7 @@ module _ (desk : DeskSeen) (s : SessionSeen) (dir dir2 : ℕ) (place place2 : Pl
     number_to = (r desk s dir2 (in_hand then') nodes nodes' rows m v q.opens2).is.number
 
     apart : are_new [] (slot_from.directory.ino ∷ slot_to.directory.ino ∷ []) ≡ true
-    apart =
-        ap (λ a. are_new [] (a ∷ slot_to.directory.ino ∷ [])) number_from
-        ∙ ap (λ b. are_new [] (dir ∷ b ∷ [])) number_to
-        ∙ one_more (dir ∷ []) [] dir2 refl (λ i. elim i [ inl same ↦ q.differ (sym same) | inr none ↦ none ])
+    apart = search (arith, number_from, number_to, one_more)
 
     are : AreSlotWrites desk (in_hand s) (in_hand then') (slot_from ∷ slot_to ∷ [])
     are = record {
@@ -124,18 +121,7 @@ module _ (desk : DeskSeen) (s : SessionSeen) (dir dir2 : ℕ) (place place2 : Pl
       pub listed : IsListedThen desk s then' e.ino nodes (Some (naming_after slot_to now))
 
     is_move : MovesFile → IsMove desk (in_hand s) (in_hand then') slot_from slot_to e now
-    is_move f = record {
-      writes = are;
-      before = says_before;
-      after = empty_then desk s dir dir2 place place2 e old name kind body q;
-      before_to = empty_before;
-      after_to =
-          says_to desk s dir dir2 place place2 e old name kind body q desk.sizes.inodes (fits_from desk.sizes.inodes (slot_bytes place.slot (page_in s.parcel num)) e says_before);
-      number = refl;
-      kind = f.kind_is;
-      body = f.takes;
-      name = λ l i same. free_name desk s dir2 (in_hand then') nodes nodes' rows m v q.opens2 name q.free2 l i same;
-    }
+    is_move f = search (arith, are, says_before, empty_then, empty_before, says_to, fits_from, free_name)
 
     pub moved_turns : MovesFile → StaysTree desk s then' (with_changed e.ino (moved dir2 name))
         → Turns desk s then' e.ino nodes nodes' rows (with_changed e.ino (moved dir2 name))

@@ -1,5 +1,5 @@
 -- An entry goes to another directory, of a file that was made or is held.
-use Rattle.std.proofs.Common.{◌≡◌, ◌≢◌, ℕ, true, eqb, List, length, None, Some, sym, ap, ◌∙◌}
+use Rattle.std.proofs.Common.{◌≡◌, ◌≢◌, ℕ, true, eqb, List, length, None, Some, sym, ap, ◌∙◌, arith}
 use Rattle.std.specs.Option.{option_map, option_or}
 use Rattle.trio_names.specs.Name.{is_name}
 use Rattle.trio_lists.proofs.Filters.{find-In}
@@ -36,19 +36,7 @@ needs : (desk : DeskSeen) (s : SessionSeen) (dir dir2 : ℕ) (place place2 : Pla
     → place_shown s dir old ≡ Some place → entry_shown s dir place ≡ Some e
     → empty_shown s dir2 ≡ Some place2 → place_shown s dir2 new ≡ None → is_name new ≡ true → IsMoved s e.ino kind body
     → MoveNeeds desk s dir dir2 place place2 e old new body
-needs desk s dir dir2 place place2 e old new kind body m open_dir open_dir2 differ other found shown empty2 free2 is moves = record {
-  entry = record { may = m; opens = open_dir.directory; found = found; shown = shown };
-  opens2 = open_dir2.directory;
-  differ = differ;
-  other = other;
-  empty2 = empty2;
-  free2 = free2;
-  name = is;
-  sized = elim moves [
-    | AsMade x made kind_is body_is ↦ ap (λ (l : List ℕ). length l) body_is ∙ made_sized desk s e.ino x m made
-    | AsHeld h unmade old_number held kind_is body_is ↦ ap (λ (l : List ℕ). length l) body_is ∙ held_sized desk s e.ino h m held
-  ];
-}
+needs desk s dir dir2 place place2 e old new kind body m open_dir open_dir2 differ other found shown empty2 free2 is moves = search (arith, made_sized, held_sized)
 
 pub move_shows : MoveShows
 move_shows desk s dir dir2 place place2 e old new kind body m open_dir open_dir2 differ other found shown empty2 free2 is moves tree =

@@ -45,16 +45,7 @@ module _ (s : SessionSeen) (dir : ℕ) (o : open_kind s dir ≡ Some Directory) 
   pages = map (page_in s.parcel) (chain_in s dir).blocks
 
   place_there : (i : ℕ) → i / 16 < length (map (page_in s.parcel) (chain_in s dir).blocks) → IsPlace s dir (place_at i)
-  place_there i lt =
-      let lt' : i / 16 < length blocks = omega (arith, lt, length-map blocks (page_in s.parcel)) in
-      let at : slice_get blocks (i / 16) ≡ Some (get_or blocks (i / 16) 0) = slice_get-get_or blocks (i / 16) 0 lt' in
-      record {
-        number = get_or blocks (i / 16) 0;
-        at = at;
-        block = slice_get-In blocks (i / 16) (get_or blocks (i / 16) 0) at;
-        slot = omega arith;
-        is = refl;
-      }
+  place_there i lt = search (arith, length-map, slice_get-get_or, slice_get-In)
 
   page_there : (place : Place) → (p : IsPlace s dir place) → get_or (map (page_in s.parcel) (chain_in s dir).blocks) place.block [] ≡ page_in s.parcel p.number
   page_there place p =
@@ -72,9 +63,7 @@ module _ (s : SessionSeen) (dir : ℕ) (o : open_kind s dir ≡ Some Directory) 
   later_none : (name : List ℕ) (slots : List (Option (List ℕ))) (i : ℕ) (q : Option ℕ) → ((j : ℕ) → first_slot is_none slots ≡ Some j → slice_get slots j ≡ Some None)
       → first_slot is_none slots ≡ q
       → option_map suc q ≡ Some i → slice_get (Some name ∷ slots) i ≡ Some None
-  later_none name slots i None later f k = absurd (let t : None ≡ Some i = k in cc t)
-  later_none name slots i (Some j) later f k =
-      (let t : Some (suc j) ≡ Some i = k in let z : suc j ≡ i = cc t in subst (λ n. slice_get (Some name ∷ slots) n ≡ Some None) z (later j f))
+  later_none name slots i q later f k = search arith
 
   first_none : (slots : List (Option (List ℕ))) (i : ℕ) → first_slot is_none slots ≡ Some i → slice_get slots i ≡ Some None
   first_none [] i e = absurd (let t : None ≡ Some i = e in cc t)
@@ -82,9 +71,7 @@ module _ (s : SessionSeen) (dir : ℕ) (o : open_kind s dir ≡ Some Directory) 
   first_none (Some name ∷ slots) i e = later_none name slots i (first_slot is_none slots) (first_none slots) refl e
 
   no_part : (q : Option (Option EntryPart)) → option_map name_of_part q ≡ Some None → q ≡ Some None
-  no_part None h = absurd (let t : None ≡ Some None = h in cc t)
-  no_part (Some None) h = refl
-  no_part (Some (Some e)) h = absurd (let t : Some (Some e.name) ≡ Some None = h in cc t)
+  no_part q h = search arith
 
   empty_at : (i : ℕ) → first_slot is_none (slots_shown s dir) ≡ Some i → IsEmptyPlace (place_at i)
   empty_at i e =
@@ -144,12 +131,7 @@ module _ (s : SessionSeen) (dir : ℕ) (o : open_kind s dir ≡ Some Directory) 
           subst (λ p. IsNamedPlace p e name) z (named_at i e name f (subst (λ p. entry_shown s dir p ≡ Some e) (sym z) shown))
 
   no_name : (name : List ℕ) → place_shown s dir name ≡ None → slot_with name (slots_of every_number (map (page_in s.parcel) (chain_in s dir).blocks)) ≡ None
-  no_name name none =
-      by (slot_with name (slots_of every_number pages)) refl (ap (λ l. option_map place_at (slot_with name l)) (sym slots_are) ∙ sym (place_open s dir o name) ∙ none)
-    where
-      by : (q : Option ℕ) → slot_with name (slots_of every_number pages) ≡ q → option_map place_at q ≡ None → slot_with name (slots_of every_number pages) ≡ None
-      by None f k = f
-      by (Some i) f k = absurd (let t : Some (place_at i) ≡ None = k in cc t)
+  no_name name none = search (arith, slots_are, place_open)
 
 -- no entry that the directory reads has a name that it hasn't
 pub free_name : (desk : DeskSeen) (s : SessionSeen) (dir : ℕ) (h' : InHand) (nodes nodes' : Nodes) (rows : List (Option Row)) → (m : MayEdit desk s)

@@ -1,7 +1,6 @@
 -- An entry of a directory gets another name.
 use Rattle.std.proofs.Common.{◌≡◌, ℕ, ◌*◌, ◌≤◌, true, ltb, leb, ◌&&◌, List, [], ◌∷◌, length, Option, Some, None, sym, refl, ap, ◌∙◌, subst, inl, inr, arith}
 use Rattle.std.specs.Prelude.{is_some}
-use Rattle.std.specs.Option.{option_map_or}
 use Rattle.std.proofs.lemmas.Bool.{and_from, and_parts}
 use Rattle.trio_names.specs.Name.{is_name}
 use Rattle.trio_page.specs.Field.{with_part}
@@ -22,11 +21,11 @@ use Rattle.trio_desk.specs.Call.{DeskSeen}
 use Rattle.trio_desk.specs.Contents.{rights_in}
 use Rattle.trio_desk.specs.Out.{ino_numbers}
 use Rattle.trio_laws.specs.session.Sees.{IsView}
-use Rattle.trio_laws.specs.session.SlotEdits.{AreSlotWrites, IsRetitle, IsSlotWrite, SlotWrite, naming_after, retitled as node_retitled, with_changed}
+use Rattle.trio_laws.specs.session.SlotEdits.{AreSlotWrites, IsRetitle, SlotWrite, naming_after, retitled as node_retitled, with_changed}
 use Rattle.trio_laws.proofs.session.FilesRenamed.{after_retitle, retitle_shows as law}
-use Rattle.trio_laws.proofs.session.SlotCases.{named_so, only}
+use Rattle.trio_laws.proofs.session.SlotCases.{named_so}
 use Rattle.trio_session.specs.Layout.{page_in, retitled}
-use Rattle.trio_session.specs.Seen.{MadeFile, SessionSeen, block_number, chain_in, entry_in, entry_shown, every_number, in_hand, made_body, made_file, open_kind, place_shown, renamed, retitle}
+use Rattle.trio_session.specs.Seen.{MadeFile, SessionSeen, chain_in, entry_in, entry_shown, every_number, in_hand, made_body, made_file, open_kind, place_shown, retitle}
 use Rattle.trio_session.proofs.SlotBytes.{entry-retitled, length-entry_bytes}
 use Rattle.trio_session.proofs.SlotEdits.{body-else, body-retitled, slot_bytes-else}
 use Rattle.trio_edit_laws.specs.DirLaws.{Changes, HasSlot, LeavesFiles, LeavesRetitled, RetitleLeaves, RetitleShows, StaysTree}
@@ -38,8 +37,8 @@ use Rattle.trio_edit_laws.proofs.directories.Fronts.{at_slot_or, fits_from, fron
 use Rattle.trio_edit_laws.proofs.directories.Leaves.{block_at, blocks_edited, has_slot, leaves_files, spare_same}
 use Rattle.trio_edit_laws.proofs.directories.Places.{IsNamedPlace, free_name, named_place}
 use Rattle.trio_edit_laws.proofs.directories.Sees.{entry_made, listed, listed_on, r, slot_wide}
-use Rattle.trio_edit_laws.proofs.directories.Stays.{EditsDirs, WritesDirs, body_else, chain_else, core_same, open_else, reads_same, unlent_still}
-use Rattle.trio_edit_laws.proofs.directories.Writes.{WritesSlot, slot_write, write_of}
+use Rattle.trio_edit_laws.proofs.directories.Stays.{EditsDirs, WritesDirs, body_else, chain_else, open_else, unlent_still}
+use Rattle.trio_edit_laws.proofs.directories.Writes.{WritesSlot, write_of, slot_writes}
 
 -- what a retitle is given
 pub record RetitleNeeds (desk : DeskSeen) (s : SessionSeen) (dir' : ℕ) (place' : Place) (e' : EntryPart) (old' new' : List ℕ) : Type 0 where
@@ -75,10 +74,7 @@ module _ (desk : DeskSeen) (s : SessionSeen) (dir : ℕ) (place : Place) (e : En
 
   retitle_is : retitle dir old name s ≡ record s { parcel = retitled p.there.number place.slot (record e { name = name }) s.parcel }
   unfolding retitle
-  retitle_is =
-      ap (λ o. option_map_or (λ (pl : Place). option_map_or (λ x. record s { parcel = retitled (block_number s dir pl.block) pl.slot (renamed name x) s.parcel }) (entry_shown s dir pl) s) o s) q.found
-      ∙ ap (λ o. option_map_or (λ x. record s { parcel = retitled (block_number s dir place.block) place.slot (renamed name x) s.parcel }) o s) q.shown
-      ∙ ap (λ k. record s { parcel = retitled k place.slot (record e { name = name }) s.parcel }) p.there.is
+  retitle_is = search (arith, p)
 
   -- ---- the slot
 
@@ -108,9 +104,7 @@ module _ (desk : DeskSeen) (s : SessionSeen) (dir : ℕ) (place : Place) (e : En
   entry_is = entry-retitled now page slot whole p.there.slot fits
 
   says_of : (inodes : ℕ) → entry_fits inodes (record e { name = name }) ≡ true → slot_of inodes new ≡ Entry now
-  says_of inodes f =
-      ap (slot_of inodes) (sym (front_is desk s dir num slot (entry_bytes now) s.made s.cleared m q.opens p.there.block p.there.slot short))
-      ∙ sym (entry_value inodes (slot_bytes slot (with_part (256 * slot) (entry_bytes now) page)) now (record { spelled = entry_is.spelled; narrow = entry_is.narrow; fits = f }))
+  says_of inodes f = search (arith, front_is, p, short, entry_value, entry_is, fits)
 
   says_now : slot_of every_number (slot_bytes slot (page_in then'.parcel p.there.number)) ≡ Entry now
   says_now = ap (slot_of every_number) (front_then desk s dir num slot (entry_bytes now) s.made s.cleared m q.opens p.there.block p.there.slot short) ∙ says_of every_number fits
@@ -128,12 +122,7 @@ module _ (desk : DeskSeen) (s : SessionSeen) (dir : ℕ) (place : Place) (e : En
   body_same y i = elim (at_slot_or y num place.slot) [
     | inr apart ↦
         body-else s.parcel then'.parcel num slot y.page y.slot (front_edits desk s dir num slot (entry_bytes now) s.made s.cleared m q.opens p.there.block p.there.slot short) apart
-    | inl here ↦
-        ap (λ k. body_in_slot y.slot (page_in then'.parcel k)) here.page
-        ∙ ap (λ k. body_in_slot k (page_in then'.parcel num)) here.slot
-        ∙ body_kept
-        ∙ ap (λ k. body_in_slot k (page_in s.parcel num)) (sym here.slot)
-        ∙ ap (λ k. body_in_slot y.slot (page_in s.parcel k)) (sym here.page)
+    | inl here ↦ search (arith, body_kept)
   ]
 
   slots_then : (y : MadeFile) → In y s.made → IsInSlot then' y
@@ -154,9 +143,7 @@ module _ (desk : DeskSeen) (s : SessionSeen) (dir : ℕ) (place : Place) (e : En
           kind = a.kind;
         }
         | inl here ↦
-            let was : Entry a.entry ≡ Entry e =
-            sym a.says ∙ ap (λ k. slot_of every_number (slot_bytes y.slot (page_in s.parcel k))) here.page
-            ∙ ap (λ k. slot_of every_number (slot_bytes k (page_in s.parcel num))) here.slot ∙ p.says in
+            let was : Entry a.entry ≡ Entry e = search (arith, p) in
             let same : a.entry ≡ e = cc was in
             record {
               directory = a.directory;
@@ -164,10 +151,7 @@ module _ (desk : DeskSeen) (s : SessionSeen) (dir : ℕ) (place : Place) (e : En
               block = block;
               slot = a.slot;
               entry = now;
-              says =
-                  ap (λ k. slot_of every_number (slot_bytes y.slot (page_in then'.parcel k))) here.page
-                  ∙ ap (λ k. slot_of every_number (slot_bytes k (page_in then'.parcel num))) here.slot
-                  ∙ says_now;
+              says = search (arith, says_now);
               number = ap (λ (z : EntryPart). z.ino) (sym same) ∙ a.number;
               kind = ap (λ (z : EntryPart). z.kind) (sym same) ∙ a.kind;
             }
@@ -203,28 +187,10 @@ module _ (desk : DeskSeen) (s : SessionSeen) (dir : ℕ) (place : Place) (e : En
     says_before = sym (slot_wide desk s dir (in_hand then') nodes nodes' rows m v q.opens num slot p.there.block p.there.slot) ∙ p.says
 
     are : AreSlotWrites desk (in_hand s) (in_hand then') (write_of desk s then' dir num slot new m writes q.opens slot_then nodes nodes' rows v ∷ [])
-    are = record {
-      each = λ y i. only w (IsSlotWrite desk (in_hand s) (in_hand then')) (slot_write desk s then' dir num slot new m writes q.opens slot_then nodes nodes' rows v) y i;
-      once = refl;
-      bytes = λ k out. core_same desk s then' m writes k out;
-      files = writes.touches.files;
-      pages = writes.touches.pages;
-      lent = writes.touches.lent;
-      holds = writes.touches.holds;
-      inodes = writes.touches.inodes;
-      back = reads_same s then' writes;
-    }
+    are = slot_writes desk s then' dir num slot new m writes q.opens slot_then nodes nodes' rows v refl
 
     is_retitle : IsRetitle desk (in_hand s) (in_hand then') (write_of desk s then' dir num slot new m writes q.opens slot_then nodes nodes' rows v) e now
-    is_retitle = record {
-      writes = are;
-      before = says_before;
-      after = says_of desk.sizes.inodes (fits_named desk.sizes.inodes (fits_from desk.sizes.inodes (slot_bytes slot page) e says_before));
-      number = refl;
-      kind = refl;
-      body = body_new;
-      name = λ l i same. free_name desk s dir (in_hand then') nodes nodes' rows m v q.opens name q.free l i same;
-    }
+    is_retitle = search (arith, are, says_before, says_of, fits_named, fits_from, body_new, free_name)
 
     was_listed : In (listed_on s num slot e) (r desk s dir (in_hand then') nodes nodes' rows m v q.opens).file.entries
     was_listed = listed desk s dir (in_hand then') nodes nodes' rows m v q.opens num slot e p.there.block p.there.slot p.says
@@ -274,10 +240,7 @@ module _ (desk : DeskSeen) (s : SessionSeen) (dir : ℕ) (place : Place) (e : En
     writes = writes;
     found = λ k d. refl;
     bodies = λ y i d. body_same y i;
-    within = λ k i. elim i [
-      | inl same ↦ (dir, inl refl, q.opens, subst (λ j. In j (chain_in s dir).blocks) (sym same) p.there.block)
-      | inr none ↦ absurd none
-    ];
+    within = search (arith, p);
   })
 
   slot_has : HasSlot s then' dir place (Some (record e { name = name }))
@@ -288,9 +251,7 @@ module _ (desk : DeskSeen) (s : SessionSeen) (dir : ℕ) (place : Place) (e : En
       (block_at desk s dir place m q.opens p.there) (ap entry_in says_now))
 
   pub retitle_left : LeavesRetitled s (retitle dir old name s) dir place (record e { name = name })
-  retitle_left =
-      subst (λ y. LeavesRetitled s y dir place (record e { name = name })) (sym retitle_is)
-      (record { files = left; slot = slot_has; numbers = spare_same s then' writes.touches.inodes (λ k i. i) (λ k i. i) })
+  retitle_left = search (arith, retitle_is, left, slot_has, spare_same)
 
 pub retitle_shows : RetitleShows
 retitle_shows desk s dir place e old new m open_dir found shown free is tree =

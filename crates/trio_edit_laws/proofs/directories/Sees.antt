@@ -1,7 +1,7 @@
 -- What a session sees of a directory that it has open, by the entries that this reads.
-use Rattle.std.proofs.Common.{◌≡◌, ℕ, ◌/◌, ◌%◌, ◌<◌, true, cond, List, [], length, get_or, Option, Some, None, Ok, sym, refl, ap, ◌∙◌, subst, inl, inr}
+use Rattle.std.proofs.Common.{◌≡◌, ℕ, ◌/◌, ◌%◌, ◌<◌, true, cond, List, [], length, get_or, Option, Some, None, Ok, sym, refl, ap, ◌∙◌, subst, inl, inr, arith}
 use Rattle.std.specs.Prelude.{is_some, map, slice_get}
-use Rattle.std.specs.List.{filter, find}
+use Rattle.std.specs.List.{find}
 use Rattle.std.specs.Option.{option_and_then, option_map, option_map_or, option_or}
 use Rattle.std.specs.Str.{bytes_eq}
 use Rattle.std.proofs.lemmas.List.{length-map}
@@ -12,7 +12,6 @@ use Rattle.trio_rights.specs.declared.kind.Kind.{Kind}
 use Rattle.trio_rights.specs.declared.rights.Mode.{Mode}
 use Rattle.trio_rights.specs.declared.kind.Kind.TheVariants.{Directory}
 use Rattle.trio_lists.specs.Lists.{In, gathered, gathered_below}
-use Rattle.trio_lists.specs.Sorting.{sorted_by_name}
 use Rattle.trio_lists.proofs.Members.{In-right, result_then-Ok}
 use Rattle.trio_layout.specs.Chain.{Chain}
 use Rattle.trio_layout.specs.Core.{Core, page_of}
@@ -23,14 +22,14 @@ use Rattle.trio_layout.specs.Survey.{Met, met_in, plain}
 use Rattle.trio_layout.specs.Within.{entries_where, entries_within}
 use Rattle.trio_layout.specs.declared.slot.EntryPart.{EntryPart}
 use Rattle.trio_layout.specs.declared.slot.SlotRead.{SlotRead}
-use Rattle.trio_layout.specs.declared.slot.SlotRead.TheVariants.{Empty, Entry, Bad}
+use Rattle.trio_layout.specs.declared.slot.SlotRead.TheVariants.{Entry, Bad}
 use Rattle.trio_layout.proofs.WithinCore.{within_from}
 use Rattle.trio_auxdir.specs.declared.place.Place.{Place}
 use Rattle.trio_auxdir.specs.Places.{place_at, place_of as place_at_name}
 use Rattle.trio_auxdir.specs.Slots.{slot_with, slots_of}
 use Rattle.trio_lease.specs.Shown.{Shown, LentFile, page_at}
 use Rattle.trio_nodes.specs.declared.node.Node.{Node}
-use Rattle.trio_nodes.specs.Nodes.{Nodes, count_in, entry_name, find_named, names_in, node_at}
+use Rattle.trio_nodes.specs.Nodes.{Nodes, count_in, find_named, names_in, node_at}
 use Rattle.trio_surveys.proofs.Sheets.{among_cases}
 use Rattle.trio_surveys.proofs.Places.{below_has, gathered_has}
 use Rattle.trio_desk.specs.Agrees.{HasRights}
@@ -63,9 +62,7 @@ use Rattle.trio_edit_laws.proofs.directories.Slotted.{entries-parts, has_this_na
 -- ---- what is looked at
 
 pub entry_from : (r : SlotRead) (e : EntryPart) → entry_in r ≡ Some e → r ≡ Entry e
-entry_from Empty e h = absurd (let t : None ≡ Some e = h in cc t)
-entry_from (Entry x) e h = ap Entry (let t : Some x ≡ Some e = h in cc t)
-entry_from Bad e h = absurd (let t : None ≡ Some e = h in cc t)
+entry_from r e h = search arith
 
 module _ (s : SessionSeen) (dir : ℕ) (o : open_kind s dir ≡ Some Directory) where
   pub pages_open : pages_shown s dir ≡ map (page_in s.parcel) (chain_in s dir).blocks
@@ -139,25 +136,6 @@ module _ (desk : DeskSeen) (s : SessionSeen) (dir : ℕ) (h' : InHand) (nodes no
         body = refl;
       })
 
-  -- and each entry is said by a slot
-  pub record IsSaid (l : Listed) : Type 0 where
-    block : In l.page (chain_in s dir).blocks
-    slot : l.slot < 16
-    says : slot_of every_number (slot_bytes l.slot (page_in s.parcel l.page)) ≡ Entry l.entry
-    body : l.body ≡ body_in_slot l.slot (page_in s.parcel l.page)
-
-  pub said : (l : Listed) → In l r.file.entries → IsSaid l
-  said l i =
-      let q = (entries_are_in_slots desk (in_hand s) r.is.met r.file l r.is.kind r.reads).0 i in
-      let block : In l.page blocks = subst (λ k. In l.page k) blocks_are q.block in
-      let bytes : q.bytes ≡ page_in s.parcel l.page = (let t : Some q.bytes ≡ Some (page_in s.parcel l.page) = sym q.page ∙ there l.page block in cc t) in
-      record {
-        block = block;
-        slot = q.slot;
-        says = slot_wide l.page l.slot block q.slot ∙ ap (λ p. slot_of desk.sizes.inodes (slot_bytes l.slot p)) (sym bytes) ∙ q.says;
-        body = q.body ∙ ap (body_in_slot l.slot) bytes;
-      }
-
   pub lists : Lists nodes' dir r.file.entries
   lists = subst (λ n. Lists nodes' n r.file.entries) r.is.number (sees_judged desk (in_hand s) h' nodes nodes' rows r.is.met r.file v r.is.judged r.reads)
 
@@ -173,19 +151,11 @@ module _ (desk : DeskSeen) (s : SessionSeen) (dir : ℕ) (h' : InHand) (nodes no
   pub entry_at_place : (k j : ℕ) (e : EntryPart) → k < length (map (page_in s.parcel) (chain_in s dir).blocks)
       → entry_on (get_or (map (page_in s.parcel) (chain_in s dir).blocks) k []) j ≡ Some e
       → entry_shown s dir (record { block = k; slot = j }) ≡ Some e
-  entry_at_place k j e lt on =
-      ap (option_and_then (λ bytes. entry_in (slot_of every_number (slot_bytes j bytes)))) (block_open s dir o k ∙ sym (slice_get-map (page_in s.parcel) blocks k) ∙ slice_get-get_or pages k [] lt)
-      ∙ on
+  entry_at_place k j e lt on = search (arith, block_open, slice_get-map, slice_get-get_or)
 
   find_entry : (name : List ℕ) → option_map (λ (l : Listed). l.entry.ino) (find (λ (l : Listed). bytes_eq l.entry.name name) r.file.entries)
       ≡ option_map (λ (e : EntryPart). e.ino) (find (has_this_name name) (present (parts_of (map (page_in s.parcel) (chain_in s dir).blocks))))
-  find_entry name =
-      sym (map_then (find (λ (l : Listed). bytes_eq l.entry.name name) r.file.entries))
-      ∙ ap (option_map (λ (e : EntryPart). e.ino)) (sym (find_map (has_this_name name) (λ (l : Listed). l.entry) r.file.entries) ∙ ap (find (has_this_name name)) (sym parts_read))
-    where
-      map_then : (q : Option Listed) → option_map (λ (e : EntryPart). e.ino) (option_map (λ (l : Listed). l.entry) q) ≡ option_map (λ (l : Listed). l.entry.ino) q
-      map_then None = refl
-      map_then (Some l) = refl
+  find_entry name = search (arith, r, find_map, parts_read)
 
   look_up : (name : List ℕ) → find_named nodes' dir name ≡ option_map (number_shown s dir) (place_shown s dir name)
   look_up name = lists.named name ∙ find_entry name ∙ by (slot_with name (slots_of every_number pages)) refl
@@ -203,18 +173,10 @@ module _ (desk : DeskSeen) (s : SessionSeen) (dir : ℕ) (h' : InHand) (nodes no
           ∙ sym (ap (option_map (number_shown s dir)) (place (Some i) e))
 
   count_is : count_in nodes' dir ≡ entry_count (slots_shown s dir)
-  count_is =
-      lists.count
-      ∙ sym (length-map r.file.entries (λ (l : Listed). l.entry))
-      ∙ ap (λ (l : List EntryPart). length l) (sym parts_read)
-      ∙ sym (length-present (parts_of pages))
-      ∙ ap (λ l. length (filter is_some l)) (sym (slots_of-parts pages) ∙ sym slots_are)
+  count_is = search (arith, lists, length-map, r, parts_read, length-present, slots_of-parts, slots_are)
 
   names_are : names_in nodes' dir ≡ names_here s dir
-  names_are =
-      names_in_order nodes' dir r.file.entries v.shows.tree lists
-      ∙ ap (sorted_by_name entry_name) (sym (map-map (λ (e : EntryPart). (e.name, e.kind)) (λ (l : Listed). l.entry) r.file.entries) ∙ ap (map (λ (e : EntryPart). (e.name, e.kind))) (sym parts_read))
-      ∙ ap (λ ps. sorted_by_name entry_name (map (λ (e : EntryPart). (e.name, e.kind)) (present (parts_of ps)))) (sym (pages_open s dir o))
+  names_are = search (arith, names_in_order, r, lists, map-map, parts_read, pages_open)
 
   -- ---- rights
 
@@ -291,22 +253,7 @@ pub record IsShownHere (s : SessionSeen) (dir : ℕ) (place : Place) (e : EntryP
   pub says : slot_of every_number (slot_bytes place.slot (page_in s.parcel number)) ≡ Entry e
 
 pub shown_here : (s : SessionSeen) (dir : ℕ) (place : Place) (e : EntryPart) → open_kind s dir ≡ Some Directory → entry_shown s dir place ≡ Some e → IsShownHere s dir place e
-shown_here s dir place e o h = by (slice_get (chain_in s dir).blocks place.block) refl
-  where
-    by : (q : Option ℕ) → slice_get (chain_in s dir).blocks place.block ≡ q → IsShownHere s dir place e
-    by None at =
-        let none : block_shown s dir place.block ≡ None = block_open s dir o place.block ∙ ap (option_map (page_in s.parcel)) at in
-        absurd (let t : None ≡ Some e = sym (ap (option_and_then (λ bytes. entry_in (slot_of every_number (slot_bytes place.slot bytes)))) none) ∙ h in cc t)
-    by (Some n) at =
-        let block : block_shown s dir place.block ≡ Some (page_in s.parcel n) = block_open s dir o place.block ∙ ap (option_map (page_in s.parcel)) at in
-        record {
-          number = n;
-          at = at;
-          block = slice_get-In (chain_in s dir).blocks place.block n at;
-          shown = block;
-          says = entry_from (slot_of every_number (slot_bytes place.slot (page_in s.parcel n))) e
-              (sym (ap (option_and_then (λ bytes. entry_in (slot_of every_number (slot_bytes place.slot bytes)))) block) ∙ h);
-        }
+shown_here s dir place e o h = search (arith, IsShownHere, block_open, slice_get-In, entry_from)
 
 pub sees_directory : SeesDirectory
 sees_directory desk s dir nodes nodes' rows m o may =

@@ -15,11 +15,11 @@ use Rattle.trio_lists.proofs.Members.{In-flat, In-left, In-right, both-Ok, resul
 use Rattle.trio_lists.proofs.Tabulated.{tabulated-get, tabulated-length}
 use Rattle.trio_layout.specs.Core.{Core, Location, page_of}
 use Rattle.trio_layout.specs.Slot.{slot_of}
-use Rattle.trio_layout.specs.Entries.{Listed, body_in_slot, entries_on, listed_at, repeated_name, slot_bytes, slot_entries, unless_repeated, with_names_apart}
+use Rattle.trio_layout.specs.Entries.{Listed, body_in_slot, entries_on, listed_at, slot_bytes, slot_entries, unless_repeated}
 use Rattle.trio_layout.specs.Within.{entries_where, entries_within}
 use Rattle.trio_layout.specs.declared.slot.EntryPart.{EntryPart}
 use Rattle.trio_layout.specs.declared.slot.SlotRead.{SlotRead}
-use Rattle.trio_layout.specs.declared.slot.SlotRead.TheVariants.{Empty, Entry, Bad}
+use Rattle.trio_layout.specs.declared.slot.SlotRead.TheVariants.{Bad}
 use Rattle.trio_auxdir.specs.Slots.{name_in, slot_on, slot_with, slots_of, slots_on}
 use Rattle.trio_auxdir.proofs.SlotLists.{slot_there}
 use Rattle.trio_session.specs.Seen.{entry_in, every_number}
@@ -41,9 +41,7 @@ name_of_part o = option_map (λ e. e.name) o
 -- ---- names
 
 pub name_in-entry_in : (r : SlotRead) → name_in r ≡ name_of_part (entry_in r)
-name_in-entry_in Empty = refl
-name_in-entry_in (Entry e) = refl
-name_in-entry_in Bad = refl
+name_in-entry_in r = search arith
 
 map-tabulated : {X Y : Type 0} (f : X → Y) (g : ℕ → X) (n : ℕ) → map f (tabulated g n) ≡ tabulated (λ k. f (g k)) n
 map-tabulated f g zero = refl
@@ -112,9 +110,7 @@ part_at pages k j block small =
     ∙ tabulated-get (entry_on (get_or pages k [])) 16 j None small
 
 named_part : (o : Option (Option EntryPart)) (name : List ℕ) → option_map name_of_part o ≡ Some (Some name) → (e : EntryPart) × (o ≡ Some (Some e)) × (e.name ≡ name)
-named_part None name h = absurd (let t : None ≡ Some (Some name) = h in cc t)
-named_part (Some None) name h = absurd (let t : Some None ≡ Some (Some name) = h in cc t)
-named_part (Some (Some e)) name h = (e, refl, let t : Some (Some e.name) ≡ Some (Some name) = h in cc t)
+named_part o name h = search arith
 
 -- the slot with a name: its block, and its entry, which is the first with that name
 pub record Spot (pages : List (List ℕ)) (name' : List ℕ) (i : ℕ) : Type 0 where
@@ -157,16 +153,7 @@ not_bad page slot body r es e b = (let wrong : listed_at page slot body Bad ≡ 
 
 one_part : (page slot : ℕ) (body : List ℕ) (here wide : SlotRead) (ls : List Listed) → ((here ≡ Bad → ⊥) → wide ≡ here) → listed_at page slot body here ≡ Ok ls
     → present (entry_in wide ∷ []) ≡ map (λ (l : Listed). l.entry) ls
-one_part page slot body Empty wide ls same e =
-    let w : wide ≡ Empty = same (λ b. absurd cc) in
-    let n : [] ≡ ls = cc e in
-    ap (λ r. present (entry_in r ∷ [])) w ∙ ap (map (λ (l : Listed). l.entry)) n
-one_part page slot body Bad wide ls same e = absurd cc
-one_part page slot body (Entry x) wide ls same e =
-    let w : wide ≡ Entry x = same (λ b. absurd cc) in
-    let one : Listed = record { entry = x; page = page; slot = slot; body = body } in
-    let n : one ∷ [] ≡ ls = cc e in
-    ap (λ r. present (entry_in r ∷ [])) w ∙ ap (map (λ (l : Listed). l.entry)) n
+one_part page slot body here wide ls same e = search arith
 
 pub page_parts : (inodes n : ℕ) (page : List ℕ) (k : ℕ) (ls : List Listed) → gathered_below (slot_entries inodes n page) k ≡ Ok ls
     → present (tabulated (entry_on page) k) ≡ map (λ (l : Listed). l.entry) ls
@@ -200,9 +187,7 @@ apart_same ls es (Some place) e = absurd cc
 -- the entries that a directory reads are those in its slots, in their order
 pub entries-parts : (core : Core) (g : ℕ → List ℕ) (blocks : List ℕ) (es : List Listed) → ((n : ℕ) → In n blocks → page_of core n ≡ Some (g n))
     → entries_within core Directory blocks ≡ Ok es → present (parts_of (map g blocks)) ≡ map (λ (l : Listed). l.entry) es
-entries-parts core g blocks es there e =
-    let all = result_then-Ok with_names_apart (gathered (λ n. entries_where core.inodes n (page_of core n)) blocks) es e in
-    blocks_parts core g blocks all.0 there all.1 ∙ ap (map (λ (l : Listed). l.entry)) (apart_same all.0 es (repeated_name [] all.0) all.2)
+entries-parts core g blocks es there e = search (arith, result_then-Ok, blocks_parts, apart_same)
 
 -- ---- no entries
 

@@ -1,8 +1,8 @@
 -- An edit of slots in the pages of directories: what stays of all that is in hand, and of the files that are open.
-use Rattle.std.proofs.Common.{◌≡◌, ℕ, ◌≤◌, true, length, eqb, List, [], ◌++◌, get_or, Option, Some, None, sym, refl, ap, ◌∙◌, subst, inl, inr, ◌⊎◌, arith}
+use Rattle.std.proofs.Common.{◌≡◌, ℕ, ◌≤◌, true, length, List, [], ◌++◌, get_or, Option, Some, None, sym, refl, ap, ◌∙◌, subst, inl, inr, ◌⊎◌, arith}
 use Rattle.std.specs.Prelude.{is_some, map, slice_index_or, if◌then◌else◌}
 use Rattle.std.specs.List.{find}
-use Rattle.std.specs.Option.{option_map, option_map_or, option_or}
+use Rattle.std.specs.Option.{option_map, option_map_or}
 use Rattle.std.proofs.lemmas.Bool.{cases_eq}
 use Rattle.trio_rights.specs.Bundle.{Written}
 use Rattle.trio_rights.specs.Row.{Row}
@@ -12,7 +12,7 @@ use Rattle.trio_lists.specs.Lists.{In, are_new}
 use Rattle.trio_lists.proofs.Filters.{get_or-In}
 use Rattle.trio_lists.proofs.Members.{In-left, In-right}
 use Rattle.trio_layout.specs.declared.body.Body.{Body}
-use Rattle.trio_layout.specs.Body.{block_count, body_of}
+use Rattle.trio_layout.specs.Body.{body_of}
 use Rattle.trio_layout.specs.Chain.{Chain}
 use Rattle.trio_layout.specs.Core.{page_of}
 use Rattle.trio_layout.specs.JudgedFiles.{judged_files}
@@ -20,7 +20,6 @@ use Rattle.trio_layout.specs.Survey.{Met}
 use Rattle.trio_lease.specs.Shown.{Shown, LentFile}
 use Rattle.trio_lease.specs.declared.parts.InoParts.{InoParts}
 use Rattle.trio_lease.specs.declared.parts.HoldParts.{HoldParts}
-use Rattle.trio_nodes.specs.declared.grant.GrantKind.{GrantKind}
 use Rattle.trio_nodes.specs.declared.grant.GrantKind.TheVariants.{Read, Write, Hold}
 use Rattle.trio_nodes.specs.Nodes.{Nodes}
 use Rattle.trio_desk.specs.Call.{DeskSeen}
@@ -44,20 +43,14 @@ use Rattle.trio_edit_laws.proofs.Whole.{shows_after}
 
 grant_by : (a : Option Kind) (b : Option HoldParts) (c : Option Shown) → (if is_some a then Some Write else (if is_some b then Some Hold else (if is_some c then Some Read else None))) ≡ None
     → (a ≡ None) × (b ≡ None) × (c ≡ None)
-grant_by None None None e = (refl, refl, refl)
-grant_by None None (Some x) e = absurd (let t : Some Read ≡ None = e in cc t)
-grant_by None (Some x) c e = absurd (let t : Some Hold ≡ None = e in cc t)
-grant_by (Some x) b c e = absurd (let t : Some Write ≡ None = e in cc t)
+grant_by a b c e = search arith
 
 -- of a file on which a session has nothing it has no lease
 pub no_grant : (s : SessionSeen) (n : ℕ) → grant_in s n ≡ None → (open_kind s n ≡ None) × (held_file s n ≡ None) × (read_file s n ≡ None)
 no_grant s n e = grant_by (open_kind s n) (held_file s n) (read_file s n) e
 
 pub grant-none : (s : SessionSeen) (n : ℕ) → open_kind s n ≡ None → held_file s n ≡ None → read_file s n ≡ None → grant_in s n ≡ None
-grant-none s n a b c =
-    let by : Option Kind → Option HoldParts → Option Shown → Option GrantKind =
-    λ x y z. (if is_some x then Some Write else (if is_some y then Some Hold else (if is_some z then Some Read else None))) in
-    ap (λ x. by x (held_file s n) (read_file s n)) a ∙ ap (λ y. by None y (read_file s n)) b ∙ ap (by None None) c
+grant-none s n a b c = search arith
 
 -- a page is a block of a directory that is open
 pub record IsDirBlock (s : SessionSeen) (n : ℕ) : Type 0 where
@@ -106,12 +99,7 @@ module _ (s s' : SessionSeen) (w : WritesDirs s s') where
 
   written_body : (x : SessionSeen) (n : ℕ)
       → option_map_or (λ (f : Shown). f.body) (written_file x n) [] ≡ option_map_or (λ (v : Written). v.body) (option_map bare_of (find (number_is n) x.parcel.writes)) []
-  written_body x n = by (find (number_is n) x.parcel.writes)
-    where
-      by : (o : Option LentFile)
-          → option_map_or (λ (f : Shown). f.body) (option_map (λ (f : LentFile). f.stands) o) [] ≡ option_map_or (λ (v : Written). v.body) (option_map bare_of o) []
-      by None = refl
-      by (Some f) = refl
+  written_body x n = search arith
 
   body_written : (n : ℕ) → option_map_or (λ (f : Shown). f.body) (written_file s' n) [] ≡ option_map_or (λ (f : Shown). f.body) (written_file s n) []
   unfolding anew
@@ -131,17 +119,11 @@ module _ (s s' : SessionSeen) (w : WritesDirs s s') where
           absurd (cc t)
 
   pub unlent_still : (n : ℕ) → IsUnlent s n → IsUnlent s' n
-  unlent_still n u = record {
-    written = unwritten_still n u.written;
-    held = ap (find (λ (h : HoldParts). eqb h.ino n)) w.touches.holds ∙ u.held;
-    read = ap (find (λ (f : Shown). eqb f.ino n)) reads_same ∙ u.read;
-  }
+  unlent_still n u = search (arith, unwritten_still, reads_same)
 
   -- the file of a number is as it was, if it is or isn't one that was made just as it was
   pub open_else : (n : ℕ) → made_file s' n ≡ made_file s n → open_kind s' n ≡ open_kind s n
-  open_else n e =
-      ap (λ o. option_or (option_map (λ (m : MadeFile). m.kind) o) (option_map (λ (f : Shown). f.kind) (written_file s' n))) e
-      ∙ ap (option_or (option_map (λ (m : MadeFile). m.kind) (made_file s n))) (written_kind n)
+  open_else n e = search (arith, written_kind)
 
   pub chain_else : (n : ℕ) → made_file s' n ≡ made_file s n → chain_in s' n ≡ chain_in s n
   chain_else n e =
@@ -150,15 +132,7 @@ module _ (s s' : SessionSeen) (w : WritesDirs s s') where
       ∙ ap (λ cs. option_map_or (λ (m : MadeFile). m.chain) (made_file s n) (option_map_or (λ i. slice_index_or cs i no_chain) (place_in s n) no_chain)) chains_same
 
   pub body_else : (n : ℕ) → made_file s' n ≡ made_file s n → ((m : MadeFile) → made_file s n ≡ Some m → made_body s' m ≡ made_body s m) → body_in s' n ≡ body_in s n
-  body_else n e same =
-      ap (λ o. option_map_or (made_body s') o (option_map_or (λ (f : Shown). f.body) (written_file s' n) [])) e
-      ∙ ap (option_map_or (made_body s') (made_file s n)) (body_written n)
-      ∙ by (made_file s n) refl
-    where
-      by : (o : Option MadeFile) → made_file s n ≡ o
-          → option_map_or (made_body s') o (option_map_or (λ (f : Shown). f.body) (written_file s n) []) ≡ option_map_or (made_body s) o (option_map_or (λ (f : Shown). f.body) (written_file s n) [])
-      by None e = refl
-      by (Some m) e = same m e
+  body_else n e same = search (arith, body_written)
 
 -- ---- all in hand
 
@@ -264,13 +238,7 @@ module _ (desk : DeskSeen) (s s' : SessionSeen) (m : MayEdit desk s) (e : EditsD
       }
 
   new_reads : (n : ℕ) (kind : Kind) → IsNewFile desk s' n kind → ReadsBy desk s' n kind
-  new_reads n kind b = record {
-    body = b.body;
-    is = b.is;
-    count = ap block_count b.size ∙ ap (λ (c : Chain). length c.blocks) (sym b.chain);
-    head = b.head ∙ ap (λ (c : Chain). get_or c.index 0 0) (sym b.chain);
-    named = subst (λ (c : Chain). IsNamed (core_in_hand desk (in_hand s')) c.index c.blocks) (sym b.chain) (record { many = refl; each = λ i lt. absurd (omega (arith, lt)) });
-  }
+  new_reads n kind b = search arith
 
   chains_then : ChainsRead desk s'
   chains_then n kind o = elim (e.opens n kind o) [ inl b ↦ before_reads n kind b | inr b ↦ new_reads n kind b ]

@@ -1,5 +1,5 @@
 -- A slot of an open directory that is written, as the laws of slots have it.
-use Rattle.std.proofs.Common.{◌≡◌, ℕ, ◌+◌, ◌-◌, ◌*◌, ◌<◌, ◌≤◌, List, ◌++◌, length, drop, take, Option, Some, sym, ap, ◌∙◌, subst, arith, length-append, append_assoc}
+use Rattle.std.proofs.Common.{◌≡◌, ℕ, ◌+◌, ◌-◌, ◌*◌, ◌<◌, ◌≤◌, List, ◌++◌, length, drop, take, Option, Some, sym, ap, ◌∙◌, subst, arith, length-append, append_assoc, ◌∷◌, [], refl}
 use Rattle.std.specs.Prelude.{slice_range}
 use Rattle.std.proofs.lemmas.List.{drop-append-le, drop-drop, length-drop, length-take-le, take-append-drop}
 use Rattle.trio_page.specs.Field.{with_part}
@@ -12,7 +12,7 @@ use Rattle.trio_layout.specs.Entries.{body_in_slot, slot_bytes}
 use Rattle.trio_nodes.specs.Nodes.{Nodes}
 use Rattle.trio_desk.specs.Call.{DeskSeen}
 use Rattle.trio_laws.specs.session.Sees.{IsView}
-use Rattle.trio_laws.specs.session.SlotEdits.{IsSlotWrite, SlotWrite}
+use Rattle.trio_laws.specs.session.SlotEdits.{IsSlotWrite, SlotWrite, AreSlotWrites}
 use Rattle.trio_laws.specs.session.Takes.{pages_in_hand}
 use Rattle.trio_session.specs.Layout.{page_in}
 use Rattle.trio_session.specs.Seen.{SessionSeen, chain_in, in_hand, open_kind}
@@ -25,7 +25,8 @@ use Rattle.trio_edit_laws.proofs.Opens.{open_chained}
 use Rattle.trio_edit_laws.proofs.Pages.{length-page_in}
 use Rattle.trio_lists.proofs.Members.{In-right}
 use Rattle.trio_edit_laws.proofs.directories.Sees.{r, there}
-use Rattle.trio_edit_laws.proofs.directories.Stays.{WritesDirs, hand_stays}
+use Rattle.trio_edit_laws.proofs.directories.Stays.{WritesDirs, hand_stays, core_same, reads_same}
+use Rattle.trio_laws.proofs.session.SlotCases.{only}
 
 -- ---- bytes
 
@@ -60,9 +61,7 @@ with_part-slot slot part page whole lt short =
     let back : drop (a + length part) page ≡ drop (length part) b ++ drop 256 behind =
     sym (drop-drop (length part) a page) ∙ ap (drop (length part)) (sym parts) ∙ drop-append-le (length part) b (drop 256 behind) (omega (arith, long, short)) in
     let past : drop 256 behind ≡ drop (a + length (part ++ drop (length part) b)) page = drop-drop 256 a page ∙ ap (λ n. drop (a + n) page) (sym size) in
-    ap (λ l. take a page ++ (part ++ l)) (back ∙ ap (λ l. drop (length part) b ++ l) past)
-    ∙ ap (λ l. take a page ++ l) (sym (append_assoc part (drop (length part) b) (drop (a + length (part ++ drop (length part) b)) page)))
-    ∙ ap (λ n. take a page ++ ((part ++ drop n b) ++ drop (a + length (part ++ drop n b)) page)) (sym zero')
+    search (arith, append_assoc)
 
 pub slot_bytes-written : (slot : ℕ) (new page : List ℕ) → length page ≡ 4096 → slot < 16 → length new ≡ 256 → slot_bytes slot (with_part (256 * slot) new page) ≡ new
 slot_bytes-written slot new page whole lt sized = slice-with_part_same (256 * slot) new page (256 * slot + 256) (omega (arith, whole, lt, sized)) (omega (arith, sized))
@@ -115,3 +114,17 @@ module _ (desk : DeskSeen) (s s' : SessionSeen) (dir n slot : ℕ) (new : List �
         fills = e.sized;
         after = page_then desk s s' m (hand_stays s s' w) n whole.hand ∙ ap Some e.after;
       }
+
+  -- and nothing else is written
+  pub slot_writes : w.pages ≡ n ∷ [] → AreSlotWrites desk (in_hand s) (in_hand s') (write_of ∷ [])
+  slot_writes alone = record {
+    each = λ y i. only write_of (IsSlotWrite desk (in_hand s) (in_hand s')) slot_write y i;
+    once = refl;
+    bytes = λ k out. core_same desk s s' m w k (λ i. out (subst (In k) alone i));
+    files = w.touches.files;
+    pages = w.touches.pages;
+    lent = w.touches.lent;
+    holds = w.touches.holds;
+    inodes = w.touches.inodes;
+    back = reads_same s s' w;
+  }

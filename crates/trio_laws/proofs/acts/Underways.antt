@@ -57,9 +57,7 @@ step_keeps u u' event answer k given step long others = record {
   given = λ l c e full.
       let was = others l (outline_of c) e in
       given_through u.state (Release l c) event answer u'.state k.kept (k.given l c was.0 full) given step was.1;
-  closed = λ l c e.
-      let was = others l (outline_of c) e in
-      closed_through u.state l c event answer u'.state k.kept given step was.1 (k.closed l c was.0);
+  closed = search (arith, closed_through);
 }
 
 -- a release that begins
@@ -81,12 +79,7 @@ taken_keeps u lib b k is given closed =
             subst (λ n. GivenTo u.state n c) (sym same) (given_alike b c (alike c e') u.state lib full given)
         | inr apart ↦ k.given l c (sym (begun_other u lib l (Some (outline_of b)) is.0 apart) ∙ e) full
       ];
-      closed = λ l c e. elim (cases_eq l lib) [
-        | inl same ↦
-            let e' : begun_by v lib ≡ Some (outline_of c) = ap (begun_by v) (sym same) ∙ e in
-            subst (λ n. parted_hold u.state n c ≡ None) (sym same) (closed_alike b c (alike c e') u.state lib closed)
-        | inr apart ↦ k.closed l c (sym (begun_other u lib l (Some (outline_of b)) is.0 apart) ∙ e)
-      ];
+      closed = search (arith, cases_eq, closed_alike, begun_other);
     }
 
 beginning_keeps : (u : Underway) (lib : ℕ) (b : Bundle) (answer : ActAnswer) (u' : Underway) → KeptUnderway u → IsLibrary u.state.creds lib → GivenTo u.state lib b

@@ -1,5 +1,5 @@
 -- The blocks that an accepted release tells, by the images before and after, are those that the bundle, its listing and the notes tell.
-use Rattle.std.proofs.Common.{◌≡◌, ℕ, ◌+◌, true, false, cond, eqb, List, [], ◌++◌, Option, Some, None, Ok, slice_get, sym, refl, ap, ◌∙◌, subst, inl, inr, ◌⊎◌, arith, find}
+use Rattle.std.proofs.Common.{◌≡◌, ℕ, ◌+◌, true, false, eqb, List, [], ◌++◌, Option, Some, None, Ok, slice_get, sym, refl, ap, ◌∙◌, subst, inl, inr, ◌⊎◌, arith, find}
 use Rattle.std.specs.Option.{option_map_or}
 use Rattle.std.specs.Prelude.{map}
 use Rattle.std.proofs.lemmas.Bool.{eq-eqb, eqb-true}
@@ -7,7 +7,7 @@ use Rattle.trio_lists.specs.Lists.{In}
 use Rattle.trio_lists.proofs.Filters.{In-find, find-In}
 use Rattle.trio_lists.proofs.Members.{In-right, flat_map-same}
 use Rattle.trio_rights.specs.declared.kind.Kind.{Kind}
-use Rattle.trio_rights.specs.declared.kind.Kind.TheVariants.{Regular, Directory}
+use Rattle.trio_rights.specs.declared.kind.Kind.TheVariants.{Regular}
 use Rattle.trio_rights.specs.Row.{Row}
 use Rattle.trio_rights.specs.Bundle.{Written, Bundle, is_written}
 use Rattle.trio_rights.specs.Sheets.{sheet_numbers}
@@ -78,10 +78,7 @@ module _ (s : State) (lib : ℕ) (h : Handed) (j : IsJudgeable s lib (bundle_han
   -- ---- what a file is that is told
 
   told_parts : (f : RawFile) (o o' : Option Row) → told_by I J b f.ino o o' ≡ Some f → ((r : Row) × (o' ≡ Some r) × (told_file J b f.ino false r ≡ f)) ⊎ ((o' ≡ None) × (f.gone ≡ true))
-  told_parts f None None e = absurd cc
-  told_parts f (Some q) None e = (let same : told_file I b f.ino true q ≡ f = cc e in inr (refl, ap (λ (x : RawFile). x.gone) (sym same)))
-  told_parts f None (Some r) e = (let same : told_file J b f.ino false r ≡ f = cc e in inl (r, refl, same))
-  told_parts f (Some q) (Some r) e = (let same : told_file J b f.ino false r ≡ f = cc e in inl (r, refl, same))
+  told_parts f o o' e = search arith
 
   -- ---- the blocks of a file as it is met
 
@@ -178,7 +175,7 @@ module _ (s : State) (lib : ℕ) (h : Handed) (j : IsJudgeable s lib (bundle_han
             let at : slice_get (block_numbers I n (row_at I n)) i ≡ Some page = ap (λ ps. slice_get ps i) (sym numbers) ∙ get in
             let there : slice_get (block_numbers I n (row_at I n)) (0 + i) ≡ Some page = ap (slice_get (block_numbers I n (row_at I n))) zero_i ∙ at in
             same_told I J h n (0 + i) page there size
-            ∙ clean_block s lib h j n q was un page (subst (λ ps. In page ps) (numbers_were s lib h j n q was) (get_in (block_numbers I n (row_at I n)) i page at)))
+            ∙ clean_block s j.kept lib h j.given n q was un page (subst (λ ps. In page ps) (numbers_were s lib h j n q was) (get_in (block_numbers I n (row_at I n)) i page at)))
       ]
 
   -- ---- each file
@@ -200,9 +197,7 @@ module _ (s : State) (lib : ℕ) (h : Handed) (j : IsJudgeable s lib (bundle_han
       let is : m.0.ino ≡ f.ino = ap (λ (y : ListedFile). y.ino) (sym m.4) ∙ eqb-true x.ino f.ino q.1 in
       let read : Ok (reads s lib b j acc m.0 m.2).file ≡ Ok m.1 = sym (reads s lib b j acc m.0 m.2).within ∙ m.3 in
       let file : (reads s lib b j acc m.0 m.2).file ≡ m.1 = cc read in
-      judged_blocks f r row m.0 m.2 is regular size
-      ∙ ap (λ (y : FileRead). changed_blocks cs notes h f 0 y.chain.blocks) file
-      ∙ ap (changed_blocks cs notes h f 0) (ap (λ (y : ListedFile). y.blocks) (sym m.4))
+      search (arith, judged_blocks)
 
   gone_blocks : (f : RawFile) → row_at J f.ino ≡ None → blocks_listed_of l f.ino ≡ []
   gone_blocks f gone = by (found f.ino) refl
@@ -218,25 +213,16 @@ module _ (s : State) (lib : ℕ) (h : Handed) (j : IsJudgeable s lib (bundle_han
           absurd (cc wrong)
 
   there_blocks : (f : RawFile) (r : Row) → row_at J f.ino ≡ Some r → told_file J b f.ino false r ≡ f → (kind : Kind) → r.kind ≡ kind → told_blocks_of I J h f kind ≡ blocks_of_kind cs notes h f kind (blocks_listed_of l f.ino)
-  there_blocks f r row is Directory kind = refl
-  there_blocks f r row is Regular kind =
-      ap (λ t. cond t [] (told_blocks I J h f.ino 0 (block_numbers J f.ino (row_at J f.ino)))) (sym (ap (λ (x : RawFile). x.gone) is))
-      ∙ found_blocks f r row kind (ap (λ (x : RawFile). x.size) is) (found f.ino) refl
+  there_blocks f r row is h kind = search (arith, found_blocks)
 
   lost_blocks : (f : RawFile) → row_at J f.ino ≡ None → f.gone ≡ true → (kind : Kind) → told_blocks_of I J h f kind ≡ blocks_of_kind cs notes h f kind (blocks_listed_of l f.ino)
-  lost_blocks f none gone Directory = refl
-  lost_blocks f none gone Regular =
-      ap (λ t. cond t [] (told_blocks I J h f.ino 0 (block_numbers J f.ino (row_at J f.ino)))) gone
-      ∙ sym (ap (changed_blocks cs notes h f 0) (gone_blocks f none))
+  lost_blocks f none gone kind = search (arith, gone_blocks)
 
   file_blocks : (f : RawFile) → In f (raw_files I J b) → told_blocks_of I J h f f.kind ≡ blocks_of_kind cs notes h f f.kind (blocks_listed_of l f.ino)
   file_blocks f i =
       let q = counted_in (λ (x : RawFile). x.ino) (raw_file I J b) (raw_number I J b) 1 I.core.inodes f i in
       let p = when_passed (is_told I J b f.ino) (told_by I J b f.ino (row_at I f.ino) (row_at J f.ino)) f q.2 in
-      elim (told_parts f (row_at I f.ino) (row_at J f.ino) p.1) [
-        | inl t ↦ there_blocks f t.0 t.1 t.2 f.kind (ap (λ (x : RawFile). x.kind) t.2)
-        | inr t ↦ lost_blocks f t.0 t.1 f.kind
-      ]
+      search (arith, told_parts, there_blocks, lost_blocks)
 
   blocks_same : raw_blocks I J h (raw_files I J b) ≡ accepted_blocks cs l notes h (accepted_files cs l notes)
   blocks_same =
@@ -244,9 +230,7 @@ module _ (s : State) (lib : ℕ) (h : Handed) (j : IsJudgeable s lib (bundle_han
       ∙ ap (accepted_blocks cs l notes h) (files_same s lib b j acc)
 
   entry_same : raw_entry I lib h Accepted J ≡ Raw (record { 0 = lib }) Accepted (accepted_files cs l notes) (record { handed = h; blocks = accepted_blocks cs l notes h (accepted_files cs l notes) })
-  entry_same =
-      ap (λ bs. Raw (record { 0 = lib }) Accepted (raw_files I J b) (record { handed = h; blocks = bs })) blocks_same
-      ∙ ap (λ fs. Raw (record { 0 = lib }) Accepted fs (record { handed = h; blocks = accepted_blocks cs l notes h (accepted_files cs l notes) })) (files_same s lib b j acc)
+  entry_same = search (arith, blocks_same, files_same)
 
 pub accepted_is_listed : AcceptedIsListed
 accepted_is_listed s lib h j acc = entry_same s lib h j acc

@@ -207,9 +207,7 @@ module _ (s : State) (k : Kept s) (lib : ℕ) (creds : Creds) (b : Bundle) (give
                         let same : st.met ≡ m = one_met P pick fitP soundP st.met m st.stands i st.number in
                         let kind : m.kind ≡ r.0.kind = ap (λ (y : Met). y.kind) (sym same) ∙ ap (λ (y : Row). y.kind) (sym st.row) in
                         Stayed r.0 r.1 kind (ap (λ (y : Met). y.body) (sym same) ∙ st.body) un
-                    | inr new ↦
-                        let p = and_parts (is_among m.ino b.numbers && has_owner creds (row_of P (survey P pick) m.ino)) (lists_own b P m) new.2 in
-                        New (none_row (row_at I m.ino) new.1) (and_parts (is_among m.ino b.numbers) (has_owner creds (row_of P (survey P pick) m.ino)) p.0).1 p.1
+                    | inr new ↦ search (arith, and_parts, none_row)
                   ]
             ]
       ]

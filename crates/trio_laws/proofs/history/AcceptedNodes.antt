@@ -1,6 +1,5 @@
 -- The nodes after an accepted release.
-use Rattle.std.proofs.Common.{◌≡◌, ℕ, ltb, leb, ltb-true, zero, suc, ◌+◌, ◌-◌, ◌*◌, ◌<◌, ◌≤◌, Bool, true, false, cond, ◌&&◌, ◌||◌, not, eqb, min, List, [], ◌∷◌, ◌++◌, map, length, take, drop, replicate, Option, Some, None, Ok, is_some, slice_get, sym, refl, ap, ◌∙◌, subst, inl, inr, ◌⊎◌, arith, flat_map, unwrap_or, find}
-use Rattle.std.specs.List.{list_any}
+use Rattle.std.proofs.Common.{◌≡◌, ℕ, ltb-true, zero, suc, ◌+◌, ◌-◌, ◌*◌, ◌<◌, ◌≤◌, Bool, true, false, cond, ◌&&◌, not, eqb, min, List, [], ◌∷◌, map, length, take, drop, replicate, Option, Some, None, Ok, is_some, slice_get, sym, refl, ap, ◌∙◌, subst, inl, inr, ◌⊎◌, arith, flat_map, unwrap_or, find}
 use Rattle.std.specs.Str.{bytes_eq}
 use Rattle.std.proofs.lemmas.List.{length-replicate}
 use Rattle.std.proofs.lemmas.Bool.{and_parts, and_from, eqb-true, eq-eqb, false≢true, both_ways, or_parts, cases_lt, false_from_ne_true, not-false, or_left}
@@ -24,39 +23,38 @@ use Rattle.trio_rights.specs.Sheets.{Sheet, sheet_numbers}
 use Rattle.trio_state.specs.State.{OpenGrant, State, settled, creds_of}
 use Rattle.trio_nodes.specs.GrantKinds.{is_write}
 use Rattle.trio_surveys.specs.Reading.{picked_entry}
-use Rattle.trio_laws.proofs.Bundles.{Unwritten, unwritten_finds, unwritten_apart, in_numbers}
-use Rattle.trio_lists.proofs.Filters.{find-In, In-find, list_any-In}
-use Rattle.trio_surveys.proofs.Images.{some_of, met_numbered, root_is_met, read_met, row_met, row_at_is}
-use Rattle.trio_lists.proofs.Members.{list_all-In, is_among-In, In-left, In-right, In-flat, In-map}
+use Rattle.trio_laws.proofs.Bundles.{Unwritten, unwritten_finds}
+use Rattle.trio_lists.proofs.Filters.{find-In, In-find}
+use Rattle.trio_surveys.proofs.Images.{some_of, root_is_met, read_met, row_met, row_at_is}
+use Rattle.trio_lists.proofs.Members.{list_all-In, is_among-In, In-right}
 use Rattle.trio_surveys.proofs.Owned.{pages_are}
 use Rattle.trio_surveys.proofs.Sheets.{with_pages_known, place_there, page_there, page_from}
 use Rattle.trio_nodes.specs.Handed.{Handed, HandedFile}
-use Rattle.trio_nodes.specs.declared.entry.HandedPage.{HandedPage}
 use Rattle.trio_nodes.specs.Told.{ToldBlock}
 use Rattle.trio_nodes.specs.declared.entry.RawFile.{RawFile}
 use Rattle.trio_nodes.specs.Apply.{resized}
 use Rattle.trio_nodes.specs.After.{bytes_in, with_blocks, raw_bytes, raw_nodes}
 use Rattle.trio_nodes.specs.Nodes.{node_at}
 use Rattle.trio_laws.specs.history.Stands.{name_of, size_of, blocks_of, bytes_of_sheets, bytes_of, node_of, node_by, node_in, nodes_of, writer_of}
-use Rattle.trio_laws.specs.history.Entries.{name_by, bundle_handed, written_handed, sheet_handed, is_told, told_file, told_by, raw_file, raw_files, raw_blocks, block_numbers, blocks_in as chain_blocks, is_touched, is_block_told, told_blocks, told_blocks_of}
+use Rattle.trio_laws.specs.history.Entries.{name_by, bundle_handed, is_told, told_file, told_by, raw_file, raw_files, raw_blocks, block_numbers, blocks_in as chain_blocks, is_touched, is_block_told, told_blocks, told_blocks_of}
 use Rattle.trio_laws.specs.history.Recorded.{LentWhole, IsMarked}
 use Rattle.trio_laws.proofs.history.AcceptedFiles.{P, pick, fitP, fitJ, verifiesJ, Now, now, kept_follows, own_block, FileIs, Stayed, Wrote, New, file_is, unheld_now}
 use Rattle.trio_laws.proofs.history.Blocks.{chain_count, flat_sheets}
 use Rattle.trio_laws.proofs.history.Facts.{node_is}
 use Rattle.trio_laws.proofs.history.Follows.{Follows, size_follows, bytes_follow, chain_read, size_read}
 use Rattle.trio_laws.proofs.history.Grown.{resized_long, chunk_grown, unlisted_is}
-use Rattle.trio_laws.proofs.history.Listing.{met_at, chain_met, tables_of, listing, name_listed, slot_named}
+use Rattle.trio_laws.proofs.history.Listing.{met_at, chain_met, tables_of, listing, name_listed, slot_named, row_outside}
 use Rattle.trio_layout.specs.Entries.{slot_bytes}
 use Rattle.trio_laws.proofs.history.OldBytes.{resized_same, old_long, count_is, lent_is}
 use Rattle.trio_layout.specs.Range.{is_core}
 use Rattle.trio_laws.proofs.history.RawGiven.{given_row}
 use Rattle.trio_laws.proofs.history.RawNodes.{becomes, part_of, blocks_in, raw_in, raw_out, raw_length}
 use Rattle.trio_laws.proofs.history.RawParts.{raw_number, own_blocks, told_none, same_told, sheet_at, get_in}
-use Rattle.trio_laws.proofs.history.Still.{node_with}
 use Rattle.trio_laws.proofs.history.Told.{Count, block_bytes, told_put}
 use Rattle.trio_laws.proofs.history.Untouched.{handed_same}
 use Rattle.trio_laws.proofs.history.WithNode.{nodes_same, nodes_long}
 use Rattle.trio_laws.proofs.history.Writers.{writes, other_writer, no_writer, dead_writer}
+use Rattle.trio_laws.proofs.history.ToldBlocks.{clean_block}
 use Rattle.trio_surveys.proofs.Local.{reads_from}
 
 module _ (s s' : State) (k : Kept s) (k' : Kept s') (whole : LentWhole s) (lib : ℕ) (h : Handed) (given : GivenTo s lib (bundle_handed h)) (accepted : is_accepted (settled s) (creds_of s lib) (bundle_handed h) ≡ true) (e : Ends s lib (bundle_handed h) (next (settled s) (bundle_handed h)) s') (marked : (w : HandedFile) → In w h.writes → IsMarked s lib w) where
@@ -107,24 +105,6 @@ module _ (s s' : State) (k : Kept s) (k' : Kept s') (whole : LentWhole s) (lib :
   unwritten_is : (n : ℕ) → Unwritten b n → is_written b n ≡ false
   unwritten_is n un = ap is_some (unwritten_finds b n un)
 
-  -- ---- a file that stays
-
-  -- none of its blocks was handed in
-  clean_block : (n : ℕ) (r : Row) (row : row_at s.home n ≡ Some r) → Unwritten b n → (p : ℕ) → In p (met_at image k.fit k.verifies n r row).file.chain.blocks → is_touched h p ≡ false
-  clean_block n r row un p i =
-      let m = met_at image k.fit k.verifies n r row in
-      false_from_ne_true (is_touched h p)
-      (λ t.
-      let w = list_any-In (λ (f : HandedFile). list_any (λ (c : HandedPage). eqb c.no p && c.touched) f.blocks) h.writes t in
-      let c = list_any-In (λ (c : HandedPage). eqb c.no p && c.touched) w.0.blocks w.2 in
-      let at : c.0.no ≡ p = eqb-true c.0.no p (and_parts (eqb c.0.no p) c.0.touched c.2).0 in
-      let handed : In (sheet_handed c.0) (bundle_sheets b) =
-      In-left (sheet_handed c.0) (flat_map (λ (w : Written). w.index ++ w.blocks) b.writes) b.pages
-      (In-flat (λ (w : Written). w.index ++ w.blocks) (written_handed w.0) (sheet_handed c.0) b.writes (In-map written_handed w.0 h.writes w.1)
-      (In-right (sheet_handed c.0) (map sheet_handed w.0.index) (map sheet_handed w.0.blocks) (In-map sheet_handed c.0 w.0.blocks c.1))) in
-      let page : In p (bundle_pages b) = in_numbers (bundle_sheets b) (sheet_handed c.0) p handed (sym at) in
-      unwritten_apart s k lib b given m.met p m.stands (λ v j same. un v j (same ∙ m.number)) (subst (λ l. In p l) (sym (pages_are image.core m.met m.file m.read)) (In-right p m.file.chain.index m.file.chain.blocks i)) page)
-
   pub kept_bytes : (n : ℕ) (r r' : Row) (row : row_at s.home n ≡ Some r) (row' : row_at after n ≡ Some r') → Follows image after n r r' → Unwritten b n → r.kind ≡ Regular → bytes_of after n r' (writer_of s' n) Regular ≡ bytes_of image n r (writer_of s n) Regular
   kept_bytes n r r' row row' f un regular =
       ap (bytes_of_sheets (size_of after n)) (other_writer s s' k lib b given after e n (unwritten_is n un) after r')
@@ -147,7 +127,7 @@ module _ (s s' : State) (k : Kept s) (k' : Kept s') (whole : LentWhole s) (lib :
       let at : slice_get (block_numbers image n (row_at image n)) i ≡ Some page = ap (λ l. slice_get l i) (sym numbers) ∙ get in
       let at' : slice_get (block_numbers image n (row_at image n)) (0 + i) ≡ Some page = ap (slice_get (block_numbers image n (row_at image n))) zero_i ∙ at in
       let mine : slice_get m.file.chain.blocks i ≡ Some page = ap (λ l. slice_get l i) (sym (numbers_were n r row)) ∙ at in
-      same_told image after h n (0 + i) page at' size ∙ clean_block n r row un page (get_in m.file.chain.blocks i page mine)) in
+      same_told image after h n (0 + i) page at' size ∙ clean_block s k lib h given n r row un page (get_in m.file.chain.blocks i page mine)) in
       ap (λ l. with_blocks n l (resized (size_of after n) (bytes_of image n r (writer_of s n) Regular))) none
       ∙ resized_same (size_of after n) (bytes_of image n r (writer_of s n) Regular) (old_long_at n r row regular ∙ sym size)
       ∙ sym (kept_bytes n r r' row row' f un regular)
@@ -227,10 +207,7 @@ module _ (s s' : State) (k : Kept s) (k' : Kept s') (whole : LentWhole s) (lib :
       let long : length old ≡ z = ap length (sym old_is) ∙ old_long s k whole n r row in
       let m = met_at image k.fit k.verifies n r row in
       let lent : sheet_numbers gr.blocks ≡ m.file.chain.blocks = lent_is s k whole n r row gr g.2 g.3 in
-      let count : z ≤ 4096 * length gr.blocks =
-      (let c = (count_is s k whole n r row).0 in
-      let l : length m.file.chain.blocks ≡ length gr.blocks = ap length (sym lent) ∙ numbers_count gr.blocks in
-      omega (arith, c, l)) in
+      let count : z ≤ 4096 * length gr.blocks = search (arith, count_is, numbers_count) in
       let w = at_now n r row' in
       let pl : List ℕ = w.file.chain.blocks in
       let size : ℕ = size_of after n in
@@ -250,12 +227,7 @@ module _ (s s' : State) (k : Kept s) (k' : Kept s') (whole : LentWhole s) (lib :
       let listed : In page (pages_of proposed_core w.met) = subst (λ l. In page l) (sym (pages_are proposed_core w.met w.file w.read)) (In-right page w.file.chain.index pl (get_in pl i page get)) in
       let handed : In page (bundle_pages b) = is_among-In page (bundle_pages b) (list_all-In (λ q. is_among q (bundle_pages b)) page (pages_of proposed_core w.met) own listed) in
       let q = page_there proposed_core page t'.0 t'.1 in
-      let here : (o : Option (List ℕ)) × (slice_get image.core.pages x.0.page ≡ Some o) =
-      (let fitp = (fitP s k lib (creds_of s lib) b given accepted).long in
-      let far' = k.fit.long in
-      let c = t'.4 in
-      let low : page < image.core.range.end = ltb-true page image.core.range.end (and_parts (leb image.core.range.first page) (ltb page image.core.range.end) c).1 in
-      place_there image.core.pages x.0.page (omega (arith, low, far', at))) in
+      let here : (o : Option (List ℕ)) × (slice_get image.core.pages x.0.page ≡ Some o) = search (arith, fitP, ltb-true, and_parts, place_there) in
       let now_page : slice_get proposed_core.pages x.0.page ≡ Some (Some x.0.bytes) =
       with_pages_known (bundle_sheets b) image.core.pages x.0.page x.0.bytes here.0 (subst (λ j. In j (bundle_pages b)) (sym at) handed)
       (λ y j on. handed_same s k whole lib h given marked n r row gr g.2 g.3 x.0 x.1 (ap (is_touched h) at ∙ u.clean) y j on) here.1 in
@@ -285,10 +257,7 @@ module _ (s s' : State) (k : Kept s) (k' : Kept s') (whole : LentWhole s) (lib :
   told_now n (Some q) r = refl
 
   pub file_of_told : (n : ℕ) (r : Row) → row_at after n ≡ Some r → is_told image after b n ≡ true → rf n ≡ Some (told_file after b n false r)
-  file_of_told n r row t =
-      ap (λ x. cond x (told_by image after b n (row_at image n) (row_at after n)) None) t
-      ∙ ap (told_by image after b n (row_at image n)) row
-      ∙ told_now n (row_at image n) r
+  file_of_told n r row t = search (arith, told_now)
 
   put_is : (n : ℕ) (r : Row) → row_at after n ≡ Some r → is_told image after b n ≡ true → r.kind ≡ Regular → 1 ≤ n → n < 1 + s.home.core.inodes → (x : List ℕ) → with_blocks n bs x ≡ with_blocks n (told_blocks image after h n 0 (block_numbers after n (row_at after n))) x
   put_is n r row t regular low high x =
@@ -349,16 +318,10 @@ module _ (s s' : State) (k : Kept s) (k' : Kept s') (whole : LentWhole s) (lib :
   -- ---- what isn't told stays
 
   not_told : (n : ℕ) → is_told image after b n ≡ false → (is_written b n ≡ false) × (is_among n b.holds ≡ false) × ((is_some (row_at after n) && not (bytes_eq (name_by image n (row_at image n)) (name_by after n (row_at after n)))) ≡ false)
-  not_told n t =
-      let p = or_parts (is_written b n || is_among n b.holds) (is_some (row_at after n) && not (bytes_eq (name_by image n (row_at image n)) (name_by after n (row_at after n)))) t in
-      let q = or_parts (is_written b n) (is_among n b.holds) p.0 in (q.0, q.1, p.1)
+  not_told n t = search (arith, or_parts)
 
   same_name : (n : ℕ) (r : Row) (o : Option Row) → row_at after n ≡ Some r → row_at image n ≡ o → is_told image after b n ≡ false → name_by image n o ≡ name_of after n r
-  same_name n r o row was t =
-      let x : Bool = bytes_eq (name_by image n (row_at image n)) (name_by after n (row_at after n)) in
-      let e : not x ≡ false = sym (ap (λ q. is_some q && not x) row) ∙ (not_told n t).2 in
-      let names : name_by image n (row_at image n) ≡ name_by after n (row_at after n) = (bytes_eq-Decides (name_by image n (row_at image n)) (name_by after n (row_at after n))).0 (not-false x e) in
-      ap (name_by image n) (sym was) ∙ names ∙ ap (name_by after n) row
+  same_name n r o row was t = search (arith, not_told, bytes_eq-Decides, not-false)
 
   kept_kind : (n : ℕ) (r : Row) (row : row_at s.home n ≡ Some r) (row' : row_at after n ≡ Some r) → Follows image after n r r → Unwritten b n → (kind : Kind) → r.kind ≡ kind → bytes_of after n r (writer_of s' n) kind ≡ bytes_of image n r (writer_of s n) kind
   kept_kind n r row row' f un Directory is = refl
@@ -367,9 +330,7 @@ module _ (s s' : State) (k : Kept s) (k' : Kept s') (whole : LentWhole s) (lib :
   untold_by : (n : ℕ) (r : Row) (row : row_at after n ≡ Some r) → is_told image after b n ≡ false → Is (at_now n r row).met → Some (node_of after n (writer_of s' n) r) ≡ node_in s n
   untold_by n r row t (Wrote wr unheld own) =
       absurd (both_ways (is_written b n) (not_told n t).0 (ap (is_written b) (sym (at_now n r row).number) ∙ wr))
-  untold_by n r row t (New dead owner own) =
-      let dead' : row_at s.home n ≡ None = ap (row_at image) (sym (at_now n r row).number) ∙ dead in
-      absurd (new_named n r row (λ one. root_live (ap (row_at s.home) (sym one) ∙ dead')) (sym (same_name n r None row dead' t)))
+  untold_by n r row t (New dead owner own) = search (arith, Wrote, both_ways, not_told, New, new_named, root_live, same_name, Stayed, unheld_now, kept_follows, kept_kind)
   untold_by n r row t (Stayed q row_q kind body un) =
       let w = at_now n r row in
       let row_s : row_at s.home n ≡ Some q = ap (row_at image) (sym w.number) ∙ row_q in
@@ -380,9 +341,7 @@ module _ (s s' : State) (k : Kept s) (k' : Kept s') (whole : LentWhole s) (lib :
       let f = kept_follows s k lib (creds_of s lib) b given accepted n q r row_s row (q, row_q, kind, body, un) in
       let f' : Follows image after n r r = (let F : Row → Type 0 = λ x. Follows image after n x r in subst F same f) in
       let un' : Unwritten b n = λ x i e. un x i (e ∙ sym w.number) in
-      ap (λ l. Some (node_with r l (bytes_of after n r (writer_of s' n) r.kind))) (sym (same_name n r (Some r) row row_r t))
-      ∙ ap (λ l. Some (node_with r (name_of image n r) l)) (kept_kind n r row_r row f' un' r.kind refl)
-      ∙ sym (ap (node_by image n (writer_of s n)) row_r)
+      search (arith, same_name, kept_kind)
 
   -- ---- each node
 
@@ -395,9 +354,7 @@ module _ (s s' : State) (k : Kept s) (k' : Kept s') (whole : LentWhole s) (lib :
       let wrong : None ≡ Some q = sym gone ∙ keeps in absurd (cc wrong)
 
   there_case : (n : ℕ) (r : Row) → row_at after n ≡ Some r → 1 ≤ n → n < 1 + s.home.core.inodes → (t : Bool) → is_told image after b n ≡ t → Some (node_of after n (writer_of s' n) r) ≡ becomes bs (cond t (told_by image after b n (row_at image n) (Some r)) None) (node_in s n)
-  there_case n r row low high true t =
-      ap (λ l. Some (node_with r (name_of after n r) l)) (sym (bytes_case n r row t low high r.kind refl))
-      ∙ ap (λ o. becomes bs o (node_in s n)) (sym (told_now n (row_at image n) r))
+  there_case n r row low high true t = search (arith, bytes_case, told_now, untold_by, file_is)
   there_case n r row low high false t = untold_by n r row t (file_is s k lib (creds_of s lib) b given accepted (at_now n r row).met (at_now n r row).stands)
 
   node_case : (n : ℕ) (o : Option Row) → row_at after n ≡ o → 1 ≤ n → n < 1 + s.home.core.inodes → node_by after n (writer_of s' n) o ≡ becomes bs (cond (is_told image after b n) (told_by image after b n (row_at image n) o) None) (node_in s n)
@@ -407,34 +364,8 @@ module _ (s s' : State) (k : Kept s) (k' : Kept s') (whole : LentWhole s) (lib :
   pub node_settled : (n : ℕ) → node_in s' n ≡ node_by after n (writer_of s' n) (row_at after n)
   node_settled n = ap (λ (i : Image). node_by i n (writer_of s' n) (row_at i n)) e.settles
 
-  no_row : (n : ℕ) → (n < 1) ⊎ (1 + s.home.core.inodes ≤ n) → row_at s.home n ≡ None
-  no_row n out = by (row_at s.home n) refl
-    where
-      by : (o : Option Row) → row_at s.home n ≡ o → o ≡ None
-      by None row = refl
-      by (Some r) row =
-          let m = met_at (settled s) k.fit k.verifies n r row in
-          let q = met_numbered (settled s).core plain k.fit k.verifies.sound m.met m.stands in
-          let a = q.0 in
-          let c = q.1 in
-          let d = m.number in
-          absurd (elim out [ inl l ↦ omega (arith, l, a, d) | inr g ↦ omega (arith, g, c, d) ])
-
-  no_row_now : (n : ℕ) → (n < 1) ⊎ (1 + s.home.core.inodes ≤ n) → row_at after n ≡ None
-  no_row_now n out = by (row_at after n) refl
-    where
-      by : (o : Option Row) → row_at after n ≡ o → o ≡ None
-      by None row = refl
-      by (Some r) row =
-          let m = met_at after fit' verifies' n r row in
-          let q = met_numbered after.core plain fit' verifies'.sound m.met m.stands in
-          let a = q.0 in
-          let c = q.1 in
-          let d = m.number in
-          absurd (elim out [ inl l ↦ omega (arith, l, a, d) | inr g ↦ omega (arith, g, c, d) ])
-
   outside : (n : ℕ) → (n < 1) ⊎ (1 + s.home.core.inodes ≤ n) → node_in s' n ≡ node_in s n
-  outside n out = node_settled n ∙ ap (node_by after n (writer_of s' n)) (no_row_now n out) ∙ sym (ap (node_by image n (writer_of s n)) (no_row n out))
+  outside n out = node_settled n ∙ ap (node_by after n (writer_of s' n)) (row_outside after fit' verifies' n out) ∙ sym (ap (node_by image n (writer_of s n)) (row_outside image k.fit k.verifies n out))
 
   pub accepted_nodes : nodes_of s' ≡ raw_nodes bs files (nodes_of s)
   accepted_nodes =
@@ -452,9 +383,5 @@ module _ (s s' : State) (k : Kept s) (k' : Kept s') (whole : LentWhole s) (lib :
       node_is s' k' n ∙ outside n out ∙ sym (node_is s k n) ∙ sym (raw_out rf (raw_number image after b) bs s.home.core.inodes 1 n out (nodes_of s)) in
       elim (cases_lt n 1) [
         | inl zero_n ↦ outer (inl zero_n)
-        | inr low ↦
-            elim (cases_lt n (1 + s.home.core.inodes)) [
-              | inl high ↦ inner low high
-              | inr past ↦ outer (inr past)
-            ]
+        | inr low ↦ search (arith, cases_lt)
       ])

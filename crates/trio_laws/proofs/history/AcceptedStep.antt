@@ -2,19 +2,18 @@
 use Rattle.std.proofs.Common.{◌≡◌, ℕ, zero, suc, ◌+◌, ◌*◌, ◌<◌, ◌≤◌, Bool, true, false, cond, ◌&&◌, not, eqb, min, List, [], ◌∷◌, ◌++◌, map, length, Option, Some, None, Ok, slice_get, sym, refl, ap, ◌∙◌, subst, inl, inr, ◌⊎◌, arith, filter, find, unwrap_or}
 use Rattle.std.specs.List.{AllByRecursion}
 use Rattle.std.proofs.lemmas.Bool.{and_parts, and_from, eqb-true, eq-eqb, both_ways, or_left, or_right, not-true, ne_eqb, cases_eq, false_from_ne_true}
+use Rattle.std.proofs.lemmas.Option.{same_Some}
 use Rattle.trio_nodes.specs.declared.grant.GrantKind.{GrantKind}
-use Rattle.trio_nodes.specs.declared.grant.GrantKind.TheVariants.{Read, Write, Hold}
+use Rattle.trio_nodes.specs.declared.grant.GrantKind.TheVariants.{Write, Hold}
 use Rattle.trio_nodes.specs.declared.answers.ReleaseAnswer.TheVariants.{Accepted as IsAccepted}
 use Rattle.trio_rights.specs.Row.{Row}
 use Rattle.trio_rights.specs.declared.kind.Kind.{Kind}
 use Rattle.trio_rights.specs.declared.kind.Kind.TheVariants.{Regular, Directory}
-use Rattle.trio_layout.specs.Body.{body_of}
 use Rattle.trio_layout.specs.Core.{Core, page_of}
-use Rattle.trio_layout.specs.Entries.{Listed, entries_of_kind}
+use Rattle.trio_layout.specs.Entries.{Listed}
 use Rattle.trio_lists.specs.Lists.{In, is_among}
 use Rattle.trio_layout.specs.Survey.{Met, plain, FileRead, file_of, survey, row_by, met_in, children, row_of, root_of}
 use Rattle.trio_layout.specs.Accept.{is_accepted, next}
-use Rattle.trio_lists.specs.Counting.{count_up}
 use Rattle.trio_layout.specs.Allowed.{has_owner}
 use Rattle.trio_state.specs.Bundles.{Ends}
 use Rattle.trio_state.specs.Given.{GivenTo}
@@ -47,7 +46,7 @@ use Rattle.trio_nodes.specs.Standing.{Standing, stands, is_others, is_given}
 use Rattle.trio_nodes.specs.After.{bytes_in, raw_nodes}
 use Rattle.trio_nodes.specs.Legal.{IsWithinGrants, SameContent, HasRightsOf, HasPlaceOf, HasNameOf, BlocksAreKnown, is_handed, is_listed}
 use Rattle.trio_laws.specs.history.Stands.{name_of, size_of, bytes_of, node_of, node_by, nodes_of, standing_of, writer_of}
-use Rattle.trio_laws.specs.history.Entries.{bundle_handed, raw_file, raw_files, raw_blocks, raw_entry, is_told, told_by, told_file, told_blocks, told_blocks_of, is_block_told, block_numbers}
+use Rattle.trio_laws.specs.history.Entries.{bundle_handed, raw_files, raw_blocks, raw_entry, told_by, told_file, told_blocks, told_blocks_of, is_block_told, block_numbers}
 use Rattle.trio_laws.specs.history.Recorded.{LentWhole, IsMarked}
 use Rattle.trio_laws.proofs.history.AcceptedFiles.{P, pick, fitP, soundP, fitJ, verifiesJ, Now, now, kept_follows, FileIs, Stayed, Wrote, New, file_is, unheld_now}
 use Rattle.trio_laws.proofs.history.Blocks.{chain_count}
@@ -61,9 +60,6 @@ use Rattle.trio_laws.proofs.history.Listing.{listing, met_at, body_met, tables_o
 use Rattle.trio_laws.proofs.history.RawGiven.{is_in, given_grant, given_is, grants_end, handed_is, files_from}
 use Rattle.trio_laws.proofs.history.ModeNodes.{name_root}
 use Rattle.trio_laws.proofs.history.ToldFiles.{tells_these}
-
-one_of : {X : Type 0} (x y : X) → Some x ≡ Some y → x ≡ y
-one_of x y e = cc e
 
 module _ (s s' : State) (k : Kept s) (k' : Kept s') (whole : LentWhole s) (lib : ℕ) (h : Handed) (given : GivenTo s lib (bundle_handed h)) (accepted : is_accepted (settled s) (creds_of s lib) (bundle_handed h) ≡ true) (e : Ends s lib (bundle_handed h) (next (settled s) (bundle_handed h)) s') (marked : (w : HandedFile) → In w h.writes → IsMarked s lib w) where
   abbrev b : Bundle
@@ -124,7 +120,7 @@ module _ (s s' : State) (k : Kept s) (k' : Kept s') (whole : LentWhole s) (lib :
   stays_by n r r' row row' un (Stayed q row_q kind body unw) =
       let w = at_now n r' row' in
       let m0 = met_at image k.fit k.verifies n r row in
-      let q_r : q ≡ r = one_of q r (sym row_q ∙ ap (row_at image) w.number ∙ row) in
+      let q_r : q ≡ r = same_Some q r (sym row_q ∙ ap (row_at image) w.number ∙ row) in
       let kinds : w.met.kind ≡ m0.met.kind = kind ∙ ap (λ (x : Row). x.kind) q_r ∙ ap (λ (x : Row). x.kind) m0.row in
       let bodies : w.met.body ≡ m0.met.body = body ∙ ap (settled_body image) w.number ∙ body_met image k.fit k.verifies n r row in
       let un0 : Unwritten b m0.met.ino = λ x i j. unw x i (j ∙ m0.number ∙ sym w.number) in
@@ -132,12 +128,7 @@ module _ (s s' : State) (k : Kept s) (k' : Kept s') (whole : LentWhole s) (lib :
       λ p i. page_kept s k lib b given p (λ j. unwritten_apart s k lib b given m0.met p m0.stands un0 (subst (λ l. In p l) (sym (pages_are image.core m0.met m0.file m0.read)) i) j) in
       let now0 : file_of proposed_core m0.met ≡ Ok m0.file = same_file image.core proposed_core m0.met m0.file refl refl m0.read pages in
       let a = reads_from proposed_core m0.met m0.file now0 in
-      let here : file_of proposed_core w.met ≡ Ok m0.file =
-      reads_to proposed_core w.met m0.file (record {
-        body = ap (λ x. body_of x proposed_core.range w.met.body) kinds ∙ ap (body_of m0.met.kind proposed_core.range) bodies ∙ a.body;
-        chain = a.chain;
-        entries = ap (λ x. entries_of_kind proposed_core x m0.file.chain.blocks) kinds ∙ a.entries;
-      }) in
+      let here : file_of proposed_core w.met ≡ Ok m0.file = search (arith, reads_to) in
       let same : w.file ≡ m0.file = Ok-one (file_of proposed_core w.met) w.file m0.file w.read here in
       record {
         row = row;
@@ -188,11 +179,7 @@ module _ (s s' : State) (k : Kept s) (k' : Kept s') (whole : LentWhole s) (lib :
       }
 
   entry_is : (i : Image) (dir n : ℕ) (w : Option OpenGrant) (name : List ℕ) (kind : Kind) → Child i dir n name kind → entry_in dir (node_by i n w (row_at i n)) ≡ Some (name, kind)
-  entry_is i dir n w name kind c =
-      ap (λ o. entry_in dir (node_by i n w o)) c.at
-      ∙ ap (λ t. cond t (Some (name_of i n c.row, c.row.kind)) None) (eq-eqb c.row.parent dir c.parent)
-      ∙ ap (λ l. Some (l, c.row.kind)) c.name_is
-      ∙ ap (λ t. Some (name, t)) c.kind_is
+  entry_is i dir n w name kind c = search (arith, eq-eqb)
 
   -- the root is in no directory
   root_above : (i : Image) (fit : IsFit i.core) (v : Verifies i) (n : ℕ) (r : Row) → row_at i n ≡ Some r → n ≡ 1 → r.parent ≡ 0
@@ -200,7 +187,7 @@ module _ (s s' : State) (k : Kept s) (k' : Kept s') (whole : LentWhole s) (lib :
       let root = root_is_met i.core plain fit v.sound in
       let f = read_met i.core plain fit v.sound (root_of i.core) root in
       let there : row_at i 1 ≡ Some (row_by (root_of i.core) f.0.body) = row_at_is i.core plain fit v.sound i (tables_of i fit v) 1 ∙ row_met i.core plain fit v.sound (root_of i.core) f.0 root f.1 in
-      ap (λ (x : Row). x.parent) (one_of r (row_by (root_of i.core) f.0.body) (sym row ∙ ap (row_at i) one ∙ there))
+      ap (λ (x : Row). x.parent) (same_Some r (row_by (root_of i.core) f.0.body) (sym row ∙ ap (row_at i) one ∙ there))
 
   live_above : (n : ℕ) (r : Row) → row_at s.home n ≡ Some r → n ≡ 0 → ⊥
   live_above n r row z =
@@ -245,7 +232,7 @@ module _ (s s' : State) (k : Kept s) (k' : Kept s') (whole : LentWhole s) (lib :
   in_dir dir (Some q) =
       elim (cases_eq q.parent dir) [
         | inl same ↦ inl (q, refl, same)
-        | inr differ ↦ inr (λ x f p. differ (ap (λ (y : Row). y.parent) (one_of q x f) ∙ p))
+        | inr differ ↦ inr (λ x f p. differ (ap (λ (y : Row). y.parent) (same_Some q x f) ∙ p))
       ]
 
   -- each entry of a file that stays is one after it, and the other way round
@@ -268,13 +255,7 @@ module _ (s s' : State) (k : Kept s) (k' : Kept s') (whole : LentWhole s) (lib :
 
   content_stays : (n : ℕ) (r r' : Row) → Stays n r r' → SameContent (nodes_of s) (nodes_of s') n
   content_stays n r r' st = record {
-    bytes =
-        ap bytes_in (is n)
-        ∙ ap (λ o. bytes_in (node_by after n (writer_of s' n) o)) st.row'
-        ∙ ap (bytes_of after n r' (writer_of s' n)) st.kind
-        ∙ stays_kind n r r' st r.kind refl
-        ∙ sym (ap (λ o. bytes_in (node_by image n (writer_of s n) o)) st.row)
-        ∙ sym (ap bytes_in (was n));
+    bytes = search (arith, is, stays_kind, was);
     entries = entries_stay n r r' st;
   }
 
@@ -289,7 +270,7 @@ module _ (s s' : State) (k : Kept s) (k' : Kept s') (whole : LentWhole s) (lib :
   -- the rights of one that is met after it
   rights_of : (n : ℕ) (r r' : Row) → row_at s.home n ≡ Some r → row_at after n ≡ Some r' → (t : Bool) → is_among n b.holds ≡ t → (r'.kind ≡ r.kind) × (r'.mode ≡ r.mode) × (r'.uid ≡ r.uid) × (r'.gid ≡ r.gid)
   rights_of n r r' row row' false un =
-      let same : r ≡ r' = one_of r r' (sym (unheld_row n r row un) ∙ row') in
+      let same : r ≡ r' = same_Some r r' (sym (unheld_row n r row un) ∙ row') in
       (ap (λ (x : Row). x.kind) (sym same), ap (λ (x : Row). x.mode) (sym same), ap (λ (x : Row). x.uid) (sym same), ap (λ (x : Row). x.gid) (sym same))
   rights_of n r r' row row' true held =
       held_rights s k lib (creds_of s lib) b given accepted n r r' (is_among-In n b.holds held) row
@@ -298,12 +279,7 @@ module _ (s s' : State) (k : Kept s) (k' : Kept s') (whole : LentWhole s) (lib :
   -- ---- grants that stand
 
   grant_stands : (n : ℕ) (g : OpenGrant) (t : GrantKind) → In g s.open_grants → g.lib ≡ lib → g.ino ≡ n → g.kind ≡ t → same_kind t t ≡ true → stands gs lib n t ≡ true
-  grant_stands n g t i l ino kind refl_kind =
-      list_any-map standing_of (λ (g : Standing). eqb g.lib lib && eqb g.ino n && same_kind g.kind t) s.open_grants
-      ∙ In-list_any (λ (g : OpenGrant). eqb g.lib lib && eqb g.ino n && same_kind g.kind t) g s.open_grants i
-      (and_from (eqb g.lib lib && eqb g.ino n) (same_kind g.kind t)
-      (and_from (eqb g.lib lib) (eqb g.ino n) (eq-eqb g.lib lib l) (eq-eqb g.ino n ino))
-      (ap (λ (x : GrantKind). same_kind x t) kind ∙ refl_kind))
+  grant_stands n g t i l ino kind refl_kind = search (arith, list_any-map, In-list_any, and_from, eq-eqb)
 
   written_stands : (n : ℕ) → is_written b n ≡ true → stands gs lib n Write ≡ true
   written_stands n wr =
@@ -327,9 +303,7 @@ module _ (s s' : State) (k : Kept s) (k' : Kept s') (whole : LentWhole s) (lib :
       ∙ a
     where
       write_same : (t : GrantKind) → same_kind t Write ≡ is_write t
-      write_same Read = refl
-      write_same Write = refl
-      write_same Hold = refl
+      write_same t = search arith
 
   others_out : (n : ℕ) → is_others gs lib n ≡ true → (is_written b n ≡ false) × (is_among n b.holds ≡ false)
   others_out n t = (
@@ -388,7 +362,7 @@ module _ (s s' : State) (k : Kept s) (k' : Kept s') (whole : LentWhole s) (lib :
             let three : entry_in r.parent (Some (node_of after n (writer_of s' n) r)) ≡ Some (name_of after n r, r.kind) = ap (λ t. cond t (Some (name_of after n r, r.kind)) None) here in
             let four : entry_in r.parent (Some (node_of image n (writer_of s n) r)) ≡ Some (name_of image n r, r.kind) = ap (λ t. cond t (Some (name_of image n r, r.kind)) None) here in
             let both : Some (name_of after n r, r.kind) ≡ Some (name_of image n r, r.kind) = sym three ∙ sym one ∙ same ∙ two ∙ four in
-            ap (λ (p : List ℕ × Kind). p.0) (one_of (name_of after n r, r.kind) (name_of image n r, r.kind) both)
+            ap (λ (p : List ℕ × Kind). p.0) (same_Some (name_of after n r, r.kind) (name_of image n r, r.kind) both)
       ]
 
   name_by_cases : (n : ℕ) (x : Node) → node_at (nodes_of s) n ≡ Some x → (t u : Bool) → is_among n b.holds ≡ t → (l : Live s n x) → is_written b l.row.parent ≡ u → (stands gs lib x.parent Write ≡ true) ⊎ HasNameOf x (node_at (nodes_of s') n)
@@ -441,7 +415,7 @@ module _ (s s' : State) (k : Kept s) (k' : Kept s') (whole : LentWhole s) (lib :
       new_cases n y none there' (Some r) o' row row' = (let wrong : Some (node_of image n (writer_of s n) r) ≡ None = sym (was n ∙ ap (node_by image n (writer_of s n)) row) ∙ none in absurd (cc wrong))
       new_cases n y none there' None None row row' = (let wrong : None ≡ Some y = sym (now_is n None row') ∙ there' in absurd (cc wrong))
       new_cases n y none there' None (Some r') row row' =
-          let same : node_of after n (writer_of s' n) r' ≡ y = one_of (node_of after n (writer_of s' n) r') y (sym (now_is n (Some r') row') ∙ there') in
+          let same : node_of after n (writer_of s' n) r' ≡ y = same_Some (node_of after n (writer_of s' n) r') y (sym (now_is n (Some r') row') ∙ there') in
           let o = new_owner n r' row' row (file_is s k lib (creds_of s lib) b given accepted (at_now n r' row').met (at_now n r' row').stands) in
           (ap (λ (z : Node). z.uid) (sym same) ∙ o.0, ap (λ (z : Node). z.gid) (sym same) ∙ o.1)
 
@@ -461,7 +435,7 @@ module _ (s s' : State) (k : Kept s) (k' : Kept s') (whole : LentWhole s) (lib :
   told_has : (n at : ℕ) (pages : List ℕ) (i page : ℕ) → slice_get pages i ≡ Some page → is_block_told image after h n (at + i) page ≡ true → (x : ToldBlock) × In x (told_blocks image after h n at pages) × (x.ino ≡ n) × (x.at ≡ at + i)
   told_has n at [] i page get t = absurd cc
   told_has n at (p ∷ ps) zero page get t =
-      let same : p ≡ page = one_of p page get in
+      let same : p ≡ page = same_Some p page get in
       let e : at + 0 ≡ at = omega arith in
       let x : ToldBlock = record { ino = n; at = at; bytes = unwrap_or (page_of after.core p) [] } in
       let told : is_block_told image after h n at p ≡ true = ap (is_block_told image after h n at) same ∙ ap (λ m. is_block_told image after h n m page) (sym e) ∙ t in
@@ -472,10 +446,7 @@ module _ (s s' : State) (k : Kept s) (k' : Kept s') (whole : LentWhole s) (lib :
       (r.0, told_step (is_block_told image after h n at p) (record { ino = n; at = at; bytes = unwrap_or (page_of after.core p) [] }) r.0 (told_blocks image after h n (at + 1) ps) r.1, r.2, r.3 ∙ sym e)
 
   old_size : (n : ℕ) (q : Row) → row_at s.home n ≡ Some q → q.kind ≡ Regular → length (bytes_in (node_at (nodes_of s) n)) ≡ size_of image n
-  old_size n q row regular =
-      ap (λ o. length (bytes_in o)) (was n ∙ ap (node_by image n (writer_of s n)) row)
-      ∙ ap (λ t. length (bytes_of image n q (writer_of s n) t)) regular
-      ∙ old_long s k whole n q row
+  old_size n q row regular = search (arith, was, old_long)
 
   -- a position within the size has its block
   has_block : (n : ℕ) (r : Row) (row : row_at after n ≡ Some r) (at : ℕ) → 4096 * at < size_of after n → (page : ℕ) × (slice_get (block_numbers after n (row_at after n)) at ≡ Some page)
@@ -496,10 +467,7 @@ module _ (s s' : State) (k : Kept s) (k' : Kept s') (whole : LentWhole s) (lib :
   listed_in n f i number regular there at page get t =
       let zero_i : 0 + at ≡ at = omega arith in
       let x = told_has n 0 (block_numbers after n (row_at after n)) at page get (ap (λ m. is_block_told image after h n m page) zero_i ∙ t) in
-      let own : told_blocks_of image after h f f.kind ≡ told_blocks image after h n 0 (block_numbers after n (row_at after n)) =
-      ap (told_blocks_of image after h f) regular
-      ∙ ap (λ q. cond q [] (told_blocks image after h f.ino 0 (block_numbers after f.ino (row_at after f.ino)))) there
-      ∙ ap (λ m. told_blocks image after h m 0 (block_numbers after m (row_at after m))) number in
+      let own : told_blocks_of image after h f f.kind ≡ told_blocks image after h n 0 (block_numbers after n (row_at after n)) = search (arith, there) in
       let mine : In x.0 blocks = In-flat (λ f. told_blocks_of image after h f f.kind) f x.0 these i (subst (λ l. In x.0 l) (sym own) x.1) in
       In-list_any (λ (y : ToldBlock). eqb y.ino f.ino && eqb y.at at) x.0 blocks mine
       (and_from (eqb x.0.ino f.ino) (eqb x.0.at at) (eq-eqb x.0.ino f.ino (x.2 ∙ sym number)) (eq-eqb x.0.at at (x.3 ∙ zero_i)))
@@ -524,32 +492,17 @@ module _ (s s' : State) (k : Kept s) (k' : Kept s') (whole : LentWhole s) (lib :
           inr (old (row_at s.home n) refl u.same u.counted)
         where
           old : (o : Option Row) → row_at s.home n ≡ o → slice_get (block_numbers image n (row_at image n)) at ≡ Some page → min (size_of after n) (4096 * at + 4096) ≤ size_of image n → min f.size (4096 * at + 4096) ≤ length (bytes_in (node_at (nodes_of s) f.ino))
-          old None dead found counted = (let wrong : slice_get (block_numbers image n None) at ≡ Some page = ap (λ o. slice_get (block_numbers image n o) at) (sym dead) ∙ found in absurd (cc wrong))
-          old (Some q) live found counted =
-              let was_kind : q.kind ≡ Regular = sym (rights_of n q r live row (is_among n b.holds) refl).0 ∙ kind in
-              let l : length (bytes_in (node_at (nodes_of s) f.ino)) ≡ size_of image n = ap (λ m. length (bytes_in (node_at (nodes_of s) m))) number ∙ old_size n q live was_kind in
-              omega (arith, l, counted, size)
+          old o h found counted = search (arith, live, rights_of, old_size)
 
   -- one that is gone
   known_gone : (n : ℕ) (q : Row) (f : RawFile) → row_at s.home n ≡ Some q → told_file image b n true q ≡ f → Known f
-  known_gone n q f row same at regular inside =
-      let number : f.ino ≡ n = sym (ap (λ (x : RawFile). x.ino) same) in
-      let size : f.size ≡ size_of image n = sym (ap (λ (x : RawFile). x.size) same) in
-      let kind : q.kind ≡ Regular = ap (λ (x : RawFile). x.kind) same ∙ regular in
-      let l : length (bytes_in (node_at (nodes_of s) f.ino)) ≡ size_of image n = ap (λ m. length (bytes_in (node_at (nodes_of s) m))) number ∙ old_size n q row kind in
-      inr (omega (arith, l, size))
+  known_gone n q f row same at regular inside = search (arith, old_size)
 
   known_by : (n : ℕ) (f : RawFile) (t : Bool) (o o' : Option Row) → row_at s.home n ≡ o → row_at after n ≡ o' → cond t (told_by image after b n o o') None ≡ Some f → In f these → Known f
-  known_by n f false o o' row row' q i = absurd cc
-  known_by n f true None None row row' q i = absurd cc
-  known_by n f true None (Some r) row row' q i = known_there n r f row' (one_of (told_file after b n false r) f q) i
-  known_by n f true (Some z) (Some r) row row' q i = known_there n r f row' (one_of (told_file after b n false r) f q) i
-  known_by n f true (Some z) None row row' q i = known_gone n z f row (one_of (told_file image b n true z) f q)
+  known_by n f t o o' row row' q i = search (arith, known_there, same_Some, known_gone)
 
   known_at : (f : RawFile) → In f these → Known f
-  known_at f i =
-      let q = files_from (raw_file image after b) (count_up 1 s.home.core.inodes) f i in
-      known_by q.0 f (is_told image after b q.0) (row_at s.home q.0) (row_at after q.0) refl refl q.1 i
+  known_at f i = search (arith, files_from, known_by)
 
   all_files : (P : RawFile → Type 0) (xs : List RawFile) → ((f : RawFile) → In f xs → P f) → AllByRecursion P xs
   all_files P [] h = tt

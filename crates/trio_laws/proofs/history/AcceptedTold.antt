@@ -5,6 +5,7 @@ use Rattle.std.specs.Option.{option_map}
 use Rattle.std.specs.Str.{bytes_eq}
 use Rattle.std.proofs.lemmas.Bool.{both_ways, cases_Bool, false_from_ne_true, or_cases, or_from, or_left, or_right}
 use Rattle.std.proofs.lemmas.Slice.Eq.{bytes_eq-Decides}
+use Rattle.std.proofs.lemmas.List.{map-id}
 use Rattle.trio_lists.specs.Lists.{In, are_new, is_among}
 use Rattle.trio_lists.proofs.Members.{In-cases, In-is_among, In-left, In-map, In-right, is_among-In, map-In}
 use Rattle.trio_lists.proofs.Sorting.{sorted_new}
@@ -41,7 +42,7 @@ use Rattle.trio_laws.proofs.history.AcceptedFiles.{unheld_now}
 use Rattle.trio_laws.proofs.history.AcceptedNames.{at_now, entry_now, fit_after, name_kept, size_listed, size_written, verifies_after}
 use Rattle.trio_laws.proofs.history.Listing.{listing as listed_now, name_listed, slot_named}
 use Rattle.trio_laws.proofs.history.RawParts.{raw_number}
-use Rattle.trio_laws.proofs.history.RefusedTold.{made_of, map_self}
+use Rattle.trio_laws.proofs.history.RefusedTold.{made_of}
 use Rattle.trio_laws.proofs.history.RisingKeys.{counted_sorted, in_made, joined_new, made_in, made_new, made_number}
 use Rattle.trio_laws.proofs.history.ToldNoted.{noted_name_is, noted_size_is}
 
@@ -56,9 +57,7 @@ told_unless true u x y e f = f ∙ sym (ap (λ q. cond q None y) e)
 told_unless false u x y e f = sym (ap (λ q. cond q None y) e)
 
 neither : (a d : Bool) → (not a && d) ≡ not (a || not d)
-neither true d = refl
-neither false true = refl
-neither false false = refl
+neither a d = search arith
 
 module _ (s : State) (lib : ℕ) (b : Bundle) (j : IsJudgeable s lib b) (acc : is_accepted (settled s) (creds_of s lib) b ≡ true) where
   abbrev I : Image
@@ -94,11 +93,7 @@ module _ (s : State) (lib : ℕ) (b : Bundle) (j : IsJudgeable s lib b) (acc : i
       (omega (arith, low, is), omega (arith, high, is))
 
   bounds_then : (n : ℕ) (r : Row) → row_at I n ≡ Some r → (1 ≤ n) × (n < 1 + I.core.inodes)
-  bounds_then n r row =
-      let q = live_bounds s lib b j n r row in
-      let low = q.0 in
-      let high = q.1 in
-      (omega (arith, low), omega (arith, high))
+  bounds_then n r row = search (arith, live_bounds)
 
   -- ---- what is told of a number
 
@@ -127,11 +122,7 @@ module _ (s : State) (lib : ℕ) (b : Bundle) (j : IsJudgeable s lib b) (acc : i
       let q = place_parts e.parent e.page e.slot (row_at I n) kept in
       let low = (live_bounds s lib b j n q.0 q.1).1 in
       let was : noted_name notes n ≡ name_by I n (row_at I n) = noted_name_is I n q.0 low q.1 ∙ sym (ap (name_by I n) q.1) in
-      ap (λ t. t && not (is_handed b n) && bytes_eq (noted_name notes n) (entry_name cs (made e))) kept
-      ∙ ap (λ x. not (is_handed b n) && bytes_eq x (entry_name cs (made e))) was
-      ∙ ap (λ x. not (is_handed b n) && bytes_eq (name_by I n (row_at I n)) x) (sym name)
-      ∙ neither (is_handed b n) (bytes_eq (name_by I n (row_at I n)) (name_of J n r))
-      ∙ ap not (sym (told_name n r row))
+      search (arith, neither, told_name)
 
   named : (n : ℕ) (r : Row) → row_at J n ≡ Some r → (n ≡ 1 → ⊥) → name_of J n r ≡ [] → ⊥
   named n r row other none =
@@ -152,12 +143,7 @@ module _ (s : State) (lib : ℕ) (b : Bundle) (j : IsJudgeable s lib b) (acc : i
                   let f = unheld_at s lib b j acc e q m live.2 live.0 in
                   absurd (both_ways (is_kept cs e) free
                   (place_from e.parent e.page e.slot (row_at I n) q live.2 (ap (λ (x : Row). x.parent) f.2) (ap (λ (x : Row). x.page) f.2) (ap (λ (x : Row). x.slot) f.2)))
-              | inr new ↦
-                  let dead : row_at I n ≡ None = new_dead s lib b j n new.0 in
-                  let differ : bytes_eq (name_by I n (row_at I n)) (name_of J n r) ≡ false =
-                  ap (λ o. bytes_eq (name_by I n o) (name_of J n r)) dead
-                  ∙ false_from_ne_true (bytes_eq [] (name_of J n r)) (λ t. named n r row other (sym ((bytes_eq-Decides [] (name_of J n r)).0 t))) in
-                  told_name n r row ∙ or_right (is_handed b n) (not (bytes_eq (name_by I n (row_at I n)) (name_of J n r))) (ap not differ)
+              | inr new ↦ search (arith, new_dead, false_from_ne_true, named, bytes_eq-Decides, told_name, or_right)
             ]
       ]
 
@@ -264,9 +250,7 @@ module _ (s : State) (lib : ℕ) (b : Bundle) (j : IsJudgeable s lib b) (acc : i
       unheld false y e = e
 
   other_untold : (n : ℕ) → is_listed l n ≡ false → is_handed b n ≡ false → raw_file I J b n ≡ None
-  other_untold n free un =
-      ap (λ t. cond t (told_by I J b n (row_at I n) (row_at J n)) None)
-      (or_from (is_handed b n) (is_some (row_at J n) && not (bytes_eq (name_by I n (row_at I n)) (name_by J n (row_at J n)))) un (same_name n (row_at I n) (row_at J n) refl refl free un))
+  other_untold n free un = search (arith, or_from, same_name)
 
   -- ---- the three lists together
 
@@ -274,22 +258,13 @@ module _ (s : State) (lib : ℕ) (b : Bundle) (j : IsJudgeable s lib b) (acc : i
   ino f = f.ino
 
   entry_number : (e : ListedEntry) (f : RawFile) → told_entry cs l notes e ≡ Some f → f.ino ≡ e.ino
-  entry_number e f h =
-      let p = unless_passed (is_untold cs notes e) (option_map (told_row b e.ino false (entry_name cs e) (entry_size cs notes e)) (row_after l cs.rows e.ino)) f h in
-      let r = made_of (told_row b e.ino false (entry_name cs e) (entry_size cs notes e)) (row_after l cs.rows e.ino) f p.1 in
-      ap (λ (x : RawFile). x.ino) r.2
+  entry_number e f h = search (arith, unless_passed, made_of)
 
   written_parts : (w : Written) (f : RawFile) → told_written cs l notes w ≡ Some f → (is_listed l w.ino ≡ false) × (f.ino ≡ w.ino)
-  written_parts w f h =
-      let p = unless_passed (is_listed l w.ino) (option_map (told_row b w.ino false (noted_name notes w.ino) (size_in w.body)) (row_after l cs.rows w.ino)) f h in
-      let r = made_of (told_row b w.ino false (noted_name notes w.ino) (size_in w.body)) (row_after l cs.rows w.ino) f p.1 in
-      (p.0, ap (λ (x : RawFile). x.ino) r.2)
+  written_parts w f h = search (arith, unless_passed, made_of)
 
   gone_parts : (n : ℕ) (f : RawFile) → told_gone cs l notes n ≡ Some f → (is_listed l n ≡ false) × (f.ino ≡ n)
-  gone_parts n f h =
-      let p = unless_passed (is_listed l n) (option_map (told_row b n true (noted_name notes n) (noted_size notes n)) (row_in cs.rows n)) f h in
-      let r = made_of (told_row b n true (noted_name notes n) (noted_size notes n)) (row_in cs.rows n) f p.1 in
-      (p.0, ap (λ (x : RawFile). x.ino) r.2)
+  gone_parts n f h = search (arith, unless_passed, made_of)
 
   abbrev entries : List RawFile
   entries = filter_map (told_entry cs l notes) l.entries
@@ -311,9 +286,7 @@ module _ (s : State) (lib : ℕ) (b : Bundle) (j : IsJudgeable s lib b) (acc : i
   listed_numbers (e ∷ es) = ap (λ ns. e.ino ∷ ns) (listed_numbers es)
 
   entries_new : are_new [] (map ino entries) ≡ true
-  entries_new =
-      made_new ino (λ (e : ListedEntry). e.ino) (told_entry cs l notes) entry_number l.entries
-      (ap (are_new []) (listed_numbers (judged_entries cs)) ∙ once_met s lib b j acc)
+  entries_new = search (arith, made_new, entry_number, listed_numbers, once_met)
 
   writes_new : are_new [] (map ino writes) ≡ true
   writes_new = made_new ino (λ (w : Written). w.ino) (told_written cs l notes) number_of_written b.writes j.given.writes_once
@@ -321,7 +294,7 @@ module _ (s : State) (lib : ℕ) (b : Bundle) (j : IsJudgeable s lib b) (acc : i
   gone_new : are_new [] (map ino gone) ≡ true
   gone_new =
       made_new ino (λ n. n) (told_gone cs l notes) number_of_gone l.held
-      (sorted_new (λ n. n) b.holds (ap (are_new []) (map_self b.holds) ∙ j.given.holds_once))
+      (sorted_new (λ n. n) b.holds (ap (are_new []) (map-id b.holds) ∙ j.given.holds_once))
 
   is_entry : (n : ℕ) → In n (map ino entries) → is_listed l n ≡ true
   is_entry n i =
@@ -365,10 +338,7 @@ module _ (s : State) (lib : ℕ) (b : Bundle) (j : IsJudgeable s lib b) (acc : i
   Stands f = (1 ≤ f.ino) × (f.ino < 1 + (settled s).core.inodes) × (raw_file (settled s) (next (settled s) b) b f.ino ≡ Some f)
 
   stands_from : (n : ℕ) (f : RawFile) → f.ino ≡ n → (1 ≤ n) × (n < 1 + I.core.inodes) → raw_file I J b n ≡ Some f → Stands f
-  stands_from n f is bounds told =
-      let low = bounds.0 in
-      let high = bounds.1 in
-      (omega (arith, low, is), omega (arith, high, is), ap (raw_file I J b) is ∙ told)
+  stands_from n f is bounds told = search arith
 
   of_entry : (f : RawFile) → In f entries → Stands f
   of_entry f i =

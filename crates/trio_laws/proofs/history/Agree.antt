@@ -1,11 +1,11 @@
 -- What is known of a state goes by the log that replays to it.
-use Rattle.std.proofs.Common.{◌≡◌, ℕ, eqb, List, [], ◌∷◌, sym, ap, ◌∙◌}
+use Rattle.std.proofs.Common.{◌≡◌, ℕ, List, [], ◌∷◌, sym, ap, ◌∙◌, arith}
 use Rattle.trio_lists.proofs.Filters.{filter-map}
-use Rattle.trio_state.specs.State.{OpenGrant, State}
+use Rattle.trio_state.specs.State.{State}
 use Rattle.trio_state.specs.Kept.{Kept}
 use Rattle.trio_state.specs.Run.{start}
 use Rattle.trio_nodes.specs.declared.entry.Entry.{Entry}
-use Rattle.trio_laws.specs.OutLaws.{numbers_to, out_of, without_checkpoint}
+use Rattle.trio_laws.specs.OutLaws.{out_of}
 use Rattle.trio_laws.specs.Known.{Known, known}
 use Rattle.trio_laws.proofs.KnownSteps.{steps_are_known}
 use Rattle.trio_laws.proofs.Runs.{step_kept, start_kept}
@@ -27,9 +27,7 @@ replays_agree image creds log s t fit v whole a b =
     replay_is_known image creds log s fit v whole a ∙ sym (replay_is_known image creds log t fit v whole b)
 
 out_is_known : (s : State) (lib : ℕ) → out_of s lib ≡ out_known (known s) lib
-out_is_known s lib =
-    ap (λ (l : List OpenGrant). record { grants = l; pages = numbers_to s.pages_out lib; numbers = numbers_to s.numbers_out lib })
-    (sym (filter-map without_checkpoint (λ (g : OpenGrant). eqb g.lib lib) s.open_grants))
+out_is_known s lib = search (arith, filter-map)
 
 pub out_is_logged : OutIsLogged
 out_is_logged image creds log s lib fit v whole r =

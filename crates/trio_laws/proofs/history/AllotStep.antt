@@ -1,5 +1,5 @@
 -- A step of an allotment extends the history.
-use Rattle.std.proofs.Common.{◌≡◌, ℕ, Bool, true, false, cond, ltb, ◌+◌, length, take, Option, Some, None, sym, refl, ap, subst, inl, inr, length-take-le, ltb-true, ltb-false}
+use Rattle.std.proofs.Common.{◌≡◌, ℕ, Bool, true, false, cond, ltb, length, take, Option, Some, None, sym, refl, ap, subst, inl, inr, length-take-le, ltb-true, ltb-false, arith}
 use Rattle.trio_rights.specs.Row.{Row}
 use Rattle.trio_layout.specs.Core.{Core, page_of}
 use Rattle.trio_lists.specs.Lists.{In}
@@ -17,7 +17,7 @@ use Rattle.trio_lists.proofs.Members.{In-right}
 use Rattle.trio_surveys.proofs.Owned.{pages_are}
 use Rattle.trio_surveys.proofs.Sheets.{Pages, page_same}
 use Rattle.trio_laws.proofs.StateFacts.{tables}
-use Rattle.trio_laws.specs.history.Stands.{blocks_of, node_by, nodes_of, past_of, writer_of}
+use Rattle.trio_laws.specs.history.Stands.{blocks_of, node_by, nodes_of, writer_of}
 use Rattle.trio_laws.specs.history.Entries.{Beside}
 use Rattle.trio_laws.proofs.history.Extends.{Extends, past_is}
 use Rattle.trio_laws.proofs.history.Facts.{nodes_by_one}
@@ -62,12 +62,7 @@ module _ (s : State) (k : Kept s) (lib count many : ℕ) where
   either : (x : Beside) (a b : Bool) → ltb (length (free_pages s)) count ≡ a → ltb (length (free_numbers s)) many ≡ b → (let o = cond {A = Outcome} a (record { answer = NoPages count (length (free_pages s)); after = logged s }) (cond b (record { answer = NoInodes many (length (free_numbers s)); after = logged s }) (record { answer = Given (take count (free_pages s)) (take many (free_numbers s)); after = s' })) in Extends s x (Allot lib count many) o.answer o.after)
   either x true b p q = record { legal = (refl, ltb-true (length (free_pages s)) count p); comes = refl; tells = refl; says = refl }
   either x false true p q = record { legal = (refl, ltb-true (length (free_numbers s)) many q); comes = refl; tells = refl; says = refl }
-  either x false false p q = record {
-    legal = (length-take-le count (free_pages s) (ltb-false (length (free_pages s)) count p), length-take-le many (free_numbers s) (ltb-false (length (free_numbers s)) many q));
-    comes = past_is s' (nodes_of s) (past_of s).grants (s.entries + 1) allot_nodes refl refl;
-    tells = refl;
-    says = refl;
-  }
+  either x false false p q = search (arith, ltb-true, length-take-le, ltb-false, past_is, allot_nodes)
 
   pub allot_extends : (x : Beside) (answer : CtlAnswer) (t : State) → Comes (allot_outcome s lib count many) answer t → Extends s x (Allot lib count many) answer t
   allot_extends x answer t c =

@@ -6,7 +6,6 @@ use Rattle.trio_state.specs.Run.{start}
 use Rattle.trio_state.specs.State.{IsLibrary, State}
 use Rattle.trio_laws.proofs.Runs.{start_kept}
 use Rattle.trio_nodes.specs.declared.entry.Entry.{Entry}
-use Rattle.trio_nodes.specs.declared.entry.Entry.TheVariants.{Grant, Allot, Back, Raw, Batch, Mode}
 use Rattle.trio_nodes.specs.Nodes.{Nodes}
 use Rattle.trio_nodes.specs.Legal.{Past, Legal, LegalFrom, library_in, past_after, beginning}
 use Rattle.trio_laws.specs.history.Stands.{nodes_of, past_of}
@@ -29,12 +28,7 @@ count_from libs p (e ∷ es) q h =
     omega (arith, r, l)
 
 library_same : (e : Entry) → library_of (event_of e) ≡ library_in e
-library_same (Grant lib ino kind answer) = refl
-library_same (Allot lib pages inodes answer) = refl
-library_same (Back lib ino) = refl
-library_same (Raw lib verdict files bundle) = refl
-library_same (Batch lib calls handed) = refl
-library_same (Mode lib ino mode answer call) = refl
+library_same e = search arith
 
 -- each entry of a log that replays is of one of the libraries
 all_listed : (es : List Entry) (s t : State) → ReplaysFrom s es t → AllByRecursion (λ e. IsLibrary s.creds (library_in e)) es

@@ -1,22 +1,20 @@
 -- How many blocks a file has, and how long their bytes are.
-use Rattle.std.proofs.Common.{◌≡◌, ℕ, zero, suc, ◌+◌, ◌-◌, ◌*◌, ◌/◌, ◌≤◌, Bool, true, false, cond, ◌&&◌, eqb, min, List, [], ◌∷◌, ◌++◌, length, take, drop, Option, Some, None, Ok, slice_get, sym, refl, ap, ◌∙◌, inl, inr, arith, length-append, length-take, length-drop, take_all, take-take, drop-drop, unwrap_or, flat_map}
+use Rattle.std.proofs.Common.{◌≡◌, ℕ, zero, suc, ◌+◌, ◌-◌, ◌*◌, ◌≤◌, Bool, true, false, cond, eqb, min, List, [], ◌∷◌, ◌++◌, length, take, drop, Option, Some, None, Ok, slice_get, sym, refl, ap, ◌∙◌, inl, inr, arith, length-append, length-take, length-drop, take_all, take-take, drop-drop, unwrap_or, flat_map}
 use Rattle.std.specs.List.{cons_option}
 use Rattle.std.specs.Option.{option_map, option_and_then}
-use Rattle.std.specs.Str.{bytes_eq}
 use Rattle.std.proofs.lemmas.Bool.{cases_lt}
-use Rattle.std.proofs.lemmas.List.{take-append-le}
+use Rattle.std.proofs.lemmas.List.{take-append-le, nil_from_length}
 use Rattle.trio_layout.specs.declared.range.CoreRange.{CoreRange}
 use Rattle.trio_layout.specs.declared.body.Body.{Body}
-use Rattle.trio_layout.specs.Body.{block_count}
-use Rattle.trio_layout.specs.Index.{Index, index_of, index_at, index_bytes, index_fits, numbers_in}
+use Rattle.trio_layout.specs.Index.{Index, index_of, numbers_in}
 use Rattle.trio_lists.specs.Lists.{In, result_map}
 use Rattle.trio_layout.specs.Core.{Core, page_of, at_page}
-use Rattle.trio_layout.specs.Chain.{Chain, with_index, index_page, chain_from, index_count, chain_of}
+use Rattle.trio_layout.specs.Chain.{Chain, with_index, index_page, chain_from, chain_of}
 use Rattle.trio_layout.specs.Image.{Image}
 use Rattle.trio_rights.specs.Sheets.{Sheet}
 use Rattle.trio_layout.specs.Pages.{sheets_of}
 use Rattle.trio_lists.proofs.Members.{result_then-Ok, result_map-Ok, option_and_then-Some, there_or-Ok}
-use Rattle.trio_laws.proofs.history.Told.{Count, block_bytes, take_over, none_long}
+use Rattle.trio_laws.proofs.history.Told.{Count, block_bytes, take_over}
 
 numbers_long : (n : ℕ) (bytes : List ℕ) → length (numbers_in n bytes) ≡ n
 numbers_long zero bytes = refl
@@ -28,16 +26,11 @@ said_index false i x e = absurd cc
 
 index_long : (used : ℕ) (last : Bool) (range : CoreRange) (bytes : List ℕ) (i : Index) → index_of used last range bytes ≡ Some i → length i.numbers ≡ used
 unfolding index_of
-index_long used last range bytes i e =
-    let same = said_index (bytes_eq bytes (index_bytes (index_at used bytes)) && index_fits used last range (index_at used bytes)) (index_at used bytes) i e in
-    ap (λ (x : Index). length x.numbers) (sym same) ∙ numbers_long used bytes
+index_long used last range bytes i e = search (arith, said_index, numbers_long)
 
 -- a chain names just so many blocks
 pub chain_long : (core : Core) (n blocks at : ℕ) (c : Chain) → chain_from core n blocks at ≡ Ok c → blocks ≤ 511 * n → length c.blocks ≡ blocks
-chain_long core zero blocks at c e h =
-    let same : record { index = []; blocks = [] } ≡ c = cc e in
-    let z : 0 ≡ blocks = omega (arith, h) in
-    ap (λ (x : Chain). length x.blocks) (sym same) ∙ z
+chain_long core zero blocks at c e h = search (arith, result_then-Ok, min, result_map-Ok, there_or-Ok, option_and_then-Some, index_long, length-append)
 chain_long core (suc more) blocks at c e h =
     let a = result_then-Ok (λ i. result_map (with_index at i) (chain_from core more (blocks - 511) i.next)) (index_page core at (min blocks 511) (eqb more 0)) c e in
     let b = result_map-Ok (with_index at a.0) (chain_from core more (blocks - 511) a.0.next) c a.2 in
@@ -50,9 +43,7 @@ chain_long core (suc more) blocks at c e h =
 
 -- the blocks of a body are just those of its size
 pub chain_count : (core : Core) (b : Body) (c : Chain) → chain_of core b ≡ Ok c → Count (length c.blocks) b.size
-chain_count core b c e =
-    let n : length c.blocks ≡ (b.size + 4095) / 4096 = chain_long core (index_count (block_count b.size)) (block_count b.size) b.head c e (omega arith) in
-    (omega (arith, n), omega (arith, n))
+chain_count core b c e = search (arith, chain_long)
 
 abbrev pub flat : List Sheet → List ℕ
 flat xs = flat_map (λ x. x.bytes) xs
@@ -87,7 +78,7 @@ drop_cut size a f full =
     elim (cases_lt size 4096) [
       | inl short ↦
           let l = length-take size (a ++ f) in
-          let none : drop 4096 (take size (a ++ f)) ≡ [] = none_long (drop 4096 (take size (a ++ f))) (let d = length-drop 4096 (take size (a ++ f)) in omega (arith, d, l, short)) in
+          let none : drop 4096 (take size (a ++ f)) ≡ [] = nil_from_length (drop 4096 (take size (a ++ f))) (let d = length-drop 4096 (take size (a ++ f)) in omega (arith, d, l, short)) in
           let z : size - 4096 ≡ 0 = omega (arith, short) in
           none ∙ sym (ap (λ n. take n f) z)
       | inr long ↦
@@ -119,9 +110,7 @@ first_cut size a f full =
 -- each block of a file, as far as its size goes
 pub chunk : (xs : List Sheet) (i : ℕ) (x : Sheet) (size : ℕ) → ((x : Sheet) → In x xs → length x.bytes ≡ 4096) → slice_get xs i ≡ Some x → take 4096 (drop (4096 * i) (take size (flat xs))) ≡ take (length (drop (4096 * i) (take size (flat xs)))) x.bytes
 chunk [] i x size full get = absurd cc
-chunk (y ∷ ys) zero x size full get =
-    let same : y ≡ x = cc get in
-    first_cut size y.bytes (flat ys) (full y (inl refl)) ∙ ap (λ (z : Sheet). take (length (take size (y.bytes ++ flat ys))) z.bytes) same
+chunk (y ∷ ys) zero x size full get = search (arith, first_cut, drop-drop, drop_cut)
 chunk (y ∷ ys) (suc i) x size full get =
     let z : List ℕ = take size (y.bytes ++ flat ys) in
     let e : 4096 * suc i ≡ 4096 + 4096 * i = omega arith in

@@ -1,5 +1,5 @@
 -- What is to be shown of a step: it makes no entry and changes nothing, or it makes one that is legal and comes to the state after it.
-use Rattle.std.proofs.Common.{◌≡◌, ℕ, List, [], ◌∷◌, map, Option, Some, None, refl, ap, ◌∙◌}
+use Rattle.std.proofs.Common.{◌≡◌, ℕ, List, [], ◌∷◌, map, Option, Some, None, refl, ap, ◌∙◌, arith}
 use Rattle.trio_state.specs.State.{OpenGrant, State}
 use Rattle.trio_state.specs.Bundles.{lent_part}
 use Rattle.trio_state.specs.Step.{Event, CtlAnswer}
@@ -27,10 +27,7 @@ Extends s x event answer s' = Comes' s event answer s' (entry_of s x event answe
 
 -- a past by its parts
 pub past_is : (s' : State) (nodes : Nodes) (grants : List Standing) (entries : ℕ) → nodes_of s' ≡ nodes → (past_of s').grants ≡ grants → s'.entries ≡ entries → past_of s' ≡ record { nodes = nodes; grants = grants; entries = entries }
-past_is s' nodes grants entries a b c =
-    ap (λ (x : Nodes). record { nodes = x; grants = (past_of s').grants; entries = s'.entries }) a
-    ∙ ap (λ (x : List Standing). record { nodes = nodes; grants = x; entries = s'.entries }) b
-    ∙ ap (λ (x : ℕ). record { nodes = nodes; grants = grants; entries = x }) c
+past_is s' nodes grants entries a b c = search arith
 
 -- what stands of grants goes by what they are but for their checkpoints
 pub standing_lent : (gs hs : List OpenGrant) → map lent_part gs ≡ map lent_part hs → map standing_of gs ≡ map standing_of hs

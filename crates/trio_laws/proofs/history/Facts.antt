@@ -1,10 +1,10 @@
 -- Lists under a test, and the nodes of a state by number.
-use Rattle.std.proofs.Common.{◌≡◌, ℕ, Bool, true, false, cond, ◌||◌, ◌+◌, ◌<◌, List, [], ◌∷◌, ◌++◌, get_or, Option, Some, None, sym, refl, ap, ◌∙◌, inl, inr, arith, find, filter}
+use Rattle.std.proofs.Common.{◌≡◌, ℕ, Bool, true, false, cond, ◌||◌, ◌+◌, ◌<◌, List, [], ◌∷◌, ◌++◌, Some, None, sym, refl, ap, ◌∙◌, inl, inr, arith, find, filter}
 use Rattle.std.specs.List.{list_any}
 use Rattle.std.proofs.lemmas.Bool.{cases_lt, false_from_ne_true, both_ways}
+use Rattle.std.proofs.lemmas.Option.{same_Some}
 use Rattle.trio_lists.specs.Lists.{In, tabulated}
 use Rattle.trio_rights.specs.Row.{Row}
-use Rattle.trio_layout.specs.Survey.{plain, survey, row_of}
 use Rattle.trio_layout.specs.Image.{row_at}
 use Rattle.trio_state.specs.State.{State, settled}
 use Rattle.trio_state.specs.Kept.{Kept}
@@ -12,7 +12,7 @@ use Rattle.trio_lists.proofs.Tabulated.{tabulated-get, tabulated-past, tabulated
 use Rattle.trio_lists.proofs.Filters.{list_any-In}
 use Rattle.trio_nodes.specs.declared.node.Node.{Node}
 use Rattle.trio_nodes.specs.Nodes.{node_at}
-use Rattle.trio_laws.specs.history.Stands.{node_by, node_in, node_of, nodes_of, writer_of}
+use Rattle.trio_laws.specs.history.Stands.{node_in, node_of, nodes_of, writer_of}
 
 pub any_same : {X : Type 0} (p q : X → Bool) (xs : List X) → ((x : X) → In x xs → p x ≡ q x) → list_any p xs ≡ list_any q xs
 any_same p q [] h = refl
@@ -54,26 +54,15 @@ find_filter p q (x ∷ xs) h = dropped_step p q x xs (q x) (h x (inl refl)) (fin
 module _ (s : State) (k : Kept s) where
   -- no row is past the last number
   pub row_past_none : (n : ℕ) → s.home.core.inodes < n → row_at s.home n ≡ None
-  row_past_none n l =
-      ap (λ rows. get_or rows n None) k.verifies.rows
-      ∙ tabulated-past (row_of (settled s).core (survey (settled s).core plain)) (s.home.core.inodes + 1) n None (omega arith)
+  row_past_none n l = search (arith, tabulated-past)
 
   -- the node of a number
   pub node_is : (n : ℕ) → node_at (nodes_of s) n ≡ node_in s n
-  node_is n =
-      elim (cases_lt n (s.home.core.inodes + 1)) [
-        | inl l ↦ tabulated-get (node_in s) (s.home.core.inodes + 1) n None l
-        | inr g ↦
-            tabulated-past (node_in s) (s.home.core.inodes + 1) n None g
-            ∙ sym (ap (node_by (settled s) n (writer_of s n)) (row_past_none n (omega arith)))
-      ]
+  node_is n = search (arith, cases_lt, tabulated-get, tabulated-past, row_past_none)
 
 -- nodes that are the same one by one
 pub nodes_by_one : (s s' : State) → s'.home.core.inodes ≡ s.home.core.inodes → ((n : ℕ) → node_in s' n ≡ node_in s n) → nodes_of s' ≡ nodes_of s
 nodes_by_one s s' count h = ap (λ c. tabulated (node_in s') (c + 1)) count ∙ tabulated-same (node_in s') (node_in s) (s.home.core.inodes + 1) h
-
-one_of : {X : Type 0} (x y : X) → Some x ≡ Some y → x ≡ y
-one_of x y e = cc e
 
 -- a live node, by its row
 pub record Live (s : State) (n : ℕ) (x : Node) : Type 0 where
@@ -82,12 +71,4 @@ pub record Live (s : State) (n : ℕ) (x : Node) : Type 0 where
   pub before : x ≡ node_of (settled s) n (writer_of s n) row
 
 pub live : (s : State) → Kept s → (n : ℕ) (x : Node) → node_at (nodes_of s) n ≡ Some x → Live s n x
-live s k n x there = by (row_at s.home n) refl
-  where
-    by : (o : Option Row) → row_at s.home n ≡ o → Live s n x
-    by None row = (let wrong : None ≡ Some x = sym (node_is s k n ∙ ap (node_by (settled s) n (writer_of s n)) row) ∙ there in absurd (cc wrong))
-    by (Some r) row = record {
-      row = r;
-      at = row;
-      before = sym (one_of (node_of (settled s) n (writer_of s n) r) x (sym (node_is s k n ∙ ap (node_by (settled s) n (writer_of s n)) row) ∙ there));
-    }
+live s k n x there = search (arith, Live, node_is, same_Some)

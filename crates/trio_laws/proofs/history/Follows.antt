@@ -1,20 +1,17 @@
 -- What a node says, by the file that a survey meets: its name by the entry that lists it, its bytes by size and blocks.
-use Rattle.std.proofs.Common.{◌≡◌, ℕ, Bool, true, false, cond, ◌&&◌, List, [], ◌∷◌, Option, Some, None, Ok, sym, refl, ap, ◌∙◌}
-use Rattle.std.specs.Option.{option_map_or}
-use Rattle.std.specs.Str.{bytes_eq}
+use Rattle.std.proofs.Common.{◌≡◌, ℕ, Bool, true, false, cond, List, Option, Some, None, Ok, sym, refl, ap, ◌∙◌, arith}
 use Rattle.std.proofs.lemmas.Bool.{ne_eqb}
 use Rattle.trio_rights.specs.Row.{Row}
 use Rattle.trio_rights.specs.declared.kind.Kind.{Kind}
-use Rattle.trio_rights.specs.declared.kind.Kind.TheVariants.{Regular, Directory}
+use Rattle.trio_rights.specs.declared.kind.Kind.TheVariants.{Regular}
 use Rattle.trio_layout.specs.declared.body.Body.{Body}
 use Rattle.trio_layout.specs.declared.range.CoreRange.{CoreRange}
-use Rattle.trio_layout.specs.declared.slot.EntryPart.{EntryPart}
-use Rattle.trio_layout.specs.Body.{body_of, body_at, body_bytes, body_fits}
+use Rattle.trio_layout.specs.Body.{body_of, body_at}
 use Rattle.trio_layout.specs.Core.{page_of}
-use Rattle.trio_layout.specs.Entries.{Listed, slot_bytes}
+use Rattle.trio_layout.specs.Entries.{Listed}
 use Rattle.trio_lists.specs.Lists.{In}
 use Rattle.trio_layout.specs.Survey.{Met, plain, FileRead, file_of, survey}
-use Rattle.trio_layout.specs.Pages.{settled_chain, block_sheets}
+use Rattle.trio_layout.specs.Pages.{settled_chain}
 use Rattle.trio_layout.specs.Image.{IsFit, Image, row_at}
 use Rattle.trio_state.specs.State.{OpenGrant}
 use Rattle.trio_layout.specs.Verifies.{Verifies}
@@ -22,7 +19,7 @@ use Rattle.trio_lists.proofs.Filters.{Ok-one}
 use Rattle.trio_surveys.proofs.Images.{one_met}
 use Rattle.trio_surveys.proofs.Local.{reads_from}
 use Rattle.trio_surveys.proofs.Places.{placed_from}
-use Rattle.trio_laws.specs.history.Stands.{name_in, name_of, size_of, blocks_of, bytes_of_sheets, bytes_of}
+use Rattle.trio_laws.specs.history.Stands.{name_of, size_of, blocks_of, bytes_of}
 use Rattle.trio_laws.proofs.history.Listing.{slot_entry, met_at, body_met, chain_met}
 use Rattle.trio_laws.proofs.history.Still.{sheets_same}
 
@@ -32,26 +29,20 @@ said_body false b x e = absurd cc
 
 pub body_is_at : (kind : Kind) (range : CoreRange) (bytes : List ℕ) (b : Body) → body_of kind range bytes ≡ Some b → body_at bytes ≡ b
 unfolding body_of
-body_is_at kind range bytes b e =
-    said_body (bytes_eq bytes (body_bytes (body_at bytes)) && body_fits kind range (body_at bytes)) (body_at bytes) b e
+body_is_at kind range bytes b e = search (arith, said_body)
 
 -- the name in the slot of an entry that is listed
 pub name_at_entry : (image : Image) (m : Met) (f : FileRead) (l : Listed) (n : ℕ) (r : Row) → file_of image.core m ≡ Ok f → In l f.entries → (n ≡ 1 → ⊥) → r.page ≡ l.page → r.slot ≡ l.slot → name_of image n r ≡ l.entry.name
 name_at_entry image m f l n r read i other page slot =
     let p = placed_from image.core m.kind f.chain.blocks f.entries l (reads_from image.core m f read).entries i in
-    ap (λ b. cond b (45 ∷ []) (option_map_or (name_in r.slot) (page_of image.core r.page) [])) (ne_eqb n 1 other)
-    ∙ ap (λ o. option_map_or (name_in r.slot) o []) (ap (page_of image.core) page ∙ p.page)
-    ∙ ap (λ t. name_in t p.bytes) slot
-    ∙ ap (λ (x : EntryPart). x.name) (slot_entry image.core.inodes (slot_bytes l.slot p.bytes) l.entry p.says)
+    search (arith, ne_eqb, slot_entry)
 
 module _ (image : Image) (fit : IsFit image.core) (v : Verifies image) (m : Met) (f : FileRead) (i : In m (survey image.core plain)) (read : file_of image.core m ≡ Ok f) (r : Row) (row : row_at image m.ino ≡ Some r) where
   met_is : (met_at image fit v m.ino r row).met ≡ m
   met_is = let q = met_at image fit v m.ino r row in one_met image.core plain fit v.sound q.met m q.stands i q.number
 
   file_is : (met_at image fit v m.ino r row).file ≡ f
-  file_is =
-      let q = met_at image fit v m.ino r row in
-      Ok-one (file_of image.core m) q.file f (ap (file_of image.core) (sym met_is) ∙ q.read) read
+  file_is = search (arith, met_at, Ok-one, met_is)
 
   -- the chain of a file that is met
   pub chain_read : settled_chain image r.kind m.ino ≡ Ok f.chain
@@ -82,20 +73,13 @@ pub record Follows (image image' : Image) (n : ℕ) (r r' : Row) : Type 0 where
 
 module _ (image image' : Image) (fit : IsFit image.core) (fit' : IsFit image'.core) (v : Verifies image) (v' : Verifies image') (n : ℕ) (r r' : Row) (row : row_at image n ≡ Some r) (row' : row_at image' n ≡ Some r') (f : Follows image image' n r r') where
   pub size_follows : size_of image' n ≡ size_of image n
-  size_follows =
-      ap (size_of image') (sym f.number')
-      ∙ size_read image' fit' v' f.met' f.file' f.stands f.read' r' (ap (row_at image') f.number' ∙ row')
-      ∙ f.size
-      ∙ sym (size_read image fit v f.met f.file f.stood f.read r (ap (row_at image) f.number ∙ row))
-      ∙ ap (size_of image) f.number
+  size_follows = search (arith, size_read)
 
   blocks_follow : r.kind ≡ Regular → blocks_of image' n r' None ≡ blocks_of image n r None
   blocks_follow regular =
       let was : settled_chain image r.kind n ≡ Ok f.file.chain = ap (settled_chain image r.kind) (sym f.number) ∙ chain_read image fit v f.met f.file f.stood f.read r (ap (row_at image) f.number ∙ row) in
       let now : settled_chain image' r'.kind n ≡ Ok f.file'.chain = ap (settled_chain image' r'.kind) (sym f.number') ∙ chain_read image' fit' v' f.met' f.file' f.stands f.read' r' (ap (row_at image') f.number' ∙ row') in
-      ap (block_sheets image'.core) (now ∙ ap Ok f.chain)
-      ∙ sheets_same image.core image'.core f.file.chain.blocks (f.pages regular)
-      ∙ ap (block_sheets image.core) (sym was)
+      search (arith, sheets_same)
 
   -- the blocks are the same, whoever writes
   blocks_whoever : (w : Option OpenGrant) → r.kind ≡ Regular → blocks_of image' n r' w ≡ blocks_of image n r w
@@ -103,6 +87,4 @@ module _ (image image' : Image) (fit : IsFit image.core) (fit' : IsFit image'.co
   blocks_whoever (Some g) regular = refl
 
   pub bytes_follow : (w : Option OpenGrant) (kind : Kind) → r.kind ≡ kind → bytes_of image' n r' w kind ≡ bytes_of image n r w kind
-  bytes_follow w Directory is = refl
-  bytes_follow w Regular is =
-      ap (λ z. bytes_of_sheets z (blocks_of image' n r' w)) size_follows ∙ ap (bytes_of_sheets (size_of image n)) (blocks_whoever w is)
+  bytes_follow w kind is = search (arith, size_follows, blocks_whoever)

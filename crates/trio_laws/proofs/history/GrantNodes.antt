@@ -1,5 +1,5 @@
 -- A grant leaves the nodes as they are.
-use Rattle.std.proofs.Common.{◌≡◌, ℕ, true, false, ◌&&◌, eqb, [], Option, Some, None, Ok, sym, refl, ap, ◌∙◌, subst, inl, inr}
+use Rattle.std.proofs.Common.{◌≡◌, ℕ, true, false, ◌&&◌, eqb, [], Option, Some, None, Ok, sym, refl, ap, ◌∙◌, subst, inl, inr, arith}
 use Rattle.std.proofs.lemmas.Bool.{and_right, and_from, eq-eqb, ne_eqb, cases_eq, false≢true}
 use Rattle.trio_rights.specs.Row.{Row}
 use Rattle.trio_nodes.specs.declared.grant.GrantKind.{GrantKind}
@@ -9,7 +9,7 @@ use Rattle.trio_lists.specs.Lists.{In}
 use Rattle.trio_layout.specs.Survey.{Met, plain, FileRead, file_of, survey, pages_of, row_by}
 use Rattle.trio_state.specs.Grants.{grant_fault, opened, opens, lent_pages}
 use Rattle.trio_layout.specs.Pages.{settled_chain, block_sheets}
-use Rattle.trio_layout.specs.Image.{Image, row_at}
+use Rattle.trio_layout.specs.Image.{row_at}
 use Rattle.trio_state.specs.State.{OpenGrant, State, settled}
 use Rattle.trio_nodes.specs.GrantKinds.{is_write}
 use Rattle.trio_state.specs.Kept.{Kept}
@@ -40,9 +40,7 @@ module _ (s : State) (k : Kept s) (g : OpenGrant) (none : lent_pages g ≡ []) (
   light_nodes = nodes_by_one s (opens s g) refl one
     where
       one : (n : ℕ) → node_in (opens s g) n ≡ node_in s n
-      one n =
-          ap (λ (i : Image). node_by i n (writer_of (opens s g) n) (row_at s.home n)) (settled_same s k g none bare read)
-          ∙ ap (λ w. node_by (settled s) n w (row_at s.home n)) (find_push (λ (h : OpenGrant). eqb h.ino n && is_write h.kind) s.open_grants g (not_writer g n light))
+      one n = search (arith, settled_same, find_push, not_writer)
 
 -- a write grant on a file that is met
 module _ (s : State) (k : Kept s) (lib : ℕ) (m : Met) (f : FileRead) (i : In m (survey (settled s).core plain)) (e : file_of (settled s).core m ≡ Ok f) (free : (g : OpenGrant) → In g s.open_grants → g.ino ≡ m.ino → ⊥) where
@@ -78,10 +76,7 @@ module _ (s : State) (k : Kept s) (lib : ℕ) (m : Met) (f : FileRead) (i : In m
       let name = name_still (settled s) after k.fit (fit' s k lib m f i e free) k.verifies (agree s k lib m f i e free) n r row in
       let size = size_still (settled s) after k.fit (fit' s k lib m f i e free) k.verifies (agree s k lib m f i e free) n r row in
       elim (cases_eq m.ino n) [
-        | inr other ↦
-            let same : writer_of (opens s g) n ≡ writer_of s n = find_push (λ (h : OpenGrant). eqb h.ino n && is_write h.kind) s.open_grants g (other_writer g n other) in
-            ap Some (node_same (settled s) (settled (opens s g)) n r (writer_of s n) (writer_of (opens s g) n) name size
-            (λ regular. ap (blocks_of (settled (opens s g)) n r) same ∙ blocks_now n r row (writer_of s n) other))
+        | inr other ↦ search (arith, find_push, other_writer, node_same, blocks_now)
         | inl same ↦
             let none : writer_of s n ≡ None = find_none (λ (h : OpenGrant). eqb h.ino n && is_write h.kind) s.open_grants (λ h j. other_writer h n (λ t. free h j (t ∙ sym same))) in
             let mine : writer_of (opens s g) n ≡ Some g = find_last (λ (h : OpenGrant). eqb h.ino n && is_write h.kind) s.open_grants g none (and_from (eqb m.ino n) true (eq-eqb m.ino n same) refl) in

@@ -1,10 +1,10 @@
 -- A step of a grant extends the history.
-use Rattle.std.proofs.Common.{◌≡◌, ℕ, Bool, true, false, cond, ◌&&◌, not, eqb, ◌+◌, List, [], ◌∷◌, ◌++◌, map, Option, Some, None, is_some, slice_get, sym, refl, ap, ◌∙◌, subst, option_map}
+use Rattle.std.proofs.Common.{◌≡◌, ℕ, Bool, true, false, cond, not, ◌+◌, List, [], ◌∷◌, ◌++◌, map, Option, Some, None, is_some, slice_get, sym, refl, ap, ◌∙◌, subst, option_map, arith}
 use Rattle.std.proofs.lemmas.List.{map-append}
 use Rattle.std.proofs.lemmas.Bool.{false_from_ne_true, eqb-true, both_ways, and_parts}
 use Rattle.trio_rights.specs.Row.{Row}
 use Rattle.trio_nodes.specs.declared.grant.GrantKind.{GrantKind}
-use Rattle.trio_nodes.specs.declared.grant.GrantKind.TheVariants.{Read, Write, Hold}
+use Rattle.trio_nodes.specs.declared.grant.GrantKind.TheVariants.{Write}
 use Rattle.trio_nodes.specs.declared.answers.GrantFault.{GrantFault}
 use Rattle.trio_nodes.specs.declared.answers.GrantFault.TheVariants.{NotLive, Denied, NoParent, Busy, NoMemory as OutOfMemory}
 use Rattle.trio_state.specs.Grants.{holder_of, denied_or, excluding, denied_by, lacks_parent, has_parent_grant, grant_fault, opened, opens, told_children}
@@ -29,16 +29,10 @@ use Rattle.trio_laws.proofs.history.Rights.{denier_is}
 
 -- one kind of write grant
 write_same : (k : GrantKind) → same_kind k Write ≡ is_write k
-write_same Read = refl
-write_same Write = refl
-write_same Hold = refl
+write_same k = search arith
 
 excludes_same : (asked other : GrantKind) (b : Bool) → excludes_kind asked other b ≡ excludes_kind asked other b
-excludes_same Read Read b = refl
-excludes_same Read Write b = refl
-excludes_same Read Hold b = refl
-excludes_same Write other b = refl
-excludes_same Hold other b = refl
+excludes_same asked other b = search arith
 
 -- why a grant is refused, of the parts that decide it
 abbrev Caused : Option Row → Option ℕ → Bool → GrantFault → Type 0
@@ -49,42 +43,23 @@ Caused row by lacks (Busy holder) = Unit {0}
 Caused row by lacks OutOfMemory = ⊥
 
 caused : (row : Option Row) (by : Option ℕ) (lacks : Bool) (o : Option OpenGrant) (f : GrantFault) → cond (not (is_some row)) (Some NotLive) (denied_or by (cond lacks (Some NoParent) (option_map (λ (g : OpenGrant). Busy (holder_of g)) o))) ≡ Some f → Caused row by lacks f
-caused None by lacks o f e = let C : GrantFault → Type 0 = λ x. Caused None by lacks x in let s : NotLive ≡ f = cc e in subst C s refl
-caused (Some r) (Some n) lacks o f e = let C : GrantFault → Type 0 = λ x. Caused (Some r) (Some n) lacks x in let s : Denied n ≡ f = cc e in subst C s refl
-caused (Some r) None true o f e = let C : GrantFault → Type 0 = λ x. Caused (Some r) None true x in let s : NoParent ≡ f = cc e in subst C s refl
-caused (Some r) None false None f e = absurd cc
-caused (Some r) None false (Some g) f e = let C : GrantFault → Type 0 = λ x. Caused (Some r) None false x in let s : Busy (holder_of g) ≡ f = cc e in subst C s tt
+caused row by lacks o f e = search arith
 
 passed : (row : Option Row) (by : Option ℕ) (lacks : Bool) (o : Option OpenGrant) → cond (not (is_some row)) (Some NotLive) (denied_or by (cond lacks (Some NoParent) (option_map (λ (g : OpenGrant). Busy (holder_of g)) o))) ≡ None → (by ≡ None) × (lacks ≡ false)
-passed None by lacks o e = absurd cc
-passed (Some r) (Some n) lacks o e = absurd cc
-passed (Some r) None true o e = absurd cc
-passed (Some r) None false o e = (refl, refl)
+passed row by lacks o e = search arith
 
 module _ (s : State) (k : Kept s) (lib ino : ℕ) (kind : GrantKind) where
   abbrev gs : List Standing
   gs = map standing_of s.open_grants
 
   parent_is : (n : ℕ) (o : Option Row) → parent_stands gs lib (node_by (settled s) n (writer_of s n) o) ≡ has_parent_grant s lib o
-  parent_is n None = refl
-  parent_is n (Some r) =
-      list_any-map standing_of (λ (g : Standing). eqb g.lib lib && eqb g.ino r.parent && same_kind g.kind Write) s.open_grants
-      ∙ any_same (λ (g : OpenGrant). eqb g.lib lib && eqb g.ino r.parent && same_kind g.kind Write) (λ (g : OpenGrant). eqb g.lib lib && eqb g.ino r.parent && is_write g.kind) s.open_grants
-      (λ g i. ap (λ b. eqb g.lib lib && eqb g.ino r.parent && b) (write_same g.kind))
+  parent_is n o = search (arith, list_any-map, any_same, write_same)
 
   lacks_is : (t : GrantKind) → lacks_directory gs lib t (node_at (nodes_of s) ino) ≡ lacks_parent s lib ino t
-  lacks_is Read = refl
-  lacks_is Write = refl
-  lacks_is Hold = ap (λ x. not (parent_stands gs lib x)) (node_is s k ino) ∙ ap not (parent_is ino (row_at s.home ino))
+  lacks_is t = search (arith, node_is, parent_is)
 
   excluded_is : grant_fault s lib ino kind ≡ None → is_excluded gs lib ino kind ≡ false
-  excluded_is e =
-      list_any-map standing_of (λ (g : Standing). eqb g.ino ino && excludes_kind kind g.kind (eqb g.lib lib)) s.open_grants
-      ∙ any_none (λ (g : OpenGrant). eqb g.ino ino && excludes_kind kind g.kind (eqb g.lib lib)) s.open_grants
-      (λ g i. false_from_ne_true (eqb g.ino ino && excludes_kind kind g.kind (eqb g.lib lib))
-      (λ t.
-      let p = and_parts (eqb g.ino ino) (excludes_kind kind g.kind (eqb g.lib lib)) t in
-      both_ways (excludes_kind kind g.kind (eqb g.lib lib)) (excluded_none s lib ino kind e g i (eqb-true g.ino ino p.0)) (sym (excludes_same kind g.kind (eqb g.lib lib)) ∙ p.1)))
+  excluded_is e = search (arith, list_any-map, any_none, false_from_ne_true, and_parts, both_ways, excluded_none, eqb-true, excludes_same)
 
   live_is : (r : Row) → row_at s.home ino ≡ Some r → is_some (node_at (nodes_of s) ino) ≡ true
   live_is r row = ap is_some (node_is s k ino ∙ ap (node_by (settled s) ino (writer_of s ino)) row)

@@ -1,5 +1,5 @@
 -- One block of bytes that are cut or grown to another size.
-use Rattle.std.proofs.Common.{◌≡◌, ℕ, zero, suc, ◌+◌, ◌-◌, ◌*◌, ◌<◌, ◌≤◌, Bool, true, false, ◌||◌, not, eqb, ltb, min, List, [], ◌∷◌, ◌++◌, length, take, drop, replicate, Option, Some, None, slice_get, sym, refl, ap, ◌∙◌, inl, inr, arith, length-append, length-take, take_all, take-take, drop-drop, append_assoc, ltb-false}
+use Rattle.std.proofs.Common.{◌≡◌, ℕ, zero, suc, ◌+◌, ◌-◌, ◌*◌, ◌<◌, ◌≤◌, true, false, eqb, min, List, [], ◌∷◌, ◌++◌, length, take, drop, Option, Some, None, slice_get, sym, refl, ap, ◌∙◌, inl, inr, arith, length-append, length-take, take_all, take-take, drop-drop, append_assoc, ltb-false}
 use Rattle.std.specs.Option.{option_map_or}
 use Rattle.std.proofs.lemmas.Bool.{cases_lt, or_parts, eqb-true, not-false}
 use Rattle.std.proofs.lemmas.List.{take-append-le, length-replicate}
@@ -14,12 +14,7 @@ use Rattle.trio_laws.proofs.history.Blocks.{flat, flat_long, drop_cut}
 use Rattle.trio_laws.proofs.history.Told.{take_over}
 
 pub resized_long : (size : ℕ) (bytes : List ℕ) → length (resized size bytes) ≡ size
-resized_long size bytes =
-    let z : List ℕ = replicate (size - length bytes) 0 in
-    let a = length-take size (bytes ++ z) in
-    let b = length-append bytes z in
-    let c : length z ≡ size - length bytes = length-replicate (size - length bytes) 0 in
-    omega (arith, a, b, c)
+resized_long size bytes = search (arith, length-take, length-append, length-replicate)
 
 first_grown : (x : Sheet) (f zs : List ℕ) (z size : ℕ) → length x.bytes ≡ 4096 → length (take z (x.bytes ++ f)) ≡ z → min size 4096 ≤ z → size ≤ z + length zs → take 4096 (take size (take z (x.bytes ++ f) ++ zs)) ≡ take (length (take size (take z (x.bytes ++ f) ++ zs))) x.bytes
 first_grown x f zs z size full long low far =
@@ -46,16 +41,7 @@ first_grown x f zs z size full long low far =
 -- a block whose bytes were all counted before is the old one, as far as the size goes
 pub chunk_grown : (xs : List Sheet) (i : ℕ) (x : Sheet) (z size : ℕ) (zs : List ℕ) → ((x : Sheet) → In x xs → length x.bytes ≡ 4096) → slice_get xs i ≡ Some x → z ≤ 4096 * length xs → 4096 * i < size → min size (4096 * i + 4096) ≤ z → size ≤ z + length zs → take 4096 (drop (4096 * i) (take size (take z (flat xs) ++ zs))) ≡ take (length (drop (4096 * i) (take size (take z (flat xs) ++ zs)))) x.bytes
 chunk_grown [] i x z size zs full get count inside low far = absurd cc
-chunk_grown (y ∷ ys) zero x z size zs full get count inside low far =
-    let same : y ≡ x = cc get in
-    let whole : length y.bytes ≡ 4096 = full y (inl refl) in
-    let lf = flat_long ys (λ w j. full w (inr j)) in
-    let la = length-append y.bytes (flat ys) in
-    let lt = length-take z (y.bytes ++ flat ys) in
-    let n : length (y ∷ ys) ≡ suc (length ys) = refl in
-    let long : length (take z (y.bytes ++ flat ys)) ≡ z = omega (arith, lf, la, lt, n, whole, count) in
-    first_grown y (flat ys) zs z size whole long (omega (arith, low)) far
-    ∙ ap (λ (t : Sheet). take (length (take size (take z (y.bytes ++ flat ys) ++ zs))) t.bytes) same
+chunk_grown (y ∷ ys) zero x z size zs full get count inside low far = search (arith, flat_long, length-append, length-take, first_grown, take_over, append_assoc, drop-drop, drop_cut)
 chunk_grown (y ∷ ys) (suc i) x z size zs full get count inside low far =
     let whole : length y.bytes ≡ 4096 = full y (inl refl) in
     let n : length (y ∷ ys) ≡ suc (length ys) = refl in
@@ -83,12 +69,4 @@ pub record Unlisted' (before after : Image) (h : Handed) (n at page : ℕ) : Typ
   pub counted : min (size_of after n) (4096 * at + 4096) ≤ size_of before n
 
 pub unlisted_is : (before after : Image) (h : Handed) (n at page : ℕ) → is_block_told before after h n at page ≡ false → Unlisted' before after h n at page
-unlisted_is before after h n at page e =
-    let o : Bool = option_map_or (λ q. eqb q page) (slice_get (block_numbers before n (row_at before n)) at) false in
-    let p = or_parts (is_touched h page || not o) (ltb (size_of before n) (min (size_of after n) (4096 * at + 4096))) e in
-    let q = or_parts (is_touched h page) (not o) p.0 in
-    record {
-      clean = q.0;
-      same = found_at (slice_get (block_numbers before n (row_at before n)) at) page (not-false o q.1);
-      counted = ltb-false (size_of before n) (min (size_of after n) (4096 * at + 4096)) p.1;
-    }
+unlisted_is before after h n at page e = search (arith, or_parts, min, found_at, not-false, ltb-false)

@@ -1,5 +1,5 @@
 -- What is recorded stays recorded by each step.
-use Rattle.std.proofs.Common.{◌≡◌, ℕ, true, ◌++◌, eqb, not, ◌&&◌, List, [], ◌∷◌, length, Option, Some, None, Result, Ok, Err, sym, refl, ap, ◌∙◌, subst, inl, inr, append-nil}
+use Rattle.std.proofs.Common.{◌≡◌, ℕ, true, ◌++◌, eqb, not, ◌&&◌, List, [], ◌∷◌, length, Option, Some, None, Result, Ok, Err, sym, refl, ap, subst, inl, inr, append-nil, arith}
 use Rattle.std.specs.Option.{option_to_list}
 use Rattle.trio_rights.specs.declared.rights.Creds.{Creds}
 use Rattle.trio_rights.specs.Bundle.{Bundle}
@@ -7,7 +7,6 @@ use Rattle.trio_rights.specs.Row.{Row}
 use Rattle.trio_rights.specs.Sheets.{Sheet}
 use Rattle.trio_nodes.specs.declared.entry.Entry.{Entry}
 use Rattle.trio_nodes.specs.declared.grant.GrantKind.{GrantKind}
-use Rattle.trio_nodes.specs.declared.grant.GrantKind.TheVariants.{Read, Write, Hold}
 use Rattle.trio_nodes.specs.declared.answers.GrantFault.{GrantFault}
 use Rattle.trio_nodes.specs.declared.answers.ModeFault.{ModeFault}
 use Rattle.trio_nodes.specs.GrantKinds.{is_read}
@@ -19,7 +18,7 @@ use Rattle.trio_layout.specs.Accept.{is_accepted, next}
 use Rattle.trio_layout.specs.Chain.{Chain}
 use Rattle.trio_layout.specs.Core.{Location}
 use Rattle.trio_layout.specs.Image.{row_at}
-use Rattle.trio_layout.specs.Pages.{block_sheets, settled_chain}
+use Rattle.trio_layout.specs.Pages.{block_sheets}
 use Rattle.trio_surveys.proofs.Sheets.{sheets_in}
 use Rattle.trio_state.specs.Bundles.{refused_image, Ends}
 use Rattle.trio_state.specs.Given.{GivenEvent, GivenTo}
@@ -62,35 +61,23 @@ record Replayed (s : State) (e : Entry) (s' : State) : Type 0 where
   pub step : Step s (event_of e) (answer_of e) s'
 
 replays_push : (s : State) (log : List Entry) (t u : State) (e : Entry) → ReplaysFrom s log t → Replayed t e u → ReplaysFrom s (log ++ e ∷ []) u
-replays_push s [] t u e r one =
-    let R : State → Type 0 = λ x. Replayed x e u in
-    let here : Replayed s e u = subst R r one in
-    (u, here.mine, here.given, here.step, refl)
+replays_push s [] t u e r one = search (arith, Replayed)
 replays_push s (x ∷ xs) t u e r one = (r.0, r.1, r.2, r.3, replays_push r.0 xs t u e r.4 one)
 
 -- ---- no step changes the credentials
 
 grant_creds : (s : State) (lib ino : ℕ) (kind : GrantKind) (f : Option GrantFault) (o : Option Row) → (granted_to s lib ino kind f o).after.creds ≡ s.creds
-grant_creds s lib ino kind (Some f) o = after_no_grant (λ x. x.creds ≡ s.creds) s f refl refl
-grant_creds s lib ino kind None None = refl
-grant_creds s lib ino kind None (Some r) = refl
+grant_creds s lib ino kind f o = search (arith, after_no_grant)
 
 mode_creds : (s : State) (ino mode : ℕ) (f : Option ModeFault) → (moded_to s ino mode f).after.creds ≡ s.creds
 mode_creds s ino mode (Some f) = after_no_mode (λ x. x.creds ≡ s.creds) s f refl refl
 mode_creds s ino mode None = refl
 
 release_creds : (s : State) (lib : ℕ) (b : Bundle) (answer : CtlAnswer) (s' : State) → ReleaseEnd s lib b answer s' → s'.creds ≡ s.creds
-release_creds s lib b answer s' (Parted n p a same) = ap (λ (x : State). x.creds) same
-release_creds s lib b answer s' (IsAccepted p y a ends) = ends.creds
-release_creds s lib b answer s' (IsRefused p n why a t ends) = ends.creds
+release_creds s lib b answer s' h = search arith
 
 does_creds : (s : State) (event : Event) (answer : CtlAnswer) (s' : State) → Does s event answer s' → s'.creds ≡ s.creds
-does_creds s (Grant lib ino kind) answer s' d = ap (λ (x : State). x.creds) d.1 ∙ grant_creds s lib ino kind (grant_fault s lib ino kind) (row_at s.home ino)
-does_creds s (Allot lib count many) answer s' d = ap (λ (x : State). x.creds) d.1 ∙ after_allot (λ x. x.creds ≡ s.creds) s lib count many refl refl
-does_creds s (Back lib ino) answer s' d = ap (λ (x : State). x.creds) d.1
-does_creds s (Release lib b) answer s' d = release_creds s lib b answer s' d
-does_creds s (Settle lib b) answer s' d = d.3.creds
-does_creds s (SetMode lib ino mode) answer s' d = ap (λ (x : State). x.creds) d.1 ∙ mode_creds s ino mode (mode_fault s lib ino mode (row_at s.home ino))
+does_creds s event answer s' d = search (arith, grant_creds, after_allot, release_creds, mode_creds)
 
 pub step_creds : (s : State) (event : Event) (answer : CtlAnswer) (s' : State) → Step s event answer s' → s'.creds ≡ s.creds
 step_creds s event answer s' (inl does) = does_creds s event answer s' does
@@ -99,9 +86,7 @@ step_creds s event answer s' (inr none) = ap (λ (x : State). x.creds) none.2
 -- ---- what grants lent stays whole
 
 lent_from : (kind : GrantKind) (xs : List Sheet) (x : Sheet) → In x (lent_sheets kind xs) → In x xs
-lent_from Read xs x i = i
-lent_from Write xs x i = i
-lent_from Hold xs x i = absurd i
+lent_from kind xs x i = search arith
 
 block_whole : (s : State) (k : Kept s) (o : Result Chain Location) (x : Sheet) → In x (block_sheets (settled s).core o) → length x.bytes ≡ 4096
 block_whole s k (Ok c) x i = (let q = sheets_in (settled s).core c.blocks x i in k.fit.full x.page x.bytes q.1)
@@ -111,12 +96,7 @@ opened_whole : (s : State) (k : Kept s) (lib ino : ℕ) (kind : GrantKind) (r : 
 opened_whole s k lib ino kind r w g x i j =
     elim (In-cases g s.open_grants (opened s lib ino kind r ∷ []) i) [
       | inl old ↦ w g x old j
-      | inr new ↦
-          elim new [
-            | inl same ↦
-                block_whole s k (settled_chain (settled s) r.kind ino) x (lent_from kind (block_sheets (settled s).core (settled_chain (settled s) r.kind ino)) x (subst (λ (y : OpenGrant). In x y.blocks) same j))
-            | inr none ↦ absurd none
-          ]
+      | inr new ↦ search (arith, block_whole, lent_from)
     ]
 
 grant_whole : (s : State) (k : Kept s) (lib ino : ℕ) (kind : GrantKind) (f : Option GrantFault) (o : Option Row) → LentWhole s → LentWhole (granted_to s lib ino kind f o).after
@@ -150,10 +130,7 @@ step_whole s k event answer s' (inr none) w = subst LentWhole (sym none.2) w
 
 -- the state stays, and so does the log
 same_recorded : (r : Recorded) (s' : State) → IsRecorded r → s' ≡ r.state → IsRecorded (record { first = r.first; state = s'; nodes = nodes_of s'; log = r.log ++ [] })
-same_recorded r s' i e =
-    let R : State → List Entry → Type 0 = λ t l. IsRecorded (record { first = r.first; state = t; nodes = nodes_of t; log = l }) in
-    let same : R r.state r.log = record { kept = i.kept; whole = i.whole; stands = refl; legal = i.legal; replays = i.replays } in
-    subst (λ t. R t (r.log ++ [])) (sym e) (subst (λ l. R r.state l) (sym (append-nil r.log)) same)
+same_recorded r s' i e = search (arith, append-nil)
 
 -- or an entry joins
 more_recorded : (r : Recorded) (event : Event) (answer : CtlAnswer) (s' : State) (e : Entry) → IsRecorded r → IsLibrary r.state.creds (library_of event) → GivenEvent r.state event → Step r.state event answer s' → Makes r.state event answer s' e → IsRecorded (record { first = r.first; state = s'; nodes = nodes_of s'; log = r.log ++ e ∷ [] })
@@ -182,12 +159,7 @@ by_entry r event answer s' (Some e) i mine given step c = more_recorded r event 
 
 -- want of memory makes no entry
 no_memory : (s : State) (x : Beside) (event : Event) (s' : State) → s' ≡ s → Extends s x event NoMemory s'
-no_memory s x (Grant lib ino kind) s' e = e
-no_memory s x (Allot lib pages numbers) s' e = e
-no_memory s x (Back lib ino) s' e = e
-no_memory s x (Release lib b) s' e = e
-no_memory s x (Settle lib b) s' e = e
-no_memory s x (SetMode lib ino mode) s' e = e
+no_memory s x event s' e = search arith
 
 not_closed : (s : State) (x : Beside) (lib : ℕ) (b : Bundle) (n : ℕ) (answer : CtlAnswer) (s' : State) → answer ≡ NotClosed n → s' ≡ s → Extends s x (Release lib b) answer s'
 not_closed s x lib b n answer s' a e =
@@ -207,9 +179,7 @@ accepted_extends s x lib b s' k k' w given accepted e t =
 
 release_extends : (s : State) (x : Beside) (lib : ℕ) (b : Bundle) (answer : CtlAnswer) (s' : State) → Kept s → Kept s' → LentWhole s → LentWhole s' → GivenTo s lib b → ReleaseEnd s lib b answer s' → (bundle_handed x.handed ≡ b) × HandedFits s lib x → Extends s x (Release lib b) answer s'
 release_extends s x lib b answer s' k k' w w' given (Parted n p a same) t = not_closed s x lib b n answer s' a same
-release_extends s x lib b answer s' k k' w w' given (IsAccepted p y a ends) t =
-    let E : CtlAnswer → Type 0 = λ z. Extends s x (Release lib b) z s' in
-    subst E (sym a) (accepted_extends s x lib b s' k k' w given y ends t)
+release_extends s x lib b answer s' k k' w w' given (IsAccepted p y a ends) t = search (arith, not_closed, accepted_extends, refused_extends, closed_unparted)
 release_extends s x lib b answer s' k k' w w' given (IsRefused p n why a tells ends) t =
     let E : CtlAnswer → Type 0 = λ z. Extends s x (Release lib b) z s' in
     subst E (sym a) (refused_extends s x lib b why s' k k' w w' given (closed_unparted s lib b p) ends t)
@@ -220,12 +190,7 @@ SettlesOwn s (Settle lib b) = IsLibrary s.creds lib
 SettlesOwn s _ = Unit {0}
 
 settles_own : (s : State) (event : Event) → IsLibrary s.creds (library_of event) → SettlesOwn s event
-settles_own s (Grant lib ino kind) mine = tt
-settles_own s (Allot lib count many) mine = tt
-settles_own s (Back lib ino) mine = tt
-settles_own s (Release lib b) mine = tt
-settles_own s (Settle lib b) mine = mine
-settles_own s (SetMode lib ino mode) mine = tt
+settles_own s event mine = search arith
 
 does_extends : (s : State) (x : Beside) (event : Event) (answer : CtlAnswer) (s' : State) → Kept s → Kept s' → LentWhole s → LentWhole s' → SettlesOwn s event → GivenEvent s event → Does s event answer s' → BesideFits s x event answer s' → Extends s x event answer s'
 does_extends s x (Grant lib ino kind) answer s' k k' w w' own given d t = grant_extends s k lib ino kind x answer s' d

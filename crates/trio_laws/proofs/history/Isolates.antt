@@ -1,18 +1,17 @@
 -- Each step changes the nodes within the grants of its library, or it changes a mode.
-use Rattle.std.proofs.Common.{◌≡◌, ℕ, true, List, [], ◌∷◌, map, Option, Some, None, Result, Ok, Err, refl, sym, ap, ◌∙◌, subst, inl, inr, ◌⊎◌}
+use Rattle.std.proofs.Common.{◌≡◌, ℕ, true, List, [], ◌∷◌, map, Option, Some, None, Result, Ok, Err, refl, sym, ap, ◌∙◌, subst, inl, inr, ◌⊎◌, arith}
 use Rattle.trio_rights.specs.declared.rights.Creds.{Creds}
 use Rattle.trio_rights.specs.Bundle.{Written, Bundle}
 use Rattle.trio_rights.specs.Sheets.{Sheet}
 use Rattle.trio_lists.specs.Lists.{In}
 use Rattle.trio_lists.proofs.Members.{map-In}
 use Rattle.trio_nodes.specs.declared.entry.Entry.{Entry}
-use Rattle.trio_nodes.specs.declared.entry.Entry.TheVariants.{Grant as GrantEntry, Allot as AllotEntry, Back as BackEntry, Raw, Batch, Mode}
 use Rattle.trio_nodes.specs.Handed.{Handed, HandedFile}
 use Rattle.trio_nodes.specs.declared.entry.HandedPage.{HandedPage}
 use Rattle.trio_nodes.specs.Nodes.{Nodes}
 use Rattle.trio_nodes.specs.Standing.{Standing}
 use Rattle.trio_nodes.specs.declared.answers.ModeFault.{ModeFault}
-use Rattle.trio_nodes.specs.Legal.{Past, HasNameOf, HasPlaceOf, HasRightsOf, IsWithinGrants, LegalChmod}
+use Rattle.trio_nodes.specs.Legal.{IsWithinGrants, LegalChmod}
 use Rattle.trio_state.specs.Given.{GivenEvent}
 use Rattle.trio_state.specs.Kept.{Kept}
 use Rattle.trio_state.specs.State.{State, creds_of}
@@ -43,38 +42,24 @@ pages_back [] = refl
 pages_back (x ∷ xs) = ap (λ l. x ∷ l) (pages_back xs)
 
 file_back : (w : Written) → written_handed (file_touched w) ≡ w
-file_back w =
-    ap (λ (l : List Sheet). record w { index = l; blocks = map sheet_handed (map page_touched w.blocks) }) (pages_back w.index)
-    ∙ ap (λ (l : List Sheet). record w { blocks = l }) (pages_back w.blocks)
+file_back w = search (arith, pages_back)
 
 files_back : (ws : List Written) → map written_handed (map file_touched ws) ≡ ws
 files_back [] = refl
 files_back (w ∷ ws) = ap (λ (x : Written). x ∷ map written_handed (map file_touched ws)) (file_back w) ∙ ap (λ l. w ∷ l) (files_back ws)
 
 pub bundle_back : (b : Bundle) → bundle_handed (all_touched b) ≡ b
-bundle_back b =
-    ap (λ (l : List Written). record b { writes = l; pages = map sheet_handed (map page_touched b.pages) }) (files_back b.writes)
-    ∙ ap (λ (l : List Sheet). record b { pages = l }) (pages_back b.pages)
+bundle_back b = search (arith, files_back, pages_back)
 
 -- so nothing is asked of what was lent
 pub all_marked : (s : State) (lib : ℕ) (b : Bundle) (f : HandedFile) → In f (all_touched b).writes → IsMarked s lib f
-all_marked s lib b f i g p open_grant mine own j =
-    let w = map-In file_touched f b.writes i in
-    let q = map-In page_touched p w.0.blocks (subst (λ (z : HandedFile). In p z.blocks) w.2 j) in
-    inl (ap (λ (z : HandedPage). z.touched) q.2)
+all_marked s lib b f i g p open_grant mine own j = search (arith, map-In)
 
 -- ---- by the entry
 
 -- nodes that stay are within any grants
 within_same : (grants : List Standing) (creds : Creds) (lib : ℕ) (nodes : Nodes) → IsWithinGrants grants creds lib nodes nodes
-within_same grants creds lib nodes = record {
-  content = λ n x at. inr (inr (record { bytes = refl; entries = λ m. refl }));
-  name = λ n x at. inr (subst (HasNameOf x) (sym at) (refl, refl));
-  place = λ n x at. inr (subst (HasPlaceOf x) (sym at) refl);
-  rights = λ n x y at at'. subst (HasRightsOf x) (sym at ∙ at') (refl, refl, refl, refl);
-  others = λ n x at other. (subst (HasRightsOf x) (sym at) (refl, refl, refl, refl), subst (HasPlaceOf x) (sym at) refl, record { bytes = refl; entries = λ m. refl });
-  new = λ n y none at. (let wrong : None ≡ Some y = sym none ∙ at in absurd (cc wrong));
-}
+within_same grants creds lib nodes = search arith
 
 abbrev Within : State → Event → Nodes → Type 0
 Within s event nodes = IsWithinGrants (map standing_of s.open_grants) (creds_of s (library_of event)) (library_of event) (nodes_of s) nodes
@@ -90,17 +75,7 @@ module _ (s : State) (answer : CtlAnswer) (s' : State) where
   IsSettle event = (lib : ℕ) (b : Bundle) → Settle lib b ≡ event → Within s event (nodes_of s')
 
   by_entry : (e : Entry) (event : Event) → Makes s event answer s' e → IsSettle event → Isolated s event s'
-  by_entry (GrantEntry lib ino kind given) event m settles = stays s event s' (ap (λ (p : Past). p.nodes) m.comes)
-  by_entry (AllotEntry lib pages inodes given) event m settles = stays s event s' (ap (λ (p : Past). p.nodes) m.comes)
-  by_entry (BackEntry lib ino) event m settles = stays s event s' (ap (λ (p : Past). p.nodes) m.comes)
-  by_entry (Raw lib verdict files bundle) event m settles =
-      let I : Event → Type 0 = λ x. Isolated s x s' in
-      subst I m.tells (inl (subst (Within s (Release lib.0 (bundle_handed bundle.handed))) (sym (ap (λ (p : Past). p.nodes) m.comes)) m.legal.within))
-  by_entry (Batch lib calls handed) event m settles = inl (settles lib.0 (bundle_handed handed) m.tells)
-  by_entry (Mode lib ino mode (Ok done) call) event m settles =
-      let I : Event → Type 0 = λ x. Isolated s x s' in
-      subst I m.tells (inr (record { ino = ino; mode = mode; is = refl; owner = m.legal.0.0; nodes = ap (λ (p : Past). p.nodes) m.comes }))
-  by_entry (Mode lib ino mode (Err fault) call) event m settles = stays s event s' (ap (λ (p : Past). p.nodes) m.comes)
+  by_entry e event m settles = search (arith, stays)
 
   by_option : (o : Option Entry) (event : Event) → Comes' s event answer s' o → IsSettle event → Isolated s event s'
   by_option None event same settles = stays s event s' (ap nodes_of same)

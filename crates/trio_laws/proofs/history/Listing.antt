@@ -1,6 +1,5 @@
 -- Where a live file is listed in an image that verifies, and what its name and its chain are.
-use Rattle.std.proofs.Common.{◌≡◌, ℕ, Bool, true, false, cond, ◌&&◌, eqb, take, List, [], ◌∷◌, Some, Ok, sym, refl, ap, ◌∙◌, subst, inl, inr}
-use Rattle.std.specs.Option.{option_map_or}
+use Rattle.std.proofs.Common.{◌≡◌, ℕ, Bool, true, cond, ◌&&◌, eqb, take, List, [], Some, Ok, sym, ap, ◌∙◌, subst, inl, inr, arith, ◌<◌, ◌≤◌, ◌+◌, ◌⊎◌, None, Option, refl}
 use Rattle.std.specs.Str.{bytes_eq}
 use Rattle.std.proofs.lemmas.Bool.{ne_eqb, and_parts, false≢true}
 use Rattle.std.specs.Prelude.{nat_lt, nat_le}
@@ -10,22 +9,20 @@ use Rattle.trio_rights.specs.declared.kind.Kind.{Kind}
 use Rattle.trio_rights.specs.declared.kind.Kind.TheVariants.{Regular, Directory}
 use Rattle.trio_layout.specs.declared.slot.EntryPart.{EntryPart}
 use Rattle.trio_layout.specs.declared.slot.SlotRead.TheVariants.{Empty, Entry, Bad}
-use Rattle.trio_layout.specs.Body.{body_of}
-use Rattle.trio_layout.specs.Chain.{chain_of}
 use Rattle.trio_layout.specs.Slot.{slot_of, entry_at, entry_bytes, entry_fits}
-use Rattle.trio_layout.specs.Core.{Core, page_of, nowhere}
-use Rattle.trio_lists.specs.Lists.{there_or, In, result_then}
+use Rattle.trio_layout.specs.Core.{Core, page_of}
+use Rattle.trio_lists.specs.Lists.{In}
 use Rattle.trio_layout.specs.Entries.{Listed, slot_bytes, entries_of_kind}
 use Rattle.trio_layout.specs.Survey.{Met, plain, FileRead, file_of, survey, children}
 use Rattle.trio_layout.specs.Pages.{settled_chain}
 use Rattle.trio_layout.specs.Image.{IsFit, Image, row_at, settled_body}
 use Rattle.trio_layout.specs.Verifies.{Verifies}
 use Rattle.trio_surveys.specs.Reading.{pages_read}
-use Rattle.trio_surveys.proofs.Images.{TablesOf, MetAt, row_at_is, met_row, root_or_listed, settled_body_met}
+use Rattle.trio_surveys.proofs.Images.{TablesOf, MetAt, row_at_is, met_row, root_or_listed, settled_body_met, met_numbered}
 use Rattle.trio_surveys.proofs.Local.{reads_from}
 use Rattle.trio_lists.proofs.Members.{In-right, flat_map-In}
 use Rattle.trio_surveys.proofs.Tree.{child_from, child_placed}
-use Rattle.trio_laws.specs.history.Stands.{name_in, name_of}
+use Rattle.trio_laws.specs.history.Stands.{name_of}
 
 -- a file that isn't the root is listed by a directory, on one of its blocks
 pub record Listing (core : Core) (n : ℕ) (r : Row) : Type 0 where
@@ -47,24 +44,15 @@ pub record Listing (core : Core) (n : ℕ) (r : Row) : Type 0 where
 
 -- what a slot says is the entry at the places of the fields
 said_entry : (a b : Bool) (e x : EntryPart) → cond a Empty (cond b (Entry e) Bad) ≡ Entry x → e ≡ x
-said_entry true b e x h = absurd cc
-said_entry false true e x h = cc h
-said_entry false false e x h = absurd cc
+said_entry a b e x h = search arith
 
 pub slot_entry : (inodes : ℕ) (bytes : List ℕ) (x : EntryPart) → slot_of inodes bytes ≡ Entry x → entry_at bytes ≡ x
 unfolding slot_of
-slot_entry inodes bytes x h =
-    let e = entry_at bytes in
-    said_entry (eqb e.ino 0) (bytes_eq (take 192 bytes) (entry_bytes e) && entry_fits inodes e) e x h
+slot_entry inodes bytes x h = search (arith, said_entry)
 
 -- and its name isn't empty
 said_named : (inodes : ℕ) (a : Bool) (p : Bool) (e x : EntryPart) → cond a Empty (cond (p && entry_fits inodes e) (Entry e) Bad) ≡ Entry x → (e ≡ x) × (entry_fits inodes e ≡ true)
-said_named inodes true p e x h = absurd cc
-said_named inodes false p e x h = by (p && entry_fits inodes e) refl h
-  where
-    by : (t : Bool) → (p && entry_fits inodes e) ≡ t → cond t (Entry e) Bad ≡ Entry x → (e ≡ x) × (entry_fits inodes e ≡ true)
-    by true t h = (cc h, (and_parts p (entry_fits inodes e) t).1)
-    by false t h = absurd cc
+said_named inodes a p e x h = search (arith, and_parts)
 
 pub slot_named : (inodes : ℕ) (bytes : List ℕ) (x : EntryPart) → slot_of inodes bytes ≡ Entry x → x.name ≡ [] → ⊥
 unfolding slot_of
@@ -76,10 +64,7 @@ slot_named inodes bytes x h none =
 
 -- what lists is a directory
 lists : (core : Core) (kind : Kind) (blocks : List ℕ) (es : List Listed) (l : Listed) → entries_of_kind core kind blocks ≡ Ok es → In l es → kind ≡ Directory
-lists core Directory blocks es l e i = refl
-lists core Regular blocks es l e i =
-    let none : [] ≡ es = cc e in
-    let M : List Listed → Type 0 = λ xs. In l xs in absurd (subst M (sym none) i)
+lists core kind blocks es l e i = search arith
 
 module _ (image : Image) (fit : IsFit image.core) (v : Verifies image) where
   pub tables_of : TablesOf image image.core plain
@@ -89,19 +74,28 @@ module _ (image : Image) (fit : IsFit image.core) (v : Verifies image) where
   pub met_at : (n : ℕ) (r : Row) → row_at image n ≡ Some r → MetAt image.core plain n r
   met_at n r e = met_row image.core plain fit v.sound n r (sym (row_at_is image.core plain fit v.sound image tables_of n) ∙ e)
 
+  -- no file is live beyond the numbers
+  pub row_outside : (n : ℕ) → (n < 1) ⊎ (1 + image.core.inodes ≤ n) → row_at image n ≡ None
+  row_outside n out = by (row_at image n) refl
+    where
+      by : (o : Option Row) → row_at image n ≡ o → o ≡ None
+      by None row = refl
+      by (Some r) row =
+          let m = met_at n r row in
+          let q = met_numbered image.core plain fit v.sound m.met m.stands in
+          let a = q.0 in
+          let c = q.1 in
+          let d = m.number in
+          absurd (elim out [ inl l ↦ omega (arith, l, a, d) | inr g ↦ omega (arith, g, c, d) ])
+
   pub body_met : (n : ℕ) (r : Row) (e : row_at image n ≡ Some r) → settled_body image n ≡ (met_at n r e).met.body
-  body_met n r e =
-      let m = met_at n r e in
-      ap (settled_body image) (sym m.number) ∙ settled_body_met image m.met fit v.sound tables_of m.stands
+  body_met n r e = search (arith, met_at, settled_body_met, tables_of)
 
   pub chain_met : (n : ℕ) (r : Row) (e : row_at image n ≡ Some r) → settled_chain image r.kind n ≡ Ok (met_at n r e).file.chain
   chain_met n r e =
       let m = met_at n r e in
       let f = reads_from image.core m.met m.file m.read in
-      ap (λ kind. settled_chain image kind n) (ap (λ (x : Row). x.kind) m.row)
-      ∙ ap (λ b. result_then (chain_of image.core) (there_or nowhere (body_of m.met.kind image.core.range b))) (body_met n r e)
-      ∙ ap (λ o. result_then (chain_of image.core) (there_or nowhere o)) f.body
-      ∙ f.chain
+      search (arith, body_met)
 
   pub listing : (n : ℕ) (r : Row) → row_at image n ≡ Some r → (n ≡ 1 → ⊥) → Listing image.core n r
   listing n r e other =
@@ -135,10 +129,7 @@ module _ (image : Image) (fit : IsFit image.core) (v : Verifies image) where
 
   -- the name of a file is that of its entry
   pub name_listed : (n : ℕ) (r : Row) → (l : Listing image.core n r) → (n ≡ 1 → ⊥) → name_of image n r ≡ l.entry.entry.name
-  name_listed n r l other =
-      ap (λ b. cond b (45 ∷ []) (option_map_or (name_in r.slot) (page_of image.core r.page) [])) (ne_eqb n 1 other)
-      ∙ ap (λ o. option_map_or (name_in r.slot) o []) l.there
-      ∙ ap (λ (x : EntryPart). x.name) (slot_entry image.core.inodes (slot_bytes r.slot l.bytes) l.entry.entry l.says)
+  name_listed n r l other = search (arith, ne_eqb, slot_entry)
 
 -- a block of a directory is read
 pub block_read : (kind : Kind) (f : FileRead) (p : ℕ) → kind ≡ Directory → In p f.chain.blocks → In p (pages_read kind f)

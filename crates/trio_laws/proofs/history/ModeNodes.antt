@@ -1,5 +1,5 @@
 -- A change of mode changes one node.
-use Rattle.std.proofs.Common.{◌≡◌, ℕ, ◌+◌, ◌≤◌, Bool, true, false, cond, eqb, [], ◌∷◌, length, Option, Some, None, Ok, sym, refl, ap, ◌∙◌, inl, inr, arith}
+use Rattle.std.proofs.Common.{◌≡◌, ℕ, ◌≤◌, Bool, true, false, cond, eqb, [], ◌∷◌, Option, Some, None, Ok, sym, refl, ap, ◌∙◌, inl, inr, arith}
 use Rattle.std.specs.Option.{option_map_or}
 use Rattle.std.proofs.lemmas.Bool.{cases_eq, eq-eqb}
 use Rattle.std.proofs.lemmas.List.{get_or-set_other, get_or-set_same}
@@ -9,7 +9,7 @@ use Rattle.trio_rights.specs.declared.kind.Kind.TheVariants.{Regular, Directory}
 use Rattle.trio_layout.specs.declared.body.Body.{Body}
 use Rattle.trio_layout.specs.Core.{Core, page_of}
 use Rattle.trio_lists.specs.Lists.{In}
-use Rattle.trio_layout.specs.Survey.{Met, plain, FileRead, file_of, survey, row_of}
+use Rattle.trio_layout.specs.Survey.{Met, plain, FileRead, file_of, survey}
 use Rattle.trio_layout.specs.Image.{Image, IsFit, row_at}
 use Rattle.trio_state.specs.Kept.{Kept}
 use Rattle.trio_layout.specs.Mode.{image_with_mode, row_with_mode}
@@ -123,10 +123,7 @@ module _ (s : State) (k : Kept s) (n mode : ℕ) (r : Row) (row : row_at s.home 
       let e = m.number in omega (arith, b, e)
 
   pub row_here : row_at s'.home n ≡ Some (record r { mode = record { 0 = mode } })
-  row_here =
-      let long : length s.home.rows ≡ s.home.core.inodes + 1 = ap length k.verifies.rows ∙ tabulated-length (row_of (settled s).core (survey (settled s).core plain)) (s.home.core.inodes + 1) in
-      let i = inside in
-      get_or-set_same s.home.rows n (row_with_mode mode (row_at s.home n)) None (omega (arith, long, i)) ∙ ap (row_with_mode mode) row
+  row_here = search (arith, verifies, tabulated-length, inside, get_or-set_same)
 
   pub row_else : (j : ℕ) → (j ≡ n → ⊥) → row_at s'.home j ≡ row_at s.home j
   row_else j d = get_or-set_other s.home.rows n j (row_with_mode mode (row_at s.home n)) None d
@@ -142,10 +139,7 @@ module _ (s : State) (k : Kept s) (n mode : ℕ) (r : Row) (row : row_at s.home 
       ∙ ap (λ l. Some (node_with x (name_of (settled s) j x) l)) (bytes_now j x x at (row_else j d ∙ at))
 
   node_else : (j : ℕ) → (j ≡ n → ⊥) → node_in s' j ≡ node_in s j
-  node_else j d =
-      ap (λ (i : Image). node_by i j (writer_of s j) (row_at s'.home j)) settled_now
-      ∙ ap (node_by now j (writer_of s j)) (row_else j d)
-      ∙ else_step j (row_at s.home j) d refl
+  node_else j d = search (arith, settled_now, row_else, else_step)
 
   node_here : node_in s' n ≡ moded_node mode (node_in s n)
   node_here =

@@ -1,5 +1,5 @@
 -- A step of a change of mode extends the history.
-use Rattle.std.proofs.Common.{◌≡◌, ℕ, ◌+◌, Bool, true, false, cond, ◌&&◌, ◌||◌, not, eqb, ltb, map, Option, Some, None, Ok, Err, sym, refl, ap, ◌∙◌, subst, inl, inr, option_map, ltb-true}
+use Rattle.std.proofs.Common.{◌≡◌, ℕ, ◌+◌, Bool, true, false, cond, ◌&&◌, ◌||◌, not, eqb, ltb, map, Option, Some, None, Ok, Err, refl, ap, ◌∙◌, subst, option_map, ltb-true, arith}
 use Rattle.std.proofs.lemmas.Bool.{ne_eqb, eq-eqb, and_from, or_left, or_right, not_from_false, false≢true}
 use Rattle.trio_rights.specs.Row.{Row}
 use Rattle.trio_nodes.specs.declared.answers.ModeFault.{ModeFault}
@@ -34,15 +34,10 @@ Caused row other big (Busy holder) = Unit {0}
 Caused row other big OutOfMemory = ⊥
 
 caused : (r : Row) (other big : Bool) (o : Option OpenGrant) (f : ModeFault) → cond other (Some NotOwner) (cond big (Some BadMode) (option_map (λ (g : OpenGrant). Busy (holder_of g)) o)) ≡ Some f → Caused (Some r) other big f
-caused r true big o f e = let C : ModeFault → Type 0 = λ x. Caused (Some r) true big x in let t : NotOwner ≡ f = cc e in subst C t refl
-caused r false true o f e = let C : ModeFault → Type 0 = λ x. Caused (Some r) false true x in let t : BadMode ≡ f = cc e in subst C t refl
-caused r false false None f e = absurd cc
-caused r false false (Some g) f e = let C : ModeFault → Type 0 = λ x. Caused (Some r) false false x in let t : Busy (holder_of g) ≡ f = cc e in subst C t tt
+caused r other big o f e = search arith
 
 not_owner : (a b : Bool) → (a || not b) ≡ true → (not a && b) ≡ false
-not_owner true b e = refl
-not_owner false true e = absurd (false≢true e)
-not_owner false false e = refl
+not_owner a b e = search (arith, false≢true)
 
 module _ (s : State) (k : Kept s) (lib ino mode : ℕ) (x : Beside) where
   -- where a call is told beside the change, it is replied as the answer says
@@ -58,12 +53,7 @@ module _ (s : State) (k : Kept s) (lib ino mode : ℕ) (x : Beside) where
       ∙ any_none (λ (g : OpenGrant). eqb g.ino n) s.open_grants (λ g i. ne_eqb g.ino n (free g i))
 
   owner_is : (r : Row) → MayChange s lib ino mode r → (not (eqb ino 1) && (eqb (creds_of s lib).uid 0 || eqb (creds_of s lib).uid r.uid)) ≡ true
-  owner_is r may =
-      and_from (not (eqb ino 1)) (eqb (creds_of s lib).uid 0 || eqb (creds_of s lib).uid r.uid) (not_from_false (eqb ino 1) (ne_eqb ino 1 may.other))
-      (elim may.owner [
-        | inl root ↦ or_left (eqb (creds_of s lib).uid 0) (eqb (creds_of s lib).uid r.uid) (eq-eqb (creds_of s lib).uid 0 root)
-        | inr same ↦ or_right (eqb (creds_of s lib).uid 0) (eqb (creds_of s lib).uid r.uid) (eq-eqb (creds_of s lib).uid r.uid same)
-      ])
+  owner_is r may = search (arith, and_from, not_from_false, ne_eqb, or_left, eq-eqb, or_right)
 
   refused : (o : Option Row) (f : ModeFault) → row_at s.home ino ≡ o → mode_fault s lib ino mode o ≡ Some f → Fits (NotModeSet f) → Comes' s (SetMode lib ino mode) (NotModeSet f) (after_mode_fault s f) (mode_entry lib ino mode x.call f)
   refused None f row e fits =
@@ -108,7 +98,4 @@ module _ (s : State) (k : Kept s) (lib ino mode : ℕ) (x : Beside) where
       }
 
   pub mode_extends : (answer : CtlAnswer) (s' : State) → Comes (mode_outcome s lib ino mode) answer s' → Fits answer → Extends s x (SetMode lib ino mode) answer s'
-  mode_extends answer s' c fits =
-      let E : CtlAnswer → State → Type 0 = λ a u. Extends s x (SetMode lib ino mode) a u in
-      let o = mode_outcome s lib ino mode in
-      subst (λ a. E a s') (sym c.0) (subst (λ u. E o.answer u) (sym c.1) (made (row_at s.home ino) (mode_fault s lib ino mode (row_at s.home ino)) refl refl (subst Fits c.0 fits)))
+  mode_extends answer s' c fits = search (arith, made)

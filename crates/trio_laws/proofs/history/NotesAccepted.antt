@@ -1,5 +1,5 @@
 -- What is noted of live files after an accepted release is what its files tell.
-use Rattle.std.proofs.Common.{◌≡◌, ℕ, ◌+◌, ◌<◌, Bool, true, false, cond, ◌&&◌, ◌||◌, not, length, [], Option, Some, None, is_some, sym, refl, ap, ◌∙◌, inl, inr, arith, ext_get_or}
+use Rattle.std.proofs.Common.{◌≡◌, ℕ, ◌+◌, ◌<◌, Bool, true, false, cond, ◌&&◌, not, length, [], Option, Some, None, is_some, sym, refl, ap, ◌∙◌, inl, inr, arith, ext_get_or}
 use Rattle.std.specs.Option.{option_map}
 use Rattle.std.specs.Str.{bytes_eq}
 use Rattle.std.proofs.lemmas.Bool.{both_ways, or_parts, cases_lt, not-false}
@@ -75,16 +75,10 @@ module _ (s : State) (k : Kept s) (lib : ℕ) (b : Bundle) (given : GivenTo s li
   -- ---- what isn't told
 
   not_told : (n : ℕ) → is_told image after b n ≡ false → (is_written b n ≡ false) × (is_among n b.holds ≡ false) × ((is_some (row_at after n) && not (bytes_eq (name_by image n (row_at image n)) (name_by after n (row_at after n)))) ≡ false)
-  not_told n t =
-      let p = or_parts (is_written b n || is_among n b.holds) (is_some (row_at after n) && not (bytes_eq (name_by image n (row_at image n)) (name_by after n (row_at after n)))) t in
-      let q = or_parts (is_written b n) (is_among n b.holds) p.0 in (q.0, q.1, p.1)
+  not_told n t = search (arith, or_parts)
 
   same_name : (n : ℕ) (r : Row) (o : Option Row) → row_at after n ≡ Some r → row_at image n ≡ o → is_told image after b n ≡ false → name_by image n o ≡ name_of after n r
-  same_name n r o row was t =
-      let x : Bool = bytes_eq (name_by image n (row_at image n)) (name_by after n (row_at after n)) in
-      let e : not x ≡ false = sym (ap (λ q. is_some q && not x) row) ∙ (not_told n t).2 in
-      let names : name_by image n (row_at image n) ≡ name_by after n (row_at after n) = (bytes_eq-Decides (name_by image n (row_at image n)) (name_by after n (row_at after n))).0 (not-false x e) in
-      ap (name_by image n) (sym was) ∙ names ∙ ap (name_by after n) row
+  same_name n r o row was t = search (arith, not_told, bytes_eq-Decides, not-false)
 
   untold_by : (n : ℕ) (r : Row) (row : row_at after n ≡ Some r) → is_told image after b n ≡ false → Is (at_now n r row).met → noted after n ≡ noted image n
   untold_by n r row t (Wrote wr unheld own) =
@@ -117,9 +111,7 @@ module _ (s : State) (k : Kept s) (lib : ℕ) (b : Bundle) (given : GivenTo s li
   told_now n (Some q) r = refl
 
   there_case : (n : ℕ) (r : Row) → row_at after n ≡ Some r → (t : Bool) → is_told image after b n ≡ t → noted after n ≡ comes (cond t (told_by image after b n (row_at image n) (Some r)) None) (noted image n)
-  there_case n r row true t =
-      ap (option_map (note_of after n)) row
-      ∙ ap (λ o. comes o (noted image n)) (sym (told_now n (row_at image n) r))
+  there_case n r row true t = search (arith, told_now, untold_by, file_is)
   there_case n r row false t = untold_by n r row t (file_is s k lib (creds_of s lib) b given accepted (at_now n r row).met (at_now n r row).stands)
 
   note_case : (n : ℕ) (o : Option Row) → row_at after n ≡ o → noted after n ≡ comes (cond (is_told image after b n) (told_by image after b n (row_at image n) o) None) (noted image n)
@@ -130,9 +122,7 @@ module _ (s : State) (k : Kept s) (lib : ℕ) (b : Bundle) (given : GivenTo s li
   one n = note_case n (row_at after n) refl
 
   none_first : (n : ℕ) → n < 1 → noted after n ≡ noted image n
-  none_first n low =
-      ap (option_map (note_of after n)) (no_row after fit' verifies' n low)
-      ∙ sym (ap (option_map (note_of image n)) (no_row image k.fit k.verifies n low))
+  none_first n low = search (arith, no_row, fit', verifies')
 
   pub accepted_notes : notes_of after ≡ notes_after (raw_files image after b) (notes_of image)
   accepted_notes =

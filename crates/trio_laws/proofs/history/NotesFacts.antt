@@ -1,5 +1,5 @@
 -- What is noted of live files, number by number.
-use Rattle.std.proofs.Common.{◌≡◌, ℕ, zero, suc, ◌+◌, ◌<◌, ◌≤◌, ◌⊎◌, List, [], ◌∷◌, length, get_or, set, Option, Some, None, sym, refl, ap, ◌∙◌, subst, inl, inr, arith, filter_map, length-set, get_or-set_same, get_or-set_other}
+use Rattle.std.proofs.Common.{◌≡◌, ℕ, zero, suc, ◌+◌, ◌<◌, ◌≤◌, ◌⊎◌, List, [], ◌∷◌, length, get_or, set, Option, Some, None, refl, ap, ◌∙◌, inl, inr, arith, filter_map, length-set, get_or-set_same, get_or-set_other}
 use Rattle.std.specs.List.{cons_option}
 use Rattle.std.specs.Option.{option_map}
 use Rattle.std.proofs.lemmas.Bool.{cases_eq}
@@ -40,19 +40,12 @@ notes_by_one image image' count h =
 
 -- a row of the same name and size
 pub noted_row : (image image' : Image) (n : ℕ) (r r' : Row) → row_at image n ≡ Some r → row_at image' n ≡ Some r' → name_of image' n r' ≡ name_of image n r → size_of image' n ≡ size_of image n → noted image' n ≡ noted image n
-noted_row image image' n r r' row row' name size =
-    ap (option_map (note_of image' n)) row'
-    ∙ ap (λ x. Some (note_with x (size_of image' n))) name
-    ∙ ap (λ z. Some (note_with (name_of image n r) z)) size
-    ∙ sym (ap (option_map (note_of image n)) row)
+noted_row image image' n r r' row row' name size = search arith
 
 -- an image with other pages, of which all that are read are the same
 module _ (image : Image) (pages : Pages) (fit : IsFit image.core) (fit' : IsFit (with_other image.core pages)) (v : Verifies image) (agree : AgreeOn image.core (with_other image.core pages) (survey image.core plain)) where
   by_row : (n : ℕ) (o : Option Row) → row_at image n ≡ o → noted (image_with image pages) n ≡ noted image n
-  by_row n None row = ap (option_map (note_of (image_with image pages) n)) row ∙ sym (ap (option_map (note_of image n)) row)
-  by_row n (Some r) row =
-      noted_row image (image_with image pages) n r r row row
-      (name_still image pages fit fit' v agree n r row) (size_still image pages fit fit' v agree n r row)
+  by_row n o row = search (arith, noted_row, name_still, size_still)
 
   pub notes_still : notes_of (image_with image pages) ≡ notes_of image
   notes_still = notes_by_one image (image_with image pages) refl (λ n. by_row n (row_at image n) refl)
@@ -68,10 +61,7 @@ comes (Some f) old = note_told f
 module _ (rf : ℕ → Option RawFile) (numbered : (n : ℕ) (f : RawFile) → rf n ≡ Some f → f.ino ≡ n) where
   -- numbers past these
   out_step : (from m : ℕ) (o : Option RawFile) (rest : List RawFile) → rf from ≡ o → (m ≡ from → ⊥) → ((notes : Notes) → get_or (notes_after rest notes) m None ≡ get_or notes m None) → (notes : Notes) → get_or (notes_after (cons_option o rest) notes) m None ≡ get_or notes m None
-  out_step from m None rest e differ h notes = h notes
-  out_step from m (Some f) rest e differ h notes =
-      h (set notes f.ino (note_told f))
-      ∙ get_or-set_other notes f.ino m (note_told f) None (λ s. differ (s ∙ numbered from f e))
+  out_step from m o rest e differ h notes = search (arith, get_or-set_other)
 
   pub notes_out : (c from m : ℕ) → (m < from) ⊎ (from + c ≤ m) → (notes : Notes) → get_or (notes_after (filter_map rf (count_up from c)) notes) m None ≡ get_or notes m None
   notes_out zero from m out notes = refl
@@ -81,27 +71,16 @@ module _ (rf : ℕ → Option RawFile) (numbered : (n : ℕ) (f : RawFile) → r
       (notes_out c (suc from) m (elim out [ inl l ↦ inl (omega (arith, l)) | inr g ↦ inr (omega (arith, g)) ])) notes
 
   here_step : (from : ℕ) (o : Option RawFile) (rest : List RawFile) → rf from ≡ o → ((notes : Notes) → get_or (notes_after rest notes) from None ≡ get_or notes from None) → (notes : Notes) → from < length notes → get_or (notes_after (cons_option o rest) notes) from None ≡ comes o (get_or notes from None)
-  here_step from None rest e h notes long = h notes
-  here_step from (Some f) rest e h notes long =
-      h (set notes f.ino (note_told f))
-      ∙ ap (λ i. get_or (set notes i (note_told f)) from None) (numbered from f e)
-      ∙ get_or-set_same notes from (note_told f) None long
+  here_step from o rest e h notes long = search (arith, get_or-set_same)
 
   past_step : (from m : ℕ) (o : Option RawFile) (rest : List RawFile) → rf from ≡ o → (m ≡ from → ⊥) → ((notes : Notes) → m < length notes → get_or (notes_after rest notes) m None ≡ comes (rf m) (get_or notes m None)) → (notes : Notes) → m < length notes → get_or (notes_after (cons_option o rest) notes) m None ≡ comes (rf m) (get_or notes m None)
-  past_step from m None rest e differ h notes long = h notes long
-  past_step from m (Some f) rest e differ h notes long =
-      let same : length (set notes f.ino (note_told f)) ≡ length notes = length-set notes f.ino (note_told f) in
-      h (set notes f.ino (note_told f)) (omega (arith, same, long))
-      ∙ ap (comes (rf m)) (get_or-set_other notes f.ino m (note_told f) None (λ s. differ (s ∙ numbered from f e)))
+  past_step from m o rest e differ h notes long = search (arith, length-set, get_or-set_other)
 
   pub notes_in : (c from m : ℕ) → from ≤ m → m < from + c → (notes : Notes) → m < length notes → get_or (notes_after (filter_map rf (count_up from c)) notes) m None ≡ comes (rf m) (get_or notes m None)
   notes_in zero from m low high notes long = absurd (omega (arith, low, high))
   notes_in (suc c) from m low high notes long =
       elim (cases_eq m from) [
-        | inl same ↦
-            let M : ℕ → Type 0 = λ j. j < length notes → get_or (notes_after (cons_option (rf from) (filter_map rf (count_up (suc from) c))) notes) j None ≡ comes (rf j) (get_or notes j None) in
-            let a : M from = here_step from (rf from) (filter_map rf (count_up (suc from) c)) refl (notes_out c (suc from) from (inl (omega arith))) notes in
-            subst M (sym same) a long
+        | inl same ↦ search (arith, filter_map, here_step, notes_out)
         | inr differ ↦
             past_step from m (rf from) (filter_map rf (count_up (suc from) c)) refl differ
             (notes_in c (suc from) m (omega (arith, low, differ)) (omega (arith, high))) notes long

@@ -1,6 +1,5 @@
 -- Steps that end no bundle, and refused releases, leave what is noted of live files.
-use Rattle.std.proofs.Common.{◌≡◌, ℕ, ◌≤◌, take, Option, Some, None, Ok, sym, refl, ap, ◌∙◌, subst, inl, inr}
-use Rattle.std.specs.Option.{option_map}
+use Rattle.std.proofs.Common.{◌≡◌, ℕ, ◌≤◌, take, Option, Some, None, Ok, sym, refl, ap, ◌∙◌, subst, inl, inr, arith}
 use Rattle.std.proofs.lemmas.Bool.{cases_eq, false≢true}
 use Rattle.trio_rights.specs.Row.{Row}
 use Rattle.trio_rights.specs.Bundle.{Bundle}
@@ -29,7 +28,7 @@ use Rattle.trio_laws.proofs.Refusing.{pages as pages_refused, agree as refused_a
 use Rattle.trio_laws.proofs.StateFacts.{live_met}
 use Rattle.trio_laws.proofs.WriteGrant.{pages as pages_lent, agree as lent_agrees, fit' as lent_fits}
 use Rattle.trio_laws.specs.history.Entries.{bundle_handed}
-use Rattle.trio_laws.specs.history.ToldLaws.{EndsNone, RefusedNotes, StepsKeepNotes, note_of, notes_of}
+use Rattle.trio_laws.specs.history.ToldLaws.{EndsNone, RefusedNotes, StepsKeepNotes, notes_of}
 use Rattle.trio_laws.proofs.history.Follows.{size_follows}
 use Rattle.trio_laws.proofs.history.ModeNodes.{mode_follows, mode_name, row_here, row_else}
 use Rattle.trio_laws.proofs.history.NotesFacts.{noted, noted_row, notes_by_one, notes_still}
@@ -55,9 +54,7 @@ granted s k lib ino Write r e row =
     subst (λ q. N ino q) (sym m.row) (subst (λ n. N n (row_by m.met m.file.body)) m.number (write_notes s k lib m.met m.file m.stands m.read free))
 
 grant_notes : (s : State) (k : Kept s) (lib ino : ℕ) (kind : GrantKind) (a : Option GrantFault) (o : Option Row) → grant_fault s lib ino kind ≡ a → row_at s.home ino ≡ o → Same s (granted_to s lib ino kind a o).after
-grant_notes s k lib ino kind (Some fault) o e row = after_no_grant (λ t. Same s t) s fault refl refl
-grant_notes s k lib ino kind None None e row = refl
-grant_notes s k lib ino kind None (Some r) e row = granted s k lib ino kind r e row
+grant_notes s k lib ino kind a o e row = search (arith, after_no_grant, granted)
 
 -- ---- allotments
 
@@ -74,16 +71,10 @@ module _ (s : State) (k : Kept s) (n mode : ℕ) (r : Row) (row : row_at s.home 
   now = image_with_mode (settled s) n mode
 
   one : (j : ℕ) (x x' : Row) → row_at s.home j ≡ Some x → row_at now j ≡ Some x' → x'.page ≡ x.page → x'.slot ≡ x.slot → noted now j ≡ noted (settled s) j
-  one j x x' at at' page slot =
-      noted_row (settled s) now j x x' at at'
-      (mode_name (settled s) n mode r k.fit k.verifies row small other j x x' at page slot)
-      (size_follows (settled s) now k.fit (mode_fit (settled s) n mode r k.fit k.verifies row small other) k.verifies (mode_verifies (settled s) n mode r k.fit k.verifies row small other) j x x' at at'
-      (mode_follows (settled s) n mode r k.fit k.verifies row small other j x x' at))
+  one j x x' at at' page slot = search (arith, noted_row, mode_name, size_follows, mode_fit, mode_verifies, mode_follows)
 
   other_row : (j : ℕ) (o : Option Row) → (j ≡ n → ⊥) → row_at s.home j ≡ o → noted now j ≡ noted (settled s) j
-  other_row j None d at =
-      let at' : row_at now j ≡ None = row_else s k n mode r row small other free j d ∙ at in
-      ap (option_map (note_of now j)) at' ∙ sym (ap (option_map (note_of (settled s) j)) at)
+  other_row j None d at = search (arith, row_else, one)
   other_row j (Some x) d at = one j x x at (row_else s k n mode r row small other free j d ∙ at) refl refl
 
   each : (j : ℕ) → noted now j ≡ noted (settled s) j
@@ -118,11 +109,7 @@ does_notes s (SetMode lib ino mode) answer s' k none c =
     ap (λ t. notes_of (settled t)) c.1 ∙ mode_notes s k lib ino mode (row_at s.home ino) (mode_fault s lib ino mode (row_at s.home ino)) refl refl
 
 pub steps_keep_notes : StepsKeepNotes
-steps_keep_notes s event answer s' k given none step =
-    elim step [
-      | inl does ↦ does_notes s event answer s' k none does
-      | inr same ↦ ap (λ t. notes_of (settled t)) same.2
-    ]
+steps_keep_notes s event answer s' k given none step = search (arith, does_notes)
 
 -- ---- a refused release
 

@@ -1,8 +1,8 @@
 -- The bytes of a live regular file are as many as its size says.
-use Rattle.std.proofs.Common.{◌≡◌, ℕ, suc, ◌-◌, true, eqb, List, [], ◌∷◌, ◌++◌, length, take, replicate, Option, Some, None, Ok, sym, refl, ap, ◌∙◌, subst, arith, length-take, take_all, append-nil}
+use Rattle.std.proofs.Common.{◌≡◌, ℕ, suc, true, eqb, List, [], ◌∷◌, length, Option, Some, None, Ok, sym, refl, ap, ◌∙◌, subst, arith, length-take, take_all, append-nil}
 use Rattle.std.proofs.lemmas.Bool.{and_parts, and_from, eqb-true, eq-eqb, both_ways}
 use Rattle.trio_nodes.specs.declared.grant.GrantKind.{GrantKind}
-use Rattle.trio_nodes.specs.declared.grant.GrantKind.TheVariants.{Write, Read, Hold}
+use Rattle.trio_nodes.specs.declared.grant.GrantKind.TheVariants.{Write}
 use Rattle.trio_rights.specs.Row.{Row}
 use Rattle.trio_rights.specs.declared.kind.Kind.TheVariants.{Regular}
 use Rattle.trio_layout.specs.Core.{page_of}
@@ -25,7 +25,7 @@ use Rattle.trio_laws.proofs.StateFacts.{pages_there, write_is}
 use Rattle.trio_nodes.specs.Apply.{resized}
 use Rattle.trio_laws.specs.history.Stands.{size_of, blocks_of, bytes_of_sheets, bytes_of, writer_of}
 use Rattle.trio_laws.specs.history.Recorded.{LentWhole}
-use Rattle.trio_laws.proofs.history.Blocks.{chain_count, flat, flat_long}
+use Rattle.trio_laws.proofs.history.Blocks.{chain_count, flat_long}
 use Rattle.trio_laws.proofs.history.Follows.{chain_read, size_read}
 use Rattle.trio_laws.proofs.history.Listing.{met_at, chain_met}
 use Rattle.trio_laws.proofs.history.Told.{Count}
@@ -33,15 +33,10 @@ use Rattle.trio_laws.proofs.history.Writers.{writes, none_found}
 
 -- bytes of a size are what they are when they are cut or grown to it
 pub resized_same : (size : ℕ) (bytes : List ℕ) → length bytes ≡ size → resized size bytes ≡ bytes
-resized_same size bytes e =
-    let z : size - length bytes ≡ 0 = omega (arith, e) in
-    ap (λ m. take size (bytes ++ replicate m 0)) z ∙ ap (take size) (append-nil bytes) ∙ take_all size bytes (omega (arith, e))
+resized_same size bytes e = search (arith, append-nil, take_all)
 
 pub cut_long : (size : ℕ) (xs : List Sheet) → ((x : Sheet) → In x xs → length x.bytes ≡ 4096) → Count (length xs) size → length (bytes_of_sheets size xs) ≡ size
-cut_long size xs full count =
-    let l = length-take size (flat xs) in
-    let f = flat_long xs full in
-    let c = count.0 in omega (arith, l, f, c)
+cut_long size xs full count = search (arith, length-take, flat_long)
 
 numbers_count : (xs : List Sheet) → length (sheet_numbers xs) ≡ length xs
 numbers_count [] = refl
@@ -77,9 +72,7 @@ module _ (s : State) (k : Kept s) (whole : LentWhole s) (n : ℕ) (r : Row) (row
       (λ g j w same. both_ways (writes n g) (none_found (writes n) s.open_grants g none j) (and_from (eqb g.ino n) (is_write g.kind) (eq-eqb g.ino n (same ∙ m.number)) (write_kept g.kind w)))
     where
       write_kept : (t : GrantKind) → t ≡ Write → is_write t ≡ true
-      write_kept Write e = refl
-      write_kept Read e = absurd cc
-      write_kept Hold e = absurd cc
+      write_kept t e = search arith
 
   long_by : (o : Option OpenGrant) → writer_of s n ≡ o → length (bytes_of_sheets (size_of (settled s) n) (blocks_of (settled s) n r o)) ≡ size_of (settled s) n
   long_by (Some g) e =

@@ -1,7 +1,7 @@
 -- Which files of a release were given, and which grants end with it.
-use Rattle.std.proofs.Common.{◌≡◌, ℕ, zero, suc, ◌+◌, ◌<◌, ◌≤◌, Bool, true, false, cond, ◌&&◌, ◌||◌, not, eqb, List, [], ◌∷◌, map, Option, Some, None, is_some, sym, refl, ap, ◌∙◌, inl, inr, ◌⊎◌, arith, filter, filter_map, find}
+use Rattle.std.proofs.Common.{◌≡◌, ℕ, Bool, true, false, cond, ◌&&◌, ◌||◌, not, eqb, List, [], ◌∷◌, map, Option, Some, None, is_some, sym, refl, ap, ◌∙◌, inl, inr, ◌⊎◌, arith, filter, filter_map, find}
 use Rattle.std.specs.List.{list_any, cons_option}
-use Rattle.std.proofs.lemmas.Bool.{and_parts, and_from, eqb-true, eq-eqb, or_cases, or_left, or_right, cases_eq}
+use Rattle.std.proofs.lemmas.Bool.{and_parts, and_from, eqb-true, eq-eqb, or_cases, or_left, or_right}
 use Rattle.trio_rights.specs.Row.{Row}
 use Rattle.trio_lists.specs.Lists.{In, is_among}
 use Rattle.trio_lists.specs.Counting.{count_up}
@@ -15,6 +15,7 @@ use Rattle.trio_state.specs.State.{OpenGrant, State, settled}
 use Rattle.trio_lists.proofs.Filters.{find-In, list_any-In, In-list_any, list_any-map, filter-same, filter-map}
 use Rattle.trio_surveys.proofs.Images.{some_of, met_numbered}
 use Rattle.trio_lists.proofs.Members.{is_among-In}
+use Rattle.trio_lists.proofs.Counting.{count_in}
 use Rattle.trio_laws.proofs.StateFacts.{alone, write_alone}
 use Rattle.trio_layout.specs.Survey.{plain}
 use Rattle.trio_nodes.specs.Handed.{Handed}
@@ -23,30 +24,16 @@ use Rattle.trio_nodes.specs.Standing.{Standing, is_given}
 use Rattle.trio_nodes.specs.Legal.{is_handed}
 use Rattle.trio_laws.proofs.history.Extends.{standing_lent}
 use Rattle.trio_laws.specs.history.Stands.{standing_of}
-use Rattle.trio_laws.specs.history.Entries.{name_by, bundle_handed, written_handed, is_told, told_file, told_by, raw_file, raw_files}
+use Rattle.trio_laws.specs.history.Entries.{name_by, bundle_handed, is_told, told_file, told_by, raw_file, raw_files}
 use Rattle.std.specs.Str.{bytes_eq}
 use Rattle.trio_laws.proofs.history.Listing.{met_at}
 use Rattle.trio_laws.proofs.history.RawParts.{raw_number}
 
 pub bool_same : (a b : Bool) → (a ≡ true → b ≡ true) → (b ≡ true → a ≡ true) → a ≡ b
-bool_same true b f g = sym (f refl)
-bool_same false true f g = g refl
-bool_same false false f g = refl
-
--- ---- members
-
-pub count_has : (from c m : ℕ) → from ≤ m → m < from + c → In m (count_up from c)
-count_has from zero m low high = absurd (omega (arith, low, high))
-count_has from (suc c) m low high =
-    elim (cases_eq m from) [
-      | inl same ↦ inl same
-      | inr differ ↦ inr (count_has (suc from) c m (omega (arith, low, differ)) (omega (arith, high)))
-    ]
+bool_same a b f g = search arith
 
 files_step : (rf : ℕ → Option RawFile) (x : ℕ) (o : Option RawFile) (rest : List RawFile) (f : RawFile) → rf x ≡ o → In f (cons_option o rest) → (rf x ≡ Some f) ⊎ In f rest
-files_step rf x None rest f e i = inr i
-files_step rf x (Some g) rest f e (inl s) = inl (e ∙ ap Some (sym s))
-files_step rf x (Some g) rest f e (inr i) = inr i
+files_step rf x o rest f e h = search arith
 
 pub files_from : (rf : ℕ → Option RawFile) (xs : List ℕ) (f : RawFile) → In f (filter_map rf xs) → (m : ℕ) × (rf m ≡ Some f)
 files_from rf [] f i = absurd i
@@ -75,10 +62,7 @@ abbrev pub is_in : Bundle → ℕ → Bool
 is_in b n = is_written b n || is_among n b.holds
 
 given_by : (before after : Image) (b : Bundle) (n : ℕ) (was is : Option Row) (f : RawFile) → told_by before after b n was is ≡ Some f → f.given ≡ is_in b n
-given_by before after b n None None f e = absurd cc
-given_by before after b n (Some r) None f e = (let s : told_file before b n true r ≡ f = cc e in sym (ap (λ (x : RawFile). x.given) s))
-given_by before after b n None (Some r) f e = (let s : told_file after b n false r ≡ f = cc e in sym (ap (λ (x : RawFile). x.given) s))
-given_by before after b n (Some q) (Some r) f e = (let s : told_file after b n false r ≡ f = cc e in sym (ap (λ (x : RawFile). x.given) s))
+given_by before after b n was is f e = search arith
 
 given_step : (before after : Image) (b : Bundle) (n : ℕ) (t : Bool) (f : RawFile) → cond t (told_by before after b n (row_at before n) (row_at after n)) None ≡ Some f → f.given ≡ is_in b n
 given_step before after b n true f e = given_by before after b n (row_at before n) (row_at after n) f e
@@ -105,9 +89,7 @@ find_any p (x ∷ xs) = step (p x) (find_any p xs)
     step false h = h
 
 pub handed_is : (h : Handed) (n : ℕ) → is_handed h n ≡ is_in (bundle_handed h) n
-handed_is h n =
-    ap (λ t. t || is_among n h.holds)
-    (sym (list_any-map written_handed (λ (w : Written). eqb w.ino n) h.writes) ∙ sym (find_any (λ (w : Written). eqb w.ino n) (map written_handed h.writes)))
+handed_is h n = search (arith, list_any-map, find_any)
 
 module _ (s : State) (k : Kept s) (lib : ℕ) (b : Bundle) (given : GivenTo s lib b) where
   -- the grant of a file that is given
@@ -133,16 +115,8 @@ module _ (s : State) (k : Kept s) (lib : ℕ) (b : Bundle) (given : GivenTo s li
     pub given_is : (n : ℕ) → is_given (raw_files (settled s) after b) n ≡ is_in b n
     given_is n = bool_same (is_given (raw_files (settled s) after b) n) (is_in b n) there back
       where
-        rf : ℕ → Option RawFile
-        rf = raw_file (settled s) after b
-
         there : is_given (raw_files (settled s) after b) n ≡ true → is_in b n ≡ true
-        there t =
-            let a = list_any-In (λ (f : RawFile). eqb f.ino n && f.given) (raw_files (settled s) after b) t in
-            let p = and_parts (eqb a.0.ino n) a.0.given a.2 in
-            let m = files_from (raw_file (settled s) after b) (count_up 1 s.home.core.inodes) a.0 a.1 in
-            let same : m.0 ≡ n = sym (raw_number (settled s) after b m.0 a.0 m.1) ∙ eqb-true a.0.ino n p.0 in
-            ap (is_in b) (sym same) ∙ sym (given_step (settled s) after b m.0 (is_told (settled s) after b m.0) a.0 m.1) ∙ p.1
+        there t = search (arith, list_any-In, and_parts, files_from, raw_number, eqb-true, given_step)
 
         back : is_in b n ≡ true → is_given (raw_files (settled s) after b) n ≡ true
         back t =
@@ -153,7 +127,7 @@ module _ (s : State) (k : Kept s) (lib : ℕ) (b : Bundle) (given : GivenTo s li
             let low = q.0 in
             let high = q.1 in
             let e = m.number in
-            let i = files_has (raw_file (settled s) after b) (count_up 1 s.home.core.inodes) n f.0 (count_has 1 s.home.core.inodes n (omega (arith, low, e)) (omega (arith, high, e))) f.1 in
+            let i = files_has (raw_file (settled s) after b) (count_up 1 s.home.core.inodes) n f.0 (count_in 1 s.home.core.inodes n (omega (arith, low, e)) (omega (arith, high, e))) f.1 in
             In-list_any (λ (f : RawFile). eqb f.ino n && f.given) f.0 (raw_files (settled s) after b) i
             (and_from (eqb f.0.ino n) f.0.given (eq-eqb f.0.ino n (raw_number (settled s) after b n f.0 f.1)) (given_step (settled s) after b n (is_told (settled s) after b n) f.0 f.1 ∙ t))
 
@@ -188,7 +162,4 @@ module _ (s : State) (k : Kept s) (lib : ℕ) (b : Bundle) (given : GivenTo s li
         ]))
 
     pub grants_end : (s' : State) → map lent_part s'.open_grants ≡ map lent_part (grants_after s lib b) → map standing_of s'.open_grants ≡ filter (λ (g : Standing). not (eqb g.lib lib && is_given (raw_files (settled s) after b) g.ino)) (map standing_of s.open_grants)
-    grants_end s' e =
-        standing_lent s'.open_grants (grants_after s lib b) e
-        ∙ ap (map standing_of) (filter-same (λ (g : OpenGrant). not (is_in_bundle lib b g)) (λ (g : OpenGrant). not (eqb g.lib lib && is_given (raw_files (settled s) after b) g.ino)) s.open_grants (λ g i. ap not (ends_on g i)))
-        ∙ sym (filter-map standing_of (λ (g : Standing). not (eqb g.lib lib && is_given (raw_files (settled s) after b) g.ino)) s.open_grants)
+    grants_end s' e = search (arith, standing_lent, filter-same, ends_on, filter-map)

@@ -1,12 +1,12 @@
 -- The nodes after a release, one by one.
-use Rattle.std.proofs.Common.{◌≡◌, ℕ, zero, suc, ◌+◌, ◌*◌, ◌<◌, ◌≤◌, cond, eqb, List, [], ◌∷◌, ◌++◌, length, Option, Some, None, sym, refl, ap, ◌∙◌, subst, inl, inr, ◌⊎◌, arith, flat_map, filter_map}
+use Rattle.std.proofs.Common.{◌≡◌, ℕ, zero, suc, ◌+◌, ◌*◌, ◌<◌, ◌≤◌, cond, eqb, List, [], ◌∷◌, ◌++◌, length, Option, Some, None, refl, ◌∙◌, inl, inr, ◌⊎◌, arith, flat_map, filter_map}
 use Rattle.std.specs.List.{cons_option}
 use Rattle.std.proofs.lemmas.Bool.{cases_eq}
 use Rattle.trio_lists.specs.Counting.{count_up}
 use Rattle.trio_nodes.specs.declared.node.Node.{Node}
 use Rattle.trio_nodes.specs.declared.entry.RawFile.{RawFile}
 use Rattle.trio_nodes.specs.Told.{ToldBlock}
-use Rattle.trio_nodes.specs.Nodes.{Nodes, node_at, with_node}
+use Rattle.trio_nodes.specs.Nodes.{Nodes, node_at}
 use Rattle.trio_nodes.specs.After.{raw_node, raw_nodes, with_blocks, put_within}
 use Rattle.trio_laws.proofs.history.WithNode.{with_length}
 use Rattle.trio_nodes.proofs.NodeFacts.{with_node-same, with_node-else}
@@ -24,10 +24,7 @@ part_of g (Some f) = g f
 module _ (rf : ℕ → Option RawFile) (numbered : (n : ℕ) (f : RawFile) → rf n ≡ Some f → f.ino ≡ n) where
   -- numbers past these
   out_step : (bs : List ToldBlock) (from m : ℕ) (o : Option RawFile) (rest : List RawFile) → rf from ≡ o → (m ≡ from → ⊥) → ((nodes : Nodes) → node_at (raw_nodes bs rest nodes) m ≡ node_at nodes m) → (nodes : Nodes) → node_at (raw_nodes bs (cons_option o rest) nodes) m ≡ node_at nodes m
-  out_step bs from m None rest e differ h nodes = h nodes
-  out_step bs from m (Some f) rest e differ h nodes =
-      h (with_node nodes f.ino (raw_node bs f (node_at nodes f.ino)))
-      ∙ with_node-else nodes f.ino m (raw_node bs f (node_at nodes f.ino)) (λ s. differ (s ∙ numbered from f e))
+  out_step bs from m o rest e differ h nodes = search (arith, with_node-else)
 
   pub raw_out : (bs : List ToldBlock) (c from m : ℕ) → (m < from) ⊎ (from + c ≤ m) → (nodes : Nodes) → node_at (raw_nodes bs (filter_map rf (count_up from c)) nodes) m ≡ node_at nodes m
   raw_out bs zero from m out nodes = refl
@@ -37,36 +34,21 @@ module _ (rf : ℕ → Option RawFile) (numbered : (n : ℕ) (f : RawFile) → r
       (raw_out bs c (suc from) m (elim out [ inl l ↦ inl (omega (arith, l)) | inr g ↦ inr (omega (arith, g)) ])) nodes
 
   here_step : (bs : List ToldBlock) (from : ℕ) (o : Option RawFile) (rest : List RawFile) → rf from ≡ o → ((nodes : Nodes) → node_at (raw_nodes bs rest nodes) from ≡ node_at nodes from) → (nodes : Nodes) → node_at (raw_nodes bs (cons_option o rest) nodes) from ≡ becomes bs o (node_at nodes from)
-  here_step bs from None rest e h nodes = h nodes
-  here_step bs from (Some f) rest e h nodes =
-      let n : f.ino ≡ from = numbered from f e in
-      h (with_node nodes f.ino (raw_node bs f (node_at nodes f.ino)))
-      ∙ ap (λ i. node_at (with_node nodes i (raw_node bs f (node_at nodes i))) from) n
-      ∙ with_node-same nodes from (raw_node bs f (node_at nodes from))
+  here_step bs from o rest e h nodes = search (arith, with_node-same)
 
   past_step : (bs : List ToldBlock) (from m : ℕ) (o : Option RawFile) (rest : List RawFile) → rf from ≡ o → (m ≡ from → ⊥) → ((nodes : Nodes) → node_at (raw_nodes bs rest nodes) m ≡ becomes bs (rf m) (node_at nodes m)) → (nodes : Nodes) → node_at (raw_nodes bs (cons_option o rest) nodes) m ≡ becomes bs (rf m) (node_at nodes m)
-  past_step bs from m None rest e differ h nodes = h nodes
-  past_step bs from m (Some f) rest e differ h nodes =
-      h (with_node nodes f.ino (raw_node bs f (node_at nodes f.ino)))
-      ∙ ap (becomes bs (rf m)) (with_node-else nodes f.ino m (raw_node bs f (node_at nodes f.ino)) (λ s. differ (s ∙ numbered from f e)))
+  past_step bs from m o rest e differ h nodes = search (arith, with_node-else)
 
   pub raw_in : (bs : List ToldBlock) (c from m : ℕ) → from ≤ m → m < from + c → (nodes : Nodes) → node_at (raw_nodes bs (filter_map rf (count_up from c)) nodes) m ≡ becomes bs (rf m) (node_at nodes m)
   raw_in bs zero from m low high nodes = absurd (omega (arith, low, high))
   raw_in bs (suc c) from m low high nodes =
       elim (cases_eq m from) [
-        | inl same ↦
-            let M : ℕ → Type 0 = λ j. node_at (raw_nodes bs (cons_option (rf from) (filter_map rf (count_up (suc from) c))) nodes) j ≡ becomes bs (rf j) (node_at nodes j) in
-            let a : M from = here_step bs from (rf from) (filter_map rf (count_up (suc from) c)) refl (raw_out bs c (suc from) from (inl (omega arith))) nodes in
-            subst M (sym same) a
+        | inl same ↦ search (arith, filter_map, here_step, raw_out)
         | inr differ ↦ past_step bs from m (rf from) (filter_map rf (count_up (suc from) c)) refl differ (raw_in bs c (suc from) m (omega (arith, low, differ)) (omega (arith, high))) nodes
       ]
 
   length_step : (bs : List ToldBlock) (from : ℕ) (o : Option RawFile) (rest : List RawFile) (n : ℕ) → rf from ≡ o → from < n → ((nodes : Nodes) → length nodes ≡ n → length (raw_nodes bs rest nodes) ≡ n) → (nodes : Nodes) → length nodes ≡ n → length (raw_nodes bs (cons_option o rest) nodes) ≡ n
-  length_step bs from None rest n e l h nodes long = h nodes long
-  length_step bs from (Some f) rest n e l h nodes long =
-      let i = numbered from f e in
-      h (with_node nodes f.ino (raw_node bs f (node_at nodes f.ino)))
-      (with_length nodes f.ino (raw_node bs f (node_at nodes f.ino)) (omega (arith, i, l, long)) ∙ long)
+  length_step bs from o rest n e l h nodes long = search (arith, with_length)
 
   pub raw_length : (bs : List ToldBlock) (c from n : ℕ) → from + c ≤ n → (nodes : Nodes) → length nodes ≡ n → length (raw_nodes bs (filter_map rf (count_up from c)) nodes) ≡ n
   raw_length bs zero from n h nodes long = long
@@ -81,9 +63,7 @@ module _ (rf : ℕ → Option RawFile) (numbered : (n : ℕ) (f : RawFile) → r
     blocks_append m (b ∷ bs) ys x = blocks_append m bs ys (cond (eqb b.ino m) (put_within (4096 * b.at) b.bytes x) x)
 
     blocks_step : (from m : ℕ) (o : Option RawFile) (rest : List RawFile) (x : List ℕ) → rf from ≡ o → (m ≡ from → ⊥) → with_blocks m (flat_map g (cons_option o rest)) x ≡ with_blocks m (flat_map g rest) x
-    blocks_step from m None rest x e differ = refl
-    blocks_step from m (Some f) rest x e differ =
-        blocks_append m (g f) (flat_map g rest) x ∙ ap (with_blocks m (flat_map g rest)) (own f m x (λ s. differ (sym s ∙ numbered from f e)))
+    blocks_step from m o rest x e differ = search (arith, blocks_append)
 
     pub blocks_out : (c from m : ℕ) → (m < from) ⊎ (from + c ≤ m) → (x : List ℕ) → with_blocks m (flat_map g (filter_map rf (count_up from c))) x ≡ x
     blocks_out zero from m out x = refl
@@ -100,10 +80,7 @@ module _ (rf : ℕ → Option RawFile) (numbered : (n : ℕ) (f : RawFile) → r
     blocks_in zero from m low high x = absurd (omega (arith, low, high))
     blocks_in (suc c) from m low high x =
         elim (cases_eq m from) [
-          | inl same ↦
-              let M : ℕ → Type 0 = λ j. with_blocks j (flat_map g (cons_option (rf from) (filter_map rf (count_up (suc from) c)))) x ≡ with_blocks j (part_of g (rf j)) x in
-              let a : M from = blocks_here from (rf from) (filter_map rf (count_up (suc from) c)) (blocks_out c (suc from) from (inl (omega arith))) x in
-              subst M (sym same) a
+          | inl same ↦ search (arith, filter_map, blocks_here, blocks_out)
           | inr differ ↦
               blocks_step from m (rf from) (filter_map rf (count_up (suc from) c)) x refl differ
               ∙ blocks_in c (suc from) m (omega (arith, low, differ)) (omega (arith, high)) x

@@ -1,6 +1,5 @@
 -- The files and blocks of a release, one by one.
-use Rattle.std.proofs.Common.{◌≡◌, ℕ, zero, suc, ◌+◌, ◌*◌, Bool, true, false, cond, ◌||◌, not, eqb, ltb, min, List, [], ◌∷◌, Option, Some, None, slice_get, sym, refl, ap, ◌∙◌, inl, inr, arith, unwrap_or}
-use Rattle.std.specs.Option.{option_map_or}
+use Rattle.std.proofs.Common.{◌≡◌, ℕ, zero, suc, ◌+◌, ◌*◌, Bool, true, false, cond, ltb, min, List, [], ◌∷◌, Option, Some, None, slice_get, sym, refl, ap, ◌∙◌, inl, inr, arith, unwrap_or}
 use Rattle.std.proofs.lemmas.Bool.{ne_eqb, eq-eqb, le-ltb}
 use Rattle.trio_rights.specs.Row.{Row}
 use Rattle.trio_rights.specs.declared.kind.Kind.{Kind}
@@ -14,15 +13,12 @@ use Rattle.trio_nodes.specs.Handed.{Handed}
 use Rattle.trio_nodes.specs.Told.{ToldBlock}
 use Rattle.trio_nodes.specs.declared.entry.RawFile.{RawFile}
 use Rattle.trio_nodes.specs.After.{with_blocks, put_within}
-use Rattle.trio_laws.specs.history.Entries.{is_told, told_file, told_by, raw_file, block_numbers, is_touched, is_block_told, told_blocks, told_blocks_of}
+use Rattle.trio_laws.specs.history.Entries.{is_told, told_by, raw_file, block_numbers, is_touched, is_block_told, told_blocks, told_blocks_of}
 use Rattle.trio_laws.specs.history.Stands.{size_of}
 
 -- the file of a number has that number
 told_number : (before after : Image) (b : Bundle) (n : ℕ) (was is : Option Row) (f : RawFile) → told_by before after b n was is ≡ Some f → f.ino ≡ n
-told_number before after b n None None f e = absurd cc
-told_number before after b n (Some r) None f e = (let s : told_file before b n true r ≡ f = cc e in sym (ap (λ (x : RawFile). x.ino) s))
-told_number before after b n None (Some r) f e = (let s : told_file after b n false r ≡ f = cc e in sym (ap (λ (x : RawFile). x.ino) s))
-told_number before after b n (Some q) (Some r) f e = (let s : told_file after b n false r ≡ f = cc e in sym (ap (λ (x : RawFile). x.ino) s))
+told_number before after b n was is f e = search arith
 
 number_step : (before after : Image) (b : Bundle) (n : ℕ) (t : Bool) (f : RawFile) → cond t (told_by before after b n (row_at before n) (row_at after n)) None ≡ Some f → f.ino ≡ n
 number_step before after b n true f e = told_number before after b n (row_at before n) (row_at after n) f e
@@ -71,16 +67,7 @@ not_grown : (size k : ℕ) → ltb size (min size k) ≡ false
 not_grown size k = le-ltb size (min size k) (omega arith)
 
 pub same_told : (before after : Image) (h : Handed) (n at page : ℕ) → slice_get (block_numbers before n (row_at before n)) at ≡ Some page → size_of after n ≡ size_of before n → is_block_told before after h n at page ≡ is_touched h page
-same_told before after h n at page get size =
-    ap (λ o. is_touched h page || not (option_map_or (λ q. eqb q page) o false) || ltb (size_of before n) (min (size_of after n) (4096 * at + 4096))) get
-    ∙ ap (λ b. is_touched h page || not b || ltb (size_of before n) (min (size_of after n) (4096 * at + 4096))) (eq-eqb page page refl)
-    ∙ ap (λ z. is_touched h page || false || ltb (size_of before n) (min z (4096 * at + 4096))) size
-    ∙ ap (λ b. is_touched h page || false || b) (not_grown (size_of before n) (4096 * at + 4096))
-    ∙ plain (is_touched h page)
-  where
-    plain : (b : Bool) → (b || false || false) ≡ b
-    plain true = refl
-    plain false = refl
+same_told before after h n at page get size = search (arith, min, eq-eqb, not_grown)
 
 -- the sheet at the place of a number
 pub sheet_at : (xs : List Sheet) (i page : ℕ) → slice_get (sheet_numbers xs) i ≡ Some page → (x : Sheet) × In x xs × (x.page ≡ page) × (slice_get xs i ≡ Some x)

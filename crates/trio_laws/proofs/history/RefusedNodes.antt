@@ -1,7 +1,6 @@
 -- The nodes after a refused release.
-use Rattle.std.proofs.Common.{◌≡◌, ℕ, ltb, leb, ltb-true, ◌+◌, ◌*◌, ◌<◌, ◌≤◌, Bool, true, false, cond, ◌&&◌, ◌||◌, not, eqb, List, [], ◌++◌, map, length, take, drop, Option, Some, None, is_some, slice_get, sym, refl, ap, ◌∙◌, subst, inl, inr, ◌⊎◌, arith, flat_map, unwrap_or, find}
-use Rattle.std.specs.List.{list_any}
-use Rattle.std.proofs.lemmas.Bool.{and_parts, and_from, eqb-true, eq-eqb, both_ways, or_parts, cases_lt, false_from_ne_true}
+use Rattle.std.proofs.Common.{◌≡◌, ℕ, ltb, leb, ltb-true, ◌+◌, ◌*◌, ◌<◌, ◌≤◌, Bool, true, false, cond, ◌&&◌, ◌||◌, not, eqb, List, [], ◌++◌, length, take, drop, Option, Some, None, is_some, slice_get, sym, refl, ap, ◌∙◌, subst, ◌⊎◌, arith, flat_map, unwrap_or, find}
+use Rattle.std.proofs.lemmas.Bool.{and_parts, and_from, eqb-true, eq-eqb, both_ways, or_parts, cases_lt}
 use Rattle.trio_rights.specs.Row.{Row}
 use Rattle.trio_rights.specs.declared.kind.Kind.{Kind}
 use Rattle.trio_rights.specs.declared.kind.Kind.TheVariants.{Regular, Directory}
@@ -17,13 +16,11 @@ use Rattle.trio_state.specs.Bundles.{Ends, refused_image, uncovered}
 use Rattle.trio_rights.specs.Sheets.{Sheet, sheet_numbers}
 use Rattle.trio_state.specs.State.{OpenGrant, State, settled}
 use Rattle.trio_nodes.specs.GrantKinds.{is_write}
-use Rattle.trio_layout.specs.Verifies.{Verifies}
 use Rattle.trio_surveys.specs.Reading.{with_other}
-use Rattle.trio_laws.proofs.Agreeing.{verifies_still}
 use Rattle.trio_laws.proofs.Bundles.{Closed, Unwritten, unwritten_apart, in_numbers}
-use Rattle.trio_lists.proofs.Filters.{find-In, In-find, list_any-In}
-use Rattle.trio_surveys.proofs.Images.{some_of, one_met, met_numbered}
-use Rattle.trio_lists.proofs.Members.{In-left, In-right, In-flat, In-map, map-In}
+use Rattle.trio_lists.proofs.Filters.{find-In, In-find}
+use Rattle.trio_surveys.proofs.Images.{some_of, one_met}
+use Rattle.trio_lists.proofs.Members.{In-left, In-right, map-In}
 use Rattle.trio_surveys.proofs.Owned.{pages_are}
 use Rattle.trio_layout.specs.Range.{is_core}
 use Rattle.trio_surveys.proofs.Cores.{listed_is_core}
@@ -33,25 +30,24 @@ use Rattle.trio_laws.proofs.history.Untouched.{handed_same}
 use Rattle.trio_surveys.proofs.Sheets.{Pages, with_pages_apart, with_pages_known, with_pages_there, page_same, page_from, place_there}
 use Rattle.trio_laws.proofs.StateFacts.{write_alone}
 use Rattle.trio_nodes.specs.Handed.{Handed, HandedFile}
-use Rattle.trio_nodes.specs.declared.entry.HandedPage.{HandedPage}
 use Rattle.trio_nodes.specs.Told.{ToldBlock}
 use Rattle.trio_nodes.specs.declared.entry.RawFile.{RawFile}
 use Rattle.trio_nodes.specs.After.{with_blocks, raw_bytes, raw_nodes}
-use Rattle.trio_nodes.specs.Nodes.{node_at}
 use Rattle.trio_laws.specs.history.Stands.{name_of, size_of, blocks_of, bytes_of_sheets, bytes_of, node_of, node_by, node_in, nodes_of, writer_of}
-use Rattle.trio_laws.specs.history.Entries.{name_by, bundle_handed, written_handed, sheet_handed, is_told, told_file, told_by, raw_file, raw_files, raw_blocks, block_numbers, blocks_in as chain_blocks, is_touched, is_block_told, told_blocks, told_blocks_of}
+use Rattle.trio_laws.specs.history.Entries.{name_by, bundle_handed, is_told, told_file, told_by, raw_file, raw_files, raw_blocks, block_numbers, blocks_in as chain_blocks, is_touched, is_block_told, told_blocks, told_blocks_of}
 use Rattle.trio_laws.specs.history.Recorded.{LentWhole, IsMarked}
 use Rattle.trio_laws.proofs.history.Blocks.{flat_sheets, chunk}
-use Rattle.trio_laws.proofs.history.Listing.{met_at, chain_met}
+use Rattle.trio_laws.proofs.history.Listing.{met_at, chain_met, row_outside}
 use Rattle.trio_laws.proofs.history.OldBytes.{resized_same, old_long, count_is, lent_is}
 use Rattle.trio_laws.proofs.history.RawNodes.{becomes, part_of, blocks_in, raw_in, raw_out, raw_length}
 use Rattle.trio_laws.proofs.history.WithNode.{nodes_same, nodes_long}
 use Rattle.trio_laws.proofs.history.Facts.{node_is}
 use Rattle.std.specs.Str.{bytes_eq}
 use Rattle.trio_laws.proofs.history.RawParts.{raw_number, own_blocks, told_none, same_told, sheet_at, get_in}
-use Rattle.trio_laws.proofs.history.Still.{node_with, node_same, name_still, size_still, chain_still, blocks_still}
+use Rattle.trio_laws.proofs.history.Still.{node_same, name_still, size_still, chain_still, blocks_still}
 use Rattle.trio_laws.proofs.history.Told.{Count, block_bytes, told_put}
 use Rattle.trio_laws.proofs.history.Writers.{writes, none_found, other_writer, no_writer}
+use Rattle.trio_laws.proofs.history.ToldBlocks.{clean_block}
 
 module _ (s s' : State) (k : Kept s) (k' : Kept s') (whole : LentWhole s) (lib : ℕ) (h : Handed) (given : GivenTo s lib (bundle_handed h)) (closed : Closed s lib (bundle_handed h)) (e : Ends s lib (bundle_handed h) (refused_image (settled s) (bundle_handed h)) s') (marked : (w : HandedFile) → In w h.writes → IsMarked s lib w) where
   abbrev pub b : Bundle
@@ -69,17 +65,10 @@ module _ (s s' : State) (k : Kept s) (k' : Kept s') (whole : LentWhole s) (lib :
   fitJ : IsFit J.core
   fitJ = fit' s s' k lib b given closed e
 
-  verifiesJ : Verifies J
-  verifiesJ = verifies_still I ps k.fit fitJ k.verifies (agree s s' k lib b given closed e)
-
   -- ---- a file that the bundle doesn't write
 
   unwritten : (n : ℕ) → is_written b n ≡ false → Unwritten b n
-  unwritten n un w i same = by_find (find (λ (x : Written). eqb x.ino n) b.writes) refl
-    where
-      by_find : (o : Option Written) → find (λ (x : Written). eqb x.ino n) b.writes ≡ o → ⊥
-      by_find None f = both_ways (eqb w.ino n) (none_found (λ (x : Written). eqb x.ino n) b.writes w f i) (eq-eqb w.ino n same)
-      by_find (Some x) f = both_ways (is_written b n) un (ap is_some f)
+  unwritten n un w i same = search (arith, both_ways, none_found, eq-eqb)
 
   block_stays : (n : ℕ) (r : Row) (row : row_at s.home n ≡ Some r) → is_written b n ≡ false → (p : ℕ) → In p (met_at I k.fit k.verifies n r row).file.chain.blocks → page_of (with_other I.core ps) p ≡ page_of I.core p
   block_stays n r row un p a =
@@ -208,24 +197,6 @@ module _ (s s' : State) (k : Kept s) (k' : Kept s') (whole : LentWhole s) (lib :
       ∙ ap (λ j. take j (flat_map (block_bytes J) pl)) long
       ∙ sym new_is
 
-  -- ---- one node after another
-
-  -- no block of a file that isn't written was touched
-  clean_block : (n : ℕ) (r : Row) (row : row_at s.home n ≡ Some r) → is_written b n ≡ false → (p : ℕ) → In p (met_at I k.fit k.verifies n r row).file.chain.blocks → is_touched h p ≡ false
-  clean_block n r row un p i =
-      let m = met_at I k.fit k.verifies n r row in
-      false_from_ne_true (is_touched h p)
-      (λ t.
-      let w = list_any-In (λ (f : HandedFile). list_any (λ (c : HandedPage). eqb c.no p && c.touched) f.blocks) h.writes t in
-      let c = list_any-In (λ (c : HandedPage). eqb c.no p && c.touched) w.0.blocks w.2 in
-      let at : c.0.no ≡ p = eqb-true c.0.no p (and_parts (eqb c.0.no p) c.0.touched c.2).0 in
-      let handed : In (sheet_handed c.0) (bundle_sheets b) =
-      In-left (sheet_handed c.0) (flat_map (λ (w : Written). w.index ++ w.blocks) b.writes) b.pages
-      (In-flat (λ (w : Written). w.index ++ w.blocks) (written_handed w.0) (sheet_handed c.0) b.writes (In-map written_handed w.0 h.writes w.1)
-      (In-right (sheet_handed c.0) (map sheet_handed w.0.index) (map sheet_handed w.0.blocks) (In-map sheet_handed c.0 w.0.blocks c.1))) in
-      let page : In p (bundle_pages b) = in_numbers (bundle_sheets b) (sheet_handed c.0) p handed (sym at) in
-      unwritten_apart s k lib b given m.met p m.stands (λ v j same. unwritten n un v j (same ∙ m.number)) (subst (λ l. In p l) (sym (pages_are I.core m.met m.file m.read)) (In-right p m.file.chain.index m.file.chain.blocks i)) page)
-
   abbrev pub rf : ℕ → Option RawFile
   rf = raw_file I J b
 
@@ -260,7 +231,7 @@ module _ (s s' : State) (k : Kept s) (k' : Kept s') (whole : LentWhole s) (lib :
       let zero_i : 0 + i ≡ i = omega arith in
       let at : slice_get m.file.chain.blocks i ≡ Some page = ap (λ l. slice_get l i) (sym (numbers_stay n r row)) ∙ get in
       let was : slice_get (block_numbers I n (row_at I n)) (0 + i) ≡ Some page = ap (λ l. slice_get l (0 + i)) (numbers_were n r row) ∙ ap (slice_get m.file.chain.blocks) zero_i ∙ at in
-      same_told I J h n (0 + i) page was (size_stays n r row) ∙ clean_block n r row un page (get_in m.file.chain.blocks i page at)) in
+      same_told I J h n (0 + i) page was (size_stays n r row) ∙ clean_block s k lib h given n r row (unwritten n un) page (get_in m.file.chain.blocks i page at)) in
       ap (λ l. with_blocks n l (bytes_of I n r (writer_of s n) Regular)) none ∙ sym (bytes_stay n r row un)
 
   bytes_case : (n : ℕ) (r : Row) (row : row_at s.home n ≡ Some r) → is_told I J b n ≡ true → 1 ≤ n → n < 1 + s.home.core.inodes → (kind : Kind) → r.kind ≡ kind → raw_bytes bs (told_file J b n false r) kind (bytes_of I n r (writer_of s n) kind) ≡ bytes_of J n r (writer_of s' n) kind
@@ -274,11 +245,7 @@ module _ (s s' : State) (k : Kept s) (k' : Kept s') (whole : LentWhole s) (lib :
   not_told n t = (or_parts (is_written b n) (is_among n b.holds) (or_parts (is_written b n || is_among n b.holds) (is_some (row_at J n) && not (bytes_eq (name_by I n (row_at I n)) (name_by J n (row_at J n)))) t).0).0
 
   node_case : (n : ℕ) (o : Option Row) → row_at s.home n ≡ o → 1 ≤ n → n < 1 + s.home.core.inodes → (t : Bool) → is_told I J b n ≡ t → node_by J n (writer_of s' n) o ≡ becomes bs (cond t (told_by I J b n o o) None) (node_by I n (writer_of s n) o)
-  node_case n None row low high true t = refl
-  node_case n None row low high false t = refl
-  node_case n (Some r) row low high false t = ap Some (same_node n r row (not_told n t))
-  node_case n (Some r) row low high true t =
-      ap (λ l. Some (node_with r (name_of J n r) l)) (sym (bytes_case n r row t low high r.kind refl))
+  node_case n o row low high h t = search (arith, same_node, not_told, bytes_case)
 
   pub node_settled : (n : ℕ) → node_in s' n ≡ node_by J n (writer_of s' n) (row_at s.home n)
   node_settled n = ap (λ (i : Image). node_by i n (writer_of s' n) (row_at i n)) e.settles
@@ -287,41 +254,8 @@ module _ (s s' : State) (k : Kept s) (k' : Kept s') (whole : LentWhole s) (lib :
   pub refused_node : (n : ℕ) → 1 ≤ n → n < 1 + s.home.core.inodes → node_in s' n ≡ becomes bs (rf n) (node_in s n)
   refused_node n low high = node_settled n ∙ node_case n (row_at s.home n) refl low high (is_told I J b n) refl
 
-  no_row : (n : ℕ) → (n < 1) ⊎ (1 + s.home.core.inodes ≤ n) → row_at s.home n ≡ None
-  no_row n out = by (row_at s.home n) refl
-    where
-      by : (o : Option Row) → row_at s.home n ≡ o → o ≡ None
-      by None row = refl
-      by (Some r) row =
-          let m = met_at (settled s) k.fit k.verifies n r row in
-          let q = met_numbered (settled s).core plain k.fit k.verifies.sound m.met m.stands in
-          let a = q.0 in
-          let c = q.1 in
-          let d = m.number in
-          absurd (elim out [ inl l ↦ omega (arith, l, a, d) | inr g ↦ omega (arith, g, c, d) ])
-
   outside : (n : ℕ) → (n < 1) ⊎ (1 + s.home.core.inodes ≤ n) → node_in s' n ≡ node_in s n
-  outside n out = node_settled n ∙ ap (node_by J n (writer_of s' n)) (no_row n out) ∙ sym (ap (node_by I n (writer_of s n)) (no_row n out))
+  outside n out = node_settled n ∙ ap (node_by J n (writer_of s' n)) (row_outside I k.fit k.verifies n out) ∙ sym (ap (node_by I n (writer_of s n)) (row_outside I k.fit k.verifies n out))
 
   pub refused_nodes : nodes_of s' ≡ raw_nodes bs files (nodes_of s)
-  refused_nodes =
-      let count : s'.home.core.inodes ≡ s.home.core.inodes = ap (λ (i : Image). i.core.inodes) e.settles in
-      let l' = nodes_long s' in
-      let l : length (raw_nodes bs files (nodes_of s)) ≡ s.home.core.inodes + 1 = raw_length rf (raw_number I J b) bs s.home.core.inodes 1 (s.home.core.inodes + 1) (omega arith) (nodes_of s) (nodes_long s) in
-      nodes_same (nodes_of s') (raw_nodes bs files (nodes_of s)) (omega (arith, l, l', count))
-      (λ n.
-      let inner : 1 ≤ n → n < 1 + s.home.core.inodes → node_at (nodes_of s') n ≡ node_at (raw_nodes bs files (nodes_of s)) n =
-      λ low high.
-      node_is s' k' n ∙ refused_node n low high ∙ ap (becomes bs (rf n)) (sym (node_is s k n))
-      ∙ sym (raw_in rf (raw_number I J b) bs s.home.core.inodes 1 n low high (nodes_of s)) in
-      let outer : (n < 1) ⊎ (1 + s.home.core.inodes ≤ n) → node_at (nodes_of s') n ≡ node_at (raw_nodes bs files (nodes_of s)) n =
-      λ out.
-      node_is s' k' n ∙ outside n out ∙ sym (node_is s k n) ∙ sym (raw_out rf (raw_number I J b) bs s.home.core.inodes 1 n out (nodes_of s)) in
-      elim (cases_lt n 1) [
-        | inl zero_n ↦ outer (inl zero_n)
-        | inr low ↦
-            elim (cases_lt n (1 + s.home.core.inodes)) [
-              | inl high ↦ inner low high
-              | inr past ↦ outer (inr past)
-            ]
-      ])
+  refused_nodes = search (arith, nodes_long, raw_length, raw_number, nodes_same, node_is, refused_node, raw_in, outside, raw_out, cases_lt)

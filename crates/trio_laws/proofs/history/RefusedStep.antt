@@ -1,9 +1,7 @@
 -- A refused release extends the history.
 use Rattle.std.proofs.Common.{◌≡◌, ℕ, ◌+◌, Bool, true, false, cond, ◌&&◌, not, eqb, List, [], ◌∷◌, map, length, Option, Some, None, sym, refl, ap, ◌∙◌, subst, inl, inr, ◌⊎◌, arith, filter, find}
-use Rattle.std.specs.Prelude.{MatchOption}
 use Rattle.std.specs.List.{AllByRecursion}
 use Rattle.std.proofs.lemmas.Bool.{and_parts, and_from, eqb-true, eq-eqb, both_ways, or_left, not-true}
-use Rattle.trio_nodes.specs.declared.grant.GrantKind.{GrantKind}
 use Rattle.trio_nodes.specs.declared.grant.GrantKind.TheVariants.{Write}
 use Rattle.trio_rights.specs.Row.{Row}
 use Rattle.trio_rights.specs.declared.kind.Kind.{Kind}
@@ -28,12 +26,10 @@ use Rattle.trio_nodes.specs.Told.{ToldBlock}
 use Rattle.trio_nodes.specs.declared.entry.RawFile.{RawFile}
 use Rattle.trio_nodes.specs.Nodes.{Nodes, node_at, entry_in}
 use Rattle.trio_nodes.specs.Standing.{Standing, stands, is_others, is_given}
-use Rattle.trio_nodes.specs.GrantKinds.{same_kind}
 use Rattle.trio_nodes.specs.After.{bytes_in, raw_nodes}
 use Rattle.trio_nodes.specs.Legal.{IsWithinGrants, SameContent, HasRightsOf, HasPlaceOf, HasNameOf, LegalVerdict, BlocksAreKnown, is_handed}
-use Rattle.trio_nodes.specs.Legal.{HasAllButBytesOf}
 use Rattle.trio_laws.specs.history.Stands.{size_of, bytes_of, node_of, node_by, nodes_of, standing_of, writer_of}
-use Rattle.trio_laws.specs.history.Entries.{bundle_handed, is_told, told_by, told_file, raw_file, raw_files, raw_blocks, raw_entry, refused_for}
+use Rattle.trio_laws.specs.history.Entries.{bundle_handed, is_told, told_by, raw_file, raw_files, raw_blocks, raw_entry, refused_for}
 use Rattle.trio_laws.specs.history.Recorded.{LentWhole, IsMarked}
 use Rattle.trio_laws.proofs.history.Extends.{Makes, past_is}
 use Rattle.trio_laws.proofs.history.Facts.{node_is}
@@ -85,34 +81,14 @@ module _ (s s' : State) (k : Kept s) (k' : Kept s') (whole : LentWhole s) (whole
     pub now : node_at (nodes_of s') n ≡ Some (node_of after n (writer_of s' n) row)
 
   live : (n : ℕ) (x : Node) → node_at (nodes_of s) n ≡ Some x → Live n x
-  live n x there = by (row_at s.home n) refl
-    where
-      by : (o : Option Row) → row_at s.home n ≡ o → Live n x
-      by None row = (let wrong : None ≡ Some x = sym (was n ∙ ap (node_by image n (writer_of s n)) row) ∙ there in absurd (cc wrong))
-      by (Some r) row = record {
-        row = r;
-        at = row;
-        before = sym (one_of (node_of image n (writer_of s n) r) x (sym (was n ∙ ap (node_by image n (writer_of s n)) row) ∙ there));
-        now = is n ∙ ap (node_by after n (writer_of s' n)) row;
-      }
+  live n x there = search (arith, Live, was, one_of, is)
 
   -- every node keeps its place, name, kind and rights
   entry_same : (dir n : ℕ) → entry_in dir (node_at (nodes_of s') n) ≡ entry_in dir (node_at (nodes_of s) n)
-  entry_same dir n = ap (entry_in dir) (is n) ∙ by (row_at s.home n) refl ∙ sym (ap (entry_in dir) (was n))
-    where
-      by : (o : Option Row) → row_at s.home n ≡ o → entry_in dir (node_by after n (writer_of s' n) o) ≡ entry_in dir (node_by image n (writer_of s n) o)
-      by None row = refl
-      by (Some r) row = ap (λ (l : List ℕ). cond (eqb r.parent dir) (Some (l, r.kind)) None) (name_stays s s' k k' whole lib h given closed e marked n r row)
+  entry_same dir n = search (arith, is, was, name_stays)
 
   pub unwritten_same : (n : ℕ) → is_written b n ≡ false → SameContent (nodes_of s) (nodes_of s') n
-  unwritten_same n un = record {
-    bytes = ap bytes_in (is n) ∙ by (row_at s.home n) refl ∙ sym (ap bytes_in (was n));
-    entries = λ m. entry_same n m;
-  }
-    where
-      by : (o : Option Row) → row_at s.home n ≡ o → bytes_in (node_by after n (writer_of s' n) o) ≡ bytes_in (node_by image n (writer_of s n) o)
-      by None row = refl
-      by (Some r) row = ap (λ (x : Node). x.bytes) (same_node s s' k k' whole lib h given closed e marked n r row un)
+  unwritten_same n un = search (arith, is, was, entry_same, same_node)
 
   pub rights_same : (n : ℕ) (x : Node) → node_at (nodes_of s) n ≡ Some x → HasRightsOf x (node_at (nodes_of s') n)
   rights_same n x there =
@@ -139,11 +115,7 @@ module _ (s s' : State) (k : Kept s) (k' : Kept s') (whole : LentWhole s) (whole
       let f = find-In (λ (w : Written). eqb w.ino n) b.writes w.0 w.1 in
       let l = given.writes w.0 f.0 in
       let number : l.grant.ino ≡ n = l.ino ∙ eqb-true w.0.ino n f.1 in
-      list_any-map standing_of (λ (g : Standing). eqb g.lib lib && eqb g.ino n && same_kind g.kind Write) s.open_grants
-      ∙ In-list_any (λ (g : OpenGrant). eqb g.lib lib && eqb g.ino n && same_kind g.kind Write) l.grant s.open_grants l.is_open
-      (and_from (eqb l.grant.lib lib && eqb l.grant.ino n) (same_kind l.grant.kind Write)
-      (and_from (eqb l.grant.lib lib) (eqb l.grant.ino n) (eq-eqb l.grant.lib lib l.lib) (eq-eqb l.grant.ino n number))
-      (ap (λ (t : GrantKind). same_kind t Write) l.kind))
+      search (arith, list_any-map, In-list_any, and_from, eq-eqb)
 
   others_unwritten : (n : ℕ) → is_others gs lib n ≡ true → is_written b n ≡ false
   others_unwritten n t = by (is_written b n) refl
@@ -173,11 +145,7 @@ module _ (s s' : State) (k : Kept s) (k' : Kept s') (whole : LentWhole s) (whole
       by_written n false un = inr (inr (unwritten_same n un))
 
       none_new : (n : ℕ) (y : Node) → node_at (nodes_of s) n ≡ None → node_at (nodes_of s') n ≡ Some y → ⊥
-      none_new n y there now = by (row_at s.home n) refl
-        where
-          by : (o : Option Row) → row_at s.home n ≡ o → ⊥
-          by None row = (let wrong : None ≡ Some y = sym (is n ∙ ap (node_by after n (writer_of s' n)) row) ∙ now in absurd (cc wrong))
-          by (Some r) row = (let wrong : Some (node_of image n (writer_of s n) r) ≡ None = sym (was n ∙ ap (node_by image n (writer_of s n)) row) ∙ there in absurd (cc wrong))
+      none_new n y there now = search (arith, is, was)
 
   -- ---- bytes
 
@@ -186,29 +154,10 @@ module _ (s s' : State) (k : Kept s) (k' : Kept s') (whole : LentWhole s) (whole
   length_was n r row Directory t = absurd cc
 
   length_same : (n : ℕ) (r : Row) → row_at s.home n ≡ Some r → (kind : Kind) → length (bytes_of after n r (writer_of s' n) kind) ≡ length (bytes_of image n r (writer_of s n) kind)
-  length_same n r row Directory = refl
-  length_same n r row Regular =
-      let row' : row_at s'.home n ≡ Some r = ap (λ (i : Image). row_at i n) e.settles ∙ row in
-      ap (λ (i : Image). length (bytes_of i n r (writer_of s' n) Regular)) (sym e.settles)
-      ∙ old_long s' k' whole' n r row'
-      ∙ ap (λ (i : Image). size_of i n) e.settles
-      ∙ sym (length_was n r row Regular refl)
+  length_same n r row kind = search (arith, old_long, length_was)
 
   judged : (why : Why) → LegalVerdict (refused_for why) (nodes_of s) (nodes_of s')
-  judged why n = by (row_at s.home n) refl
-    where
-      M : Option Node → Option Node → Type 0
-      M o o' = MatchOption o (o' ≡ None) (λ x. HasAllButBytesOf x o')
-
-      at_row : (o : Option Row) → row_at s.home n ≡ o → M (node_by image n (writer_of s n) o) (node_by after n (writer_of s' n) o)
-      at_row None row = refl
-      at_row (Some r) row = (
-        ap (λ (l : List ℕ). record { parent = r.parent; name = l; kind = r.kind; mode = r.mode; uid = r.uid; gid = r.gid; bytes = [] }) (name_stays s s' k k' whole lib h given closed e marked n r row),
-        length_same n r row r.kind,
-      )
-
-      by : (o : Option Row) → row_at s.home n ≡ o → M (node_at (nodes_of s) n) (node_at (nodes_of s') n)
-      by o row = subst (λ x. M x (node_at (nodes_of s') n)) (sym (was n)) (subst (λ y. M (node_by image n (writer_of s n) (row_at s.home n)) y) (sym (is n)) (at_row (row_at s.home n) refl))
+  judged why n = search (arith, name_stays, length_same, was, is)
 
   -- a file of the entry, by its row
   record Filed (m : ℕ) (f : RawFile) : Type 0 where
@@ -218,11 +167,7 @@ module _ (s s' : State) (k : Kept s) (k' : Kept s') (whole : LentWhole s) (whole
     pub kind : f.kind ≡ row.kind
 
   filed : (m : ℕ) (f : RawFile) (t : Bool) (o : Option Row) → row_at s.home m ≡ o → cond t (told_by image after b m o o) None ≡ Some f → Filed m f
-  filed m f false o row q = absurd cc
-  filed m f true None row q = absurd cc
-  filed m f true (Some r) row q =
-      let same : told_file after b m false r ≡ f = cc q in
-      record { row = r; at = row; size = sym (ap (λ (x : RawFile). x.size) same); kind = sym (ap (λ (x : RawFile). x.kind) same) }
+  filed m f t o row q = search arith
 
   long_enough : (f : RawFile) → In f these → f.kind ≡ Regular → f.size ≡ length (bytes_in (node_at (nodes_of s) f.ino))
   long_enough f i regular =
@@ -230,10 +175,7 @@ module _ (s s' : State) (k : Kept s) (k' : Kept s') (whole : LentWhole s) (whole
       let number : f.ino ≡ q.0 = raw_number image after b q.0 f q.1 in
       let r = filed q.0 f (is_told image after b q.0) (row_at s.home q.0) refl q.1 in
       let bytes : bytes_in (node_at (nodes_of s) q.0) ≡ bytes_of image q.0 r.row (writer_of s q.0) r.row.kind = ap bytes_in (was q.0 ∙ ap (node_by image q.0 (writer_of s q.0)) r.at) in
-      r.size
-      ∙ sym (length_was q.0 r.row r.at r.row.kind (sym r.kind ∙ regular))
-      ∙ ap length (sym bytes)
-      ∙ ap (λ n. length (bytes_in (node_at (nodes_of s) n))) (sym number)
+      search (arith, length_was)
 
   known : AllByRecursion (λ f. BlocksAreKnown blocks f (node_at (nodes_of s) f.ino)) these
   known = all_files (λ f. BlocksAreKnown blocks f (node_at (nodes_of s) f.ino)) these (λ f i at regular inside. inr (let z = long_enough f i regular in omega (arith, z)))

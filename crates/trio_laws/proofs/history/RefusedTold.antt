@@ -1,14 +1,16 @@
 -- What a refused release tells, by the images before and after, is what the bundle and the notes tell.
-use Rattle.std.proofs.Common.{◌≡◌, ℕ, ◌+◌, ◌<◌, ◌≤◌, Bool, true, false, cond, ◌&&◌, ◌||◌, not, List, [], ◌∷◌, ◌++◌, Option, Some, None, slice_get, sym, refl, ap, ◌∙◌, subst, inl, inr, arith, filter_map}
+use Rattle.std.proofs.Common.{◌≡◌, ℕ, ◌+◌, ◌<◌, ◌≤◌, Bool, true, false, cond, ◌&&◌, ◌||◌, not, List, [], ◌++◌, Option, Some, None, slice_get, sym, refl, ap, ◌∙◌, subst, inl, inr, arith, filter_map}
 use Rattle.std.specs.Prelude.{is_some, map}
 use Rattle.std.specs.Option.{option_map, option_map_or}
 use Rattle.std.specs.Str.{bytes_eq}
 use Rattle.std.proofs.lemmas.Bool.{cases_Bool, or_cases, or_left, or_right}
 use Rattle.std.proofs.lemmas.Slice.Eq.{bytes_eq-Decides}
+use Rattle.std.proofs.lemmas.List.{map-id}
+use Rattle.std.proofs.Math.Bool.{or-false}
 use Rattle.trio_lists.specs.Lists.{In, are_new, is_among}
 use Rattle.trio_lists.proofs.Members.{In-cases, In-is_among, In-left, In-map, In-right, flat_map-same, is_among-In, map-In}
 use Rattle.trio_rights.specs.declared.kind.Kind.{Kind}
-use Rattle.trio_rights.specs.declared.kind.Kind.TheVariants.{Regular, Directory}
+use Rattle.trio_rights.specs.declared.kind.Kind.TheVariants.{Regular}
 use Rattle.trio_rights.specs.Row.{Row}
 use Rattle.trio_rights.specs.Bundle.{Written, Bundle, is_written}
 use Rattle.trio_rights.specs.Sheets.{Sheet, sheet_numbers}
@@ -38,14 +40,6 @@ use Rattle.trio_laws.proofs.history.RisingKeys.{counted_in, counted_sorted, in_m
 use Rattle.trio_laws.proofs.history.Still.{chain_still, name_still, size_still}
 use Rattle.trio_laws.proofs.history.ToldBlocks.{block_alike, blocks_lent, clean_block, numbers_were, same_blocks, told_alike}
 use Rattle.trio_laws.proofs.history.ToldNoted.{noted_name_is, noted_size_is}
-
-pub map_self : (xs : List ℕ) → map (λ n. n) xs ≡ xs
-map_self [] = refl
-map_self (x ∷ xs) = ap (λ l. x ∷ l) (map_self xs)
-
-or_false : (t : Bool) → (t || false) ≡ t
-or_false true = refl
-or_false false = refl
 
 -- what is there only where a test passes
 pub when_passed : {X : Type 0} (t : Bool) (o : Option X) (x : X) → cond t o None ≡ Some x → (t ≡ true) × (o ≡ Some x)
@@ -101,13 +95,10 @@ module _ (s : State) (lib : ℕ) (h : Handed) (j : IsJudgeable s lib (bundle_han
   -- ---- files
 
   unnamed : (n : ℕ) (o : Option Row) → row_at I n ≡ o → (is_some o && not (bytes_eq (name_by I n o) (name_by J n o))) ≡ false
-  unnamed n None row = refl
-  unnamed n (Some r) row =
-      ap (λ l. not (bytes_eq (name_of I n r) l)) (name_stays n r row)
-      ∙ ap not ((bytes_eq-Decides (name_of I n r) (name_of I n r)).1 refl)
+  unnamed n o row = search (arith, name_stays, bytes_eq-Decides)
 
   told_handed : (n : ℕ) → is_told I J b n ≡ is_handed b n
-  told_handed n = ap (λ t. is_handed b n || t) (unnamed n (row_at I n) refl) ∙ or_false (is_handed b n)
+  told_handed n = ap (λ t. is_handed b n || t) (unnamed n (row_at I n) refl) ∙ or-false (is_handed b n)
 
   same_by : (n : ℕ) (o : Option Row) → row_at I n ≡ o → told_by I J b n o o ≡ option_map (told_row b n false (noted_name notes n) (noted_size notes n)) o
   same_by n None row = refl
@@ -117,9 +108,7 @@ module _ (s : State) (lib : ℕ) (h : Handed) (j : IsJudgeable s lib (bundle_han
       ∙ ap (λ z. Some (told_row b n false (noted_name notes n) z r)) (size_stays n r row ∙ sym (noted_size_is I n r low row))
 
   raw_is : (n : ℕ) → raw_file I J b n ≡ cond (is_handed b n) (told_same cs notes n) None
-  raw_is n =
-      ap (λ t. cond t (told_by I J b n (row_at I n) (row_at I n)) None) (told_handed n)
-      ∙ ap (λ o. cond (is_handed b n) o None) (same_by n (row_at I n) refl)
+  raw_is n = search (arith, told_handed, same_by)
 
   abbrev handed : List ℕ
   handed = map (λ (w : Written). w.ino) b.writes ++ b.holds
@@ -147,10 +136,10 @@ module _ (s : State) (lib : ℕ) (h : Handed) (j : IsJudgeable s lib (bundle_han
   handed_new : are_new [] (map (λ n. n) handed) ≡ true
   handed_new =
       let ws : List ℕ = map (λ (w : Written). w.ino) b.writes in
-      joined_new (λ n. n) ws b.holds (ap (are_new []) (map_self ws) ∙ j.given.writes_once) (ap (are_new []) (map_self b.holds) ∙ j.given.holds_once)
+      joined_new (λ n. n) ws b.holds (ap (are_new []) (map-id ws) ∙ j.given.writes_once) (ap (are_new []) (map-id b.holds) ∙ j.given.holds_once)
       (λ n i k.
-      let w = map-In (λ (w : Written). w.ino) n b.writes (subst (λ l. In n l) (map_self ws) i) in
-      held_apart s lib b j n (subst (λ l. In n l) (map_self b.holds) k) w.0 w.1 (sym w.2))
+      let w = map-In (λ (w : Written). w.ino) n b.writes (subst (λ l. In n l) (map-id ws) i) in
+      held_apart s lib b j n (subst (λ l. In n l) (map-id b.holds) k) w.0 w.1 (sym w.2))
 
   abbrev of_handed : List RawFile
   of_handed = filter_map (told_same cs notes) handed
@@ -213,21 +202,13 @@ module _ (s : State) (lib : ℕ) (h : Handed) (j : IsJudgeable s lib (bundle_han
       let zero_i : 0 + i ≡ i = omega arith in
       let at : slice_get m.file.chain.blocks i ≡ Some page = ap (λ l. slice_get l i) (sym (numbers_stay n r row)) ∙ get in
       let was : slice_get (block_numbers I n (row_at I n)) (0 + i) ≡ Some page = ap (λ l. slice_get l (0 + i)) (numbers_were s lib h j n r row) ∙ ap (slice_get m.file.chain.blocks) zero_i ∙ at in
-      same_told I J h n (0 + i) page was (size_stays n r row) ∙ clean_block s lib h j n r row (finds_unwritten b n un) page (get_in m.file.chain.blocks i page at))
+      same_told I J h n (0 + i) page was (size_stays n r row) ∙ clean_block s j.kept lib h j.given n r row (finds_unwritten b n un) page (get_in m.file.chain.blocks i page at))
 
   regular_blocks : (f : RawFile) (r : Row) → row_at I f.ino ≡ Some r → r.kind ≡ Regular → f.size ≡ noted_size notes f.ino → told_blocks I J h f.ino 0 (block_numbers J f.ino (row_at J f.ino)) ≡ changed_blocks cs notes h f 0 (lent_blocks b f.ino)
-  regular_blocks f r row regular size =
-      elim (cases_Bool (is_written b f.ino)) [
-        | inl t ↦ written_blocks f r row regular size t
-        | inr un ↦
-            let none : lent_blocks b f.ino ≡ [] = ap (λ o. option_map_or (λ (x : Written). sheet_numbers x.blocks) o []) (unwritten_finds b f.ino (finds_unwritten b f.ino un)) in
-            held_blocks f.ino r row un ∙ ap (changed_blocks cs notes h f 0) (sym none)
-      ]
+  regular_blocks f r row regular size = search (arith, cases_Bool, written_blocks, unwritten_finds, finds_unwritten, held_blocks)
 
   kind_blocks : (f : RawFile) (r : Row) (kind : Kind) → row_at I f.ino ≡ Some r → r.kind ≡ kind → f.size ≡ noted_size notes f.ino → f.gone ≡ false → told_blocks_of I J h f kind ≡ blocks_of_kind cs notes h f kind (lent_blocks b f.ino)
-  kind_blocks f r Directory row kind size gone = refl
-  kind_blocks f r Regular row kind size gone =
-      ap (λ t. cond t [] (told_blocks I J h f.ino 0 (block_numbers J f.ino (row_at J f.ino)))) gone ∙ regular_blocks f r row kind size
+  kind_blocks f r h row kind size gone = search (arith, regular_blocks)
 
   file_blocks : (f : RawFile) → In f (raw_files I J b) → told_blocks_of I J h f f.kind ≡ blocks_of_kind cs notes h f f.kind (lent_blocks b f.ino)
   file_blocks f i =
@@ -237,14 +218,10 @@ module _ (s : State) (lib : ℕ) (h : Handed) (j : IsJudgeable s lib (bundle_han
       kind_blocks f r.0 f.kind r.1 (sym (ap (λ (x : RawFile). x.kind) r.2)) (ap (λ (x : RawFile). x.size) r.2) (ap (λ (x : RawFile). x.gone) r.2)
 
   blocks_same : raw_blocks I J h (raw_files I J b) ≡ refused_blocks cs notes h (refused_files cs notes)
-  blocks_same =
-      flat_map-same (λ f. told_blocks_of I J h f f.kind) (λ f. blocks_of_kind cs notes h f f.kind (lent_blocks b f.ino)) (raw_files I J b) file_blocks
-      ∙ ap (refused_blocks cs notes h) files_same
+  blocks_same = search (arith, flat_map-same, file_blocks, files_same)
 
   entry_same : (verdict : ReleaseAnswer) → raw_entry I lib h verdict J ≡ Raw (record { 0 = lib }) verdict (refused_files cs notes) (record { handed = h; blocks = refused_blocks cs notes h (refused_files cs notes) })
-  entry_same verdict =
-      ap (λ bs. Raw (record { 0 = lib }) verdict (raw_files I J b) (record { handed = h; blocks = bs })) blocks_same
-      ∙ ap (λ fs. Raw (record { 0 = lib }) verdict fs (record { handed = h; blocks = refused_blocks cs notes h (refused_files cs notes) })) files_same
+  entry_same verdict = search (arith, blocks_same, files_same)
 
 pub refused_is_listed : RefusedIsListed
 refused_is_listed s lib h verdict j = entry_same s lib h j verdict

@@ -1,20 +1,17 @@
 -- The nodes of a state deny what its rows deny.
-use Rattle.std.proofs.Common.{◌≡◌, ℕ, zero, suc, Bool, cond, not, eqb, ◌+◌, List, [], ◌∷◌, ◌++◌, map, length, get_or, Option, Some, None, sym, refl, ap, ◌∙◌, find, option_map}
+use Rattle.std.proofs.Common.{◌≡◌, ℕ, zero, suc, cond, eqb, List, [], ◌∷◌, ◌++◌, map, length, get_or, Option, Some, None, refl, ap, ◌∙◌, option_map, arith}
 use Rattle.trio_rights.specs.declared.rights.Creds.{Creds}
 use Rattle.trio_rights.specs.declared.rights.Need.{Need}
-use Rattle.trio_rights.specs.declared.rights.Need.TheVariants.{Read, Write as ToWrite}
 use Rattle.trio_rights.specs.Row.{Row, row_in}
 use Rattle.trio_rights.specs.May.{row_permits, ancestors, denier}
 use Rattle.trio_nodes.specs.declared.grant.GrantKind.{GrantKind}
-use Rattle.trio_nodes.specs.declared.grant.GrantKind.TheVariants.{Read as ReadGrant, Write as WriteGrant, Hold as HoldGrant}
-use Rattle.trio_layout.specs.Survey.{plain, survey, row_of}
 use Rattle.trio_layout.specs.Image.{row_at}
 use Rattle.trio_state.specs.State.{State, settled, creds_of}
 use Rattle.trio_state.specs.Grants.{denied_by}
 use Rattle.trio_state.specs.Kept.{Kept}
 use Rattle.trio_lists.proofs.Tabulated.{tabulated-length}
 use Rattle.trio_nodes.specs.Legal.{rights_row, rights_rows, grant_denier}
-use Rattle.trio_laws.specs.history.Stands.{node_by, node_in, nodes_of, writer_of}
+use Rattle.trio_laws.specs.history.Stands.{node_by, nodes_of, writer_of}
 use Rattle.trio_laws.proofs.history.Facts.{find_same, node_is}
 
 -- a row without its place
@@ -34,14 +31,7 @@ module _ (rows' rows : List (Option Row)) (alike : (n : ℕ) → row_in rows' n 
       ap (λ l. cond (eqb r.parent 0) [] (l ++ r.parent ∷ [])) (ap (ancestors rows' steps) (alike r.parent) ∙ above steps (row_in rows r.parent))
 
   pub denier_alike : length rows' ≡ length rows → (creds : Creds) (ino : ℕ) (need : Need) → denier rows' creds ino need ≡ denier rows creds ino need
-  denier_alike same creds ino need =
-      let test' : ℕ → Bool = λ n. not (row_permits creds (cond (eqb n ino) need Read) (row_in rows' n)) in
-      let test : ℕ → Bool = λ n. not (row_permits creds (cond (eqb n ino) need Read) (row_in rows n)) in
-      let line : ancestors rows' (length rows') (row_in rows' ino) ≡ ancestors rows (length rows) (row_in rows ino) =
-      ap (λ c. ancestors rows' c (row_in rows' ino)) same ∙ ap (ancestors rows' (length rows)) (alike ino) ∙ above (length rows) (row_in rows ino) in
-      ap (λ l. find test' (l ++ ino ∷ [])) line
-      ∙ find_same test' test (ancestors rows (length rows) (row_in rows ino) ++ ino ∷ [])
-      (λ n. ap (λ o. not (row_permits creds (cond (eqb n ino) need Read) o)) (alike n) ∙ ap not (permits_same creds (cond (eqb n ino) need Read) (row_in rows n)))
+  denier_alike same creds ino need = search (arith, above, find_same, permits_same)
 
 map_get : {X Y : Type 0} (f : X → Y) (xs : List X) (n : ℕ) (d : X) → get_or (map f xs) n (f d) ≡ f (get_or xs n d)
 map_get f [] n d = refl
@@ -62,13 +52,7 @@ module _ (s : State) (k : Kept s) where
       map_get (option_map rights_row) (nodes_of s) n None ∙ ap (option_map rights_row) (node_is s k n) ∙ row_bare n (row_at s.home n)
 
   rows_long : length (rights_rows (nodes_of s)) ≡ length s.home.rows
-  rows_long =
-      map_length (option_map rights_row) (nodes_of s)
-      ∙ tabulated-length (node_in s) (s.home.core.inodes + 1)
-      ∙ sym (tabulated-length (row_of (settled s).core (survey (settled s).core plain)) (s.home.core.inodes + 1))
-      ∙ sym (ap length k.verifies.rows)
+  rows_long = search (arith, map_length, tabulated-length)
 
   pub denier_is : (lib ino : ℕ) (kind : GrantKind) → grant_denier (nodes_of s) (creds_of s lib) ino kind ≡ denied_by s lib ino kind
-  denier_is lib ino ReadGrant = denier_alike (rights_rows (nodes_of s)) s.home.rows rows_alike rows_long (creds_of s lib) ino Read
-  denier_is lib ino WriteGrant = denier_alike (rights_rows (nodes_of s)) s.home.rows rows_alike rows_long (creds_of s lib) ino ToWrite
-  denier_is lib ino HoldGrant = refl
+  denier_is lib ino kind = search (arith, denier_alike, rows_alike, rows_long)

@@ -1,5 +1,5 @@
 -- What a function gives of numbers one after another is any list of the same things, in rising order of their keys.
-use Rattle.std.proofs.Common.{◌≡◌, ℕ, zero, suc, ◌+◌, ◌<◌, ◌≤◌, Bool, true, false, cond, leb, List, [], ◌∷◌, ◌++◌, Option, Some, None, sym, refl, ap, ◌∙◌, subst, inl, inr, ◌⊎◌, arith, filter_map}
+use Rattle.std.proofs.Common.{◌≡◌, ℕ, zero, suc, ◌+◌, ◌<◌, ◌≤◌, Bool, true, cond, leb, List, [], ◌∷◌, ◌++◌, Option, Some, None, sym, refl, ap, ◌∙◌, subst, inl, inr, ◌⊎◌, arith, filter_map}
 use Rattle.std.specs.Prelude.{map}
 use Rattle.std.specs.List.{cons_option}
 use Rattle.std.proofs.lemmas.List.{map-append}
@@ -26,14 +26,7 @@ Ordered {X = X} key (x ∷ xs) = ((y : X) → In y xs → key x ≤ key y) × Or
 -- ---- two lists in rising order with the same members
 
 tail_of : {X : Type 0} (key : X → ℕ) (x y : X) (xs ys : List X) → x ≡ y → ((z : X) → In z xs → key x < key z) → ((z : X) → In z (x ∷ xs) → In z (y ∷ ys)) → (z : X) → In z xs → In z ys
-tail_of key x y xs ys e low sub z i =
-    elim (sub z (inr i)) [
-      | inl same ↦
-          let l = low z i in
-          let k : key z ≡ key x = ap key (same ∙ sym e) in
-          absurd (omega (arith, l, k))
-      | inr j ↦ j
-    ]
+tail_of key x y xs ys e low sub z i = search arith
 
 pub same_list : {X : Type 0} (key : X → ℕ) (xs ys : List X) → Rising key xs → Rising key ys → ((x : X) → In x xs → In x ys) → ((y : X) → In y ys → In y xs) → xs ≡ ys
 same_list key [] [] r q a b = refl
@@ -43,14 +36,7 @@ same_list key (x ∷ xs) (y ∷ ys) r q a b =
     let heads : x ≡ y =
     elim (a x (inl refl)) [
       | inl e ↦ e
-      | inr j ↦
-          elim (b y (inl refl)) [
-            | inl e ↦ sym e
-            | inr i ↦
-                let l = r.0 y i in
-                let m = q.0 x j in
-                absurd (omega (arith, l, m))
-          ]
+      | inr j ↦ search arith
     ] in
     ap (λ z. z ∷ xs) heads
     ∙ ap (λ l. y ∷ l) (same_list key xs ys r.1 q.1 (tail_of key x y xs ys heads r.0 a) (tail_of key y x ys xs (sym heads) q.0 b))
@@ -58,9 +44,7 @@ same_list key (x ∷ xs) (y ∷ ys) r q a b =
 -- ---- a list that is put in rising order
 
 insert_in : {X : Type 0} (b : Bool) (x w z : X) (zs ws : List X) → (In x ws → (x ≡ w) ⊎ In x zs) → In x (cond b (w ∷ (z ∷ zs)) (z ∷ ws)) → (x ≡ w) ⊎ In x (z ∷ zs)
-insert_in true x w z zs ws h i = i
-insert_in false x w z zs ws h (inl e) = inr (inl e)
-insert_in false x w z zs ws h (inr i) = elim (h i) [ inl e ↦ inl e | inr j ↦ inr (inr j) ]
+insert_in b x w z zs ws h i = search arith
 
 inserted_in : {X : Type 0} (key : X → ℕ) (x w : X) (ws : List X) → In x (inserted_by key w ws) → (x ≡ w) ⊎ In x ws
 inserted_in key x w [] i = i
@@ -71,18 +55,7 @@ above_all key w z zs l o y (inl e) = (let k : key y ≡ key z = ap key e in omeg
 above_all key w z zs l o y (inr i) = (let k = o.0 y i in omega (arith, l, k))
 
 insert_step : {X : Type 0} (key : X → ℕ) (b : Bool) (w z : X) (zs : List X) → leb (key w) (key z) ≡ b → Ordered key (z ∷ zs) → Ordered key (inserted_by key w zs) → Ordered key (cond b (w ∷ (z ∷ zs)) (z ∷ inserted_by key w zs))
-insert_step key true w z zs t o h = (above_all key w z zs (leb-true (key w) (key z) t) o, o)
-insert_step key false w z zs t o h = (
-  λ y i.
-      elim (inserted_in key y w zs i) [
-        | inl e ↦
-            let k : key y ≡ key w = ap key e in
-            let l : key z ≤ key w = grind (arith, t) in
-            omega (arith, l, k)
-        | inr j ↦ o.0 y j
-      ],
-  h,
-)
+insert_step key b w z zs t o h = search (arith, above_all, leb-true, inserted_in)
 
 inserted_ordered : {X : Type 0} (key : X → ℕ) (w : X) (ws : List X) → Ordered key ws → Ordered key (inserted_by key w ws)
 inserted_ordered key w [] o = (λ y i. absurd i, tt)
@@ -110,19 +83,7 @@ sorted_rising key xs new = ordered_rising key (sorted_by key xs) (sorted_ordered
 
 module _ {X : Type 0} (key : X → ℕ) (f : ℕ → Option X) (numbered : (n : ℕ) (x : X) → f n ≡ Some x → key x ≡ n) where
   counted_step : (from c : ℕ) (o : Option X) (rest : List X) (x : X) → f from ≡ o → (In x rest → (suc from ≤ key x) × (key x < suc from + c) × (f (key x) ≡ Some x)) → In x (cons_option o rest) → (from ≤ key x) × (key x < from + suc c) × (f (key x) ≡ Some x)
-  counted_step from c None rest x e h i =
-      let r = h i in
-      let low = r.0 in
-      let high = r.1 in
-      (omega (arith, low), omega (arith, high), r.2)
-  counted_step from c (Some y) rest x e h (inl same) =
-      let n : key x ≡ from = ap key same ∙ numbered from y e in
-      (omega (arith, n), omega (arith, n), ap f n ∙ e ∙ ap Some (sym same))
-  counted_step from c (Some y) rest x e h (inr i) =
-      let r = h i in
-      let low = r.0 in
-      let high = r.1 in
-      (omega (arith, low), omega (arith, high), r.2)
+  counted_step from c o rest x e h i = search arith
 
   pub counted_in : (from c : ℕ) (x : X) → In x (filter_map f (count_up from c)) → (from ≤ key x) × (key x < from + c) × (f (key x) ≡ Some x)
   counted_in from zero x i = absurd i
@@ -148,14 +109,7 @@ module _ {X : Type 0} (key : X → ℕ) (f : ℕ → Option X) (numbered : (n : 
       at_or_past from n l = grind arith
 
   rising_step : (from c : ℕ) (o : Option X) (rest : List X) → f from ≡ o → ((x : X) → In x rest → suc from ≤ key x) → Rising key rest → Rising key (cons_option o rest)
-  rising_step from c None rest e low r = r
-  rising_step from c (Some x) rest e low r = (
-    λ y i.
-        let n = numbered from x e in
-        let l = low y i in
-        omega (arith, n, l),
-    r,
-  )
+  rising_step from c o rest e low r = search arith
 
   pub counted_rising : (from c : ℕ) → Rising key (filter_map f (count_up from c))
   counted_rising from zero = tt
@@ -164,30 +118,20 @@ module _ {X : Type 0} (key : X → ℕ) (f : ℕ → Option X) (numbered : (n : 
 
   -- it is any list of distinct keys with the same members, in rising order
   pub counted_sorted : (from c : ℕ) (xs : List X) → are_new [] (map key xs) ≡ true → ((x : X) → In x xs → (from ≤ key x) × (key x < from + c) × (f (key x) ≡ Some x)) → ((n : ℕ) (x : X) → f n ≡ Some x → In x xs) → filter_map f (count_up from c) ≡ sorted_by key xs
-  counted_sorted from c xs new each all =
-      same_list key (filter_map f (count_up from c)) (sorted_by key xs) (counted_rising from c) (sorted_rising key xs new)
-      (λ x i. in_sorted key x xs (all (key x) x (counted_in from c x i).2))
-      (λ x i.
-      let r = each x (sorted_in key x xs i) in
-      in_counted from c (key x) x r.0 r.1 r.2)
+  counted_sorted from c xs new each all = search (arith, same_list, filter_map, counted_rising, sorted_rising, in_sorted, counted_in, sorted_in, in_counted)
 
 -- ---- what is made of some of the members of a list
 
 module _ {A X : Type 0} (key : X → ℕ) (of : A → ℕ) (g : A → Option X) (numbered : (a : A) (x : X) → g a ≡ Some x → key x ≡ of a) where
   made_step : (a : A) (ws : List A) (o : Option X) (rest : List X) (x : X) → g a ≡ o → (In x rest → (b : A) × In b ws × (g b ≡ Some x)) → In x (cons_option o rest) → (b : A) × In b (a ∷ ws) × (g b ≡ Some x)
-  made_step a ws None rest x e h i = (let r = h i in (r.0, inr r.1, r.2))
-  made_step a ws (Some y) rest x e h (inl same) = (a, inl refl, e ∙ ap Some (sym same))
-  made_step a ws (Some y) rest x e h (inr i) = (let r = h i in (r.0, inr r.1, r.2))
+  made_step a ws o rest x e h i = search arith
 
   pub made_in : (ws : List A) (x : X) → In x (filter_map g ws) → (a : A) × In a ws × (g a ≡ Some x)
   made_in [] x i = absurd i
   made_in (a ∷ ws) x i = made_step a ws (g a) (filter_map g ws) x refl (made_in ws x) i
 
   in_step : (a b : A) (o : Option X) (rest : List X) (x : X) → g a ≡ o → g b ≡ Some x → (b ≡ a) ⊎ In x rest → In x (cons_option o rest)
-  in_step a b None rest x e h (inl same) = (let wrong : None ≡ Some x = sym e ∙ ap g (sym same) ∙ h in absurd (cc wrong))
-  in_step a b (Some y) rest x e h (inl same) = (let s : Some x ≡ Some y = sym h ∙ ap g same ∙ e in let t : x ≡ y = cc s in inl t)
-  in_step a b None rest x e h (inr i) = i
-  in_step a b (Some y) rest x e h (inr i) = inr i
+  in_step a b o rest x e h i = search arith
 
   pub in_made : (ws : List A) (a : A) (x : X) → In a ws → g a ≡ Some x → In x (filter_map g ws)
   in_made [] a x i e = absurd i
@@ -195,19 +139,10 @@ module _ {A X : Type 0} (key : X → ℕ) (of : A → ℕ) (g : A → Option X) 
   in_made (b ∷ bs) a x (inr i) e = in_step b a (g b) (filter_map g bs) x refl e (inr (in_made bs a x i e))
 
   pub made_number : (ws : List A) (n : ℕ) → In n (map key (filter_map g ws)) → In n (map of ws)
-  made_number ws n i =
-      let x = map-In key n (filter_map g ws) i in
-      let a = made_in ws x.0 x.1 in
-      subst (λ m. In m (map of ws)) (sym (x.2 ∙ numbered a.0 x.0 a.2)) (In-map of a.0 ws a.1)
+  made_number ws n i = search (arith, map-In, filter_map, made_in, In-map)
 
   new_step : (a : A) (ws : List A) (o : Option X) (rest : List X) → g a ≡ o → (In (of a) (map key rest) → ⊥) → are_new [] (map key rest) ≡ true → are_new [] (map key (cons_option o rest)) ≡ true
-  new_step a ws None rest e out new = new
-  new_step a ws (Some x) rest e out new =
-      new_beside (key x ∷ []) (map key rest) new
-      (λ n i j. elim j [
-        | inl same ↦ out (subst (λ m. In m (map key rest)) (same ∙ numbered a x e) i)
-        | inr none ↦ none
-      ])
+  new_step a ws o rest e out new = search (arith, new_beside)
 
   pub made_new : (ws : List A) → are_new [] (map of ws) ≡ true → are_new [] (map key (filter_map g ws)) ≡ true
   made_new [] new = refl
@@ -217,7 +152,4 @@ module _ {A X : Type 0} (key : X → ℕ) (of : A → ℕ) (g : A → Option X) 
 
 -- two lists of distinct keys that have none in common
 pub joined_new : {X : Type 0} (key : X → ℕ) (xs ys : List X) → are_new [] (map key xs) ≡ true → are_new [] (map key ys) ≡ true → ((n : ℕ) → In n (map key xs) → In n (map key ys) → ⊥) → are_new [] (map key (xs ++ ys)) ≡ true
-joined_new key xs ys a b apart =
-    ap (are_new []) (map-append key xs ys)
-    ∙ are_new-append [] (map key xs) (map key ys)
-    ∙ and_from (are_new [] (map key xs)) (are_new (map key xs) (map key ys)) a (new_beside (map key xs) (map key ys) b (λ n i j. apart n j i))
+joined_new key xs ys a b apart = search (arith, map-append, are_new-append, and_from, new_beside)

@@ -1,5 +1,5 @@
 -- A step of a settle extends the history, where the calls that are told beside it are what the tree does.
-use Rattle.std.proofs.Common.{◌≡◌, ℕ, ◌+◌, Bool, true, false, ◌&&◌, ◌||◌, not, eqb, map, filter, sym, refl, ap, ◌∙◌, subst}
+use Rattle.std.proofs.Common.{◌≡◌, ℕ, ◌+◌, Bool, true, false, ◌&&◌, ◌||◌, not, eqb, map, filter, sym, refl, ap, ◌∙◌, subst, arith}
 use Rattle.std.specs.List.{list_all}
 use Rattle.std.specs.Option.{option_map_or}
 use Rattle.std.proofs.lemmas.Bool.{and_parts, eqb-true, false≢true}
@@ -15,7 +15,7 @@ use Rattle.trio_state.specs.Given.{GivenTo, HasNoRead}
 use Rattle.trio_state.specs.Allotments.{has_none_out, out_after}
 use Rattle.trio_layout.specs.Accept.{is_accepted, next}
 use Rattle.trio_nodes.specs.declared.grant.GrantKind.{GrantKind}
-use Rattle.trio_nodes.specs.declared.grant.GrantKind.TheVariants.{Read, Write, Hold}
+use Rattle.trio_nodes.specs.declared.grant.GrantKind.TheVariants.{Read}
 use Rattle.trio_nodes.specs.Handed.{Handed, HandedFile}
 use Rattle.trio_nodes.specs.Nodes.{Nodes}
 use Rattle.trio_nodes.specs.Legal.{IsWithinGrants}
@@ -33,15 +33,10 @@ use Rattle.trio_laws.proofs.history.Extends.{Extends, past_is, standing_lent}
 
 -- of the library's own grants, all but read grants are in the bundle
 in_all : (same read inside : Bool) → (not same || read || inside) ≡ true → read ≡ false → (same && inside) ≡ same
-in_all false read inside h e = refl
-in_all true true inside h e = absurd (false≢true (sym e))
-in_all true false true h e = refl
-in_all true false false h e = absurd (false≢true h)
+in_all same read inside h e = search (arith, false≢true)
 
 unread : (t : GrantKind) → (t ≡ Read → ⊥) → is_read t ≡ false
-unread Read n = absurd (n refl)
-unread Write n = refl
-unread Hold n = refl
+unread t n = search arith
 
 module _ (s : State) (lib : ℕ) (b : Bundle) (all : has_all s lib b ≡ true) (none : HasNoRead s lib) where
   mine_end : (g : OpenGrant) → In g s.open_grants → is_in_bundle lib b g ≡ eqb g.lib lib
@@ -59,10 +54,7 @@ module _ (s : State) (lib : ℕ) (b : Bundle) (all : has_all s lib b ≡ true) (
       by true e rest h = in_all true (is_read g.kind) rest h (unread g.kind (none g i (eqb-true g.lib lib e)))
 
   grants_end : (s' : State) → map lent_part s'.open_grants ≡ map lent_part (grants_after s lib b) → map standing_of s'.open_grants ≡ filter (λ (g : Standing). not (eqb g.lib lib)) (map standing_of s.open_grants)
-  grants_end s' e =
-      standing_lent s'.open_grants (grants_after s lib b) e
-      ∙ ap (map standing_of) (filter-same (λ (g : OpenGrant). not (is_in_bundle lib b g)) (λ (g : OpenGrant). not (eqb g.lib lib)) s.open_grants (λ g i. ap not (mine_end g i)))
-      ∙ sym (filter-map standing_of (λ (g : Standing). not (eqb g.lib lib)) s.open_grants)
+  grants_end s' e = search (arith, standing_lent, filter-same, mine_end, filter-map)
 
   -- no grant of the library that stands is a read grant
   none_reads : (g : Standing) → In g (map standing_of s.open_grants) → g.lib ≡ lib → is_read g.kind ≡ false
@@ -73,9 +65,7 @@ module _ (s : State) (lib : ℕ) (b : Bundle) (all : has_all s lib b ≡ true) (
 -- whatever calls are told, a settle changes the nodes within the library's grants
 pub settle_within : (s s' : State) (k : Kept s) (k' : Kept s') (w : LentWhole s) (lib : ℕ) (b : Bundle) (h : Handed) → bundle_handed h ≡ b → ((f : HandedFile) → In f h.writes → IsMarked s lib f) → GivenTo s lib b
     → is_accepted (settled s) (creds_of s lib) b ≡ true → Ends s lib b (next (settled s) b) s' → IsWithinGrants (map standing_of s.open_grants) (creds_of s lib) lib (nodes_of s) (nodes_of s')
-settle_within s s' k k' w lib b h is marked given accepted ends =
-    let P : Bundle → Type 0 = λ c. GivenTo s lib c → is_accepted (settled s) (creds_of s lib) c ≡ true → Ends s lib c (next (settled s) c) s' → IsWithinGrants (map standing_of s.open_grants) (creds_of s lib) lib (nodes_of s) (nodes_of s') in
-    subst P is (λ g a e. within s s' k k' w lib h g a e marked) given accepted ends
+settle_within s s' k k' w lib b h is marked given accepted ends = search (arith, within)
 
 pub settle_extends : (s s' : State) (k : Kept s) (k' : Kept s') (w : LentWhole s) (lib : ℕ) (b : Bundle) (mine : IsLibrary s.creds lib) (given : GivenTo s lib b × HasNoRead s lib) (x : Beside) (answer : CtlAnswer) → Does s (Settle lib b) answer s' → BesideFits s x (Settle lib b) answer s' → Extends s x (Settle lib b) answer s'
 settle_extends s s' k k' w lib b mine given x answer d t =

@@ -1,5 +1,5 @@
 -- Where no write grant is open a state stands for the nodes of its settled image.
-use Rattle.std.proofs.Common.{◌≡◌, ℕ, ◌+◌, ◌<◌, leb, ltb, eqb, false, cond, ◌&&◌, List, [], ◌∷◌, length, take, get_or, Option, Some, None, sym, refl, ap, ◌∙◌, inl, inr}
+use Rattle.std.proofs.Common.{◌≡◌, ℕ, ◌+◌, ◌<◌, leb, ltb, eqb, false, cond, ◌&&◌, [], ◌∷◌, length, take, get_or, Option, Some, None, sym, refl, ap, ◌∙◌, inl, inr, arith}
 use Rattle.std.specs.Option.{option_map, option_map_or}
 use Rattle.std.proofs.lemmas.Bool.{cases_eq, lt-leb}
 use Rattle.trio_lists.proofs.Marked.{and-false}
@@ -11,7 +11,7 @@ use Rattle.trio_rights.specs.declared.kind.Kind.{Kind}
 use Rattle.trio_rights.specs.declared.kind.Kind.TheVariants.{Regular, Directory}
 use Rattle.trio_nodes.specs.GrantKinds.{is_write}
 use Rattle.trio_nodes.specs.declared.grant.GrantKind.{GrantKind}
-use Rattle.trio_nodes.specs.declared.grant.GrantKind.TheVariants.{Read, Write, Hold}
+use Rattle.trio_nodes.specs.declared.grant.GrantKind.TheVariants.{Write}
 use Rattle.trio_nodes.specs.declared.node.Node.{Node}
 use Rattle.trio_layout.specs.Body.{body_of}
 use Rattle.trio_layout.specs.Core.{Core, page_of}
@@ -35,9 +35,7 @@ use Rattle.trio_laws.proofs.history.Listing.{body_met, chain_met, listing, met_a
 use Rattle.trio_laws.proofs.history.ModeNodes.{name_root}
 
 unwritten : (t : GrantKind) → (t ≡ Write → ⊥) → is_write t ≡ false
-unwritten Read n = refl
-unwritten Write n = absurd (n refl)
-unwritten Hold n = refl
+unwritten t n = search arith
 
 -- an empty slot has no name
 no_name : (inodes : ℕ) → name_said (slot_of inodes []) ≡ 45 ∷ []
@@ -52,9 +50,7 @@ module _ (s : State) (k : Kept s) (none : (g : OpenGrant) → In g s.open_grants
   core = image.core
 
   unwriting : (n : ℕ) → writer_of s n ≡ None
-  unwriting n =
-      find_none (λ (g : OpenGrant). eqb g.ino n && is_write g.kind) s.open_grants
-      (λ g i. ap (λ b. eqb g.ino n && b) (unwritten g.kind (none g i)) ∙ and-false (eqb g.ino n))
+  unwriting n = search (arith, find_none, unwritten, and-false)
 
   pub name_is : (n : ℕ) (r : Row) → row_at image n ≡ Some r → name_by_row core r ≡ name_of image n r
   name_is n r row =
@@ -88,11 +84,7 @@ module _ (s : State) (k : Kept s) (none : (g : OpenGrant) → In g s.open_grants
       ∙ sym (ap (λ c. bytes_of_sheets (size_of image n) (block_sheets core c)) (chain_met image k.fit k.verifies n r row) ∙ ap (λ z. bytes_of_sheets z (sheets_of core m.file.chain.blocks)) size)
 
   one : (n : ℕ) (o : Option Row) → row_at image n ≡ o → option_map (node_by_row core n) o ≡ node_by image n (writer_of s n) o
-  one n None row = refl
-  one n (Some r) row =
-      ap (λ (l : List ℕ). Some (record { parent = r.parent; name = l; kind = r.kind; mode = r.mode; uid = r.uid; gid = r.gid; bytes = content_of core r.kind (body_of_row core n r) })) (name_is n r row)
-      ∙ ap (λ (l : List ℕ). Some (record { parent = r.parent; name = name_of image n r; kind = r.kind; mode = r.mode; uid = r.uid; gid = r.gid; bytes = l })) (content_is n r row r.kind refl)
-      ∙ ap (λ w. node_by image n w (Some r)) (sym (unwriting n))
+  one n o row = search (arith, name_is, content_is, unwriting)
 
 pub settled_nodes : SettledNodes
 settled_nodes s k none first =

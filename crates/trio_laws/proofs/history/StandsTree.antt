@@ -1,16 +1,15 @@
 -- A state stands for a tree.
 use Rattle.std.proofs.Common.{◌≡◌, ℕ, zero, suc, Bool, true, false, cond, List, [], ◌∷◌, ◌++◌, Option, Some, None, Ok, sym, refl, ap, ◌∙◌, subst, inl, inr, arith}
-use Rattle.std.specs.Str.{bytes_eq}
 use Rattle.std.proofs.lemmas.Bool.{both_ways, cases_eq}
 use Rattle.std.proofs.lemmas.Slice.Eq.{bytes_eq-Decides}
 use Rattle.trio_rights.specs.Row.{Row}
 use Rattle.trio_rights.specs.declared.kind.Kind.{Kind}
-use Rattle.trio_rights.specs.declared.kind.Kind.TheVariants.{Regular, Directory}
-use Rattle.trio_lists.specs.Lists.{In, gathered}
+use Rattle.trio_rights.specs.declared.kind.Kind.TheVariants.{Directory}
+use Rattle.trio_lists.specs.Lists.{In}
 use Rattle.trio_lists.proofs.Filters.{In-list_any, Ok-one}
 use Rattle.trio_lists.proofs.Members.{In-left, In-right, result_then-Ok}
 use Rattle.trio_layout.specs.Core.{Core, Location}
-use Rattle.trio_layout.specs.Entries.{Listed, has_name, place_of, repeated_name, unless_repeated, with_names_apart, page_entries, entries_of_kind}
+use Rattle.trio_layout.specs.Entries.{Listed, has_name, place_of, repeated_name, unless_repeated, entries_of_kind}
 use Rattle.trio_layout.specs.Image.{Image, row_at}
 use Rattle.trio_layout.specs.Survey.{Met, plain, FileRead, file_of, survey, root_of, row_by}
 use Rattle.trio_surveys.specs.Tree.{Reaches}
@@ -39,9 +38,7 @@ free_step false place rest e = (refl, e)
 -- where no name comes again, no entry has the name of one that was seen
 not_seen : (seen ls : List Listed) (l x : Listed) → repeated_name seen ls ≡ None → In l ls → In x seen → x.entry.name ≡ l.entry.name → ⊥
 not_seen seen [] l x h i j e = absurd i
-not_seen seen (y ∷ ls) l x h (inl same) j e =
-    let f = free_step (has_name y.entry.name seen) (place_of y) (repeated_name (seen ++ y ∷ []) ls) h in
-    both_ways (has_name y.entry.name seen) f.0 (In-list_any (λ (z : Listed). bytes_eq z.entry.name y.entry.name) x seen j ((bytes_eq-Decides x.entry.name y.entry.name).1 (e ∙ ap (λ (z : Listed). z.entry.name) same)))
+not_seen seen (y ∷ ls) l x h (inl same) j e = search (arith, free_step, both_ways, In-list_any, bytes_eq-Decides, In-left)
 not_seen seen (y ∷ ls) l x h (inr i) j e =
     let f = free_step (has_name y.entry.name seen) (place_of y) (repeated_name (seen ++ y ∷ []) ls) h in
     not_seen (seen ++ y ∷ []) ls l x f.1 i (In-left x seen (y ∷ []) j) e
@@ -64,10 +61,7 @@ unless_none ls es None h e = (let same : ls ≡ es = cc e in ap (repeated_name [
 unless_none ls es (Some place) h e = absurd cc
 
 entries_apart : (core : Core) (kind : Kind) (blocks : List ℕ) (es : List Listed) → entries_of_kind core kind blocks ≡ Ok es → repeated_name [] es ≡ None
-entries_apart core Regular blocks es e = (let none : [] ≡ es = cc e in ap (repeated_name []) (sym none))
-entries_apart core Directory blocks es e =
-    let r = result_then-Ok with_names_apart (gathered (page_entries core) blocks) es e in
-    unless_none r.0 es (repeated_name [] r.0) refl r.2
+entries_apart core kind blocks es e = search (arith, result_then-Ok, unless_none)
 
 -- ---- the nodes
 
@@ -102,22 +96,14 @@ module _ (s : State) (k : Kept s) where
 
   -- the directory of a file that isn't the root
   directory_of : (n : ℕ) (x : Node) (l : Live s n x) (q : Listing core n l.row) → IsDirectory (node_at (nodes_of s) x.parent)
-  directory_of n x l q =
-      let p = met_node q.parent q.met in
-      let same : q.parent.ino ≡ x.parent = sym q.above ∙ ap (λ (y : Node). y.parent) (sym l.before) in
-      subst (λ d. IsDirectory (node_at (nodes_of s) d)) same (subst IsDirectory (sym p.1) (p.2 ∙ q.directory))
+  directory_of n x l q = search (arith, met_node)
 
   parents : (n : ℕ) (x : Node) → node_at (nodes_of s) n ≡ Some x → (n ≡ 1 → ⊥) → IsDirectory (node_at (nodes_of s) x.parent)
   parents n x at other = (let l = live s k n x at in directory_of n x l (listing image k.fit k.verifies n l.row l.at other))
 
   -- nothing else has the root's directory
   no_sibling : (n : ℕ) (x : Node) → node_at (nodes_of s) n ≡ Some x → (n ≡ 1 → ⊥) → x.parent ≡ 0 → ⊥
-  no_sibling n x at other high =
-      there (node_at (nodes_of s) x.parent) (ap (node_at (nodes_of s)) high ∙ none) (parents n x at other)
-    where
-      there : (o : Option Node) → o ≡ None → IsDirectory o → ⊥
-      there None e is = is
-      there (Some z) e is = absurd cc
+  no_sibling n x at other high = search (arith, none, parents)
 
   root_parent : (n : ℕ) (x : Node) → node_at (nodes_of s) n ≡ Some x → n ≡ 1 → x.parent ≡ 0
   root_parent n x at one = ap (λ (z : Node). z.parent) (one_node (node_at (nodes_of s) 1) x root.0 (ap (node_at (nodes_of s)) (sym one) ∙ at) root.1) ∙ root.3
@@ -125,11 +111,7 @@ module _ (s : State) (k : Kept s) where
   names : Names (nodes_of s)
   names n m x y at bt parent name =
       elim (cases_eq n 1) [
-        | inl first ↦
-            elim (cases_eq m 1) [
-              | inl second ↦ first ∙ sym second
-              | inr other ↦ absurd (no_sibling m y bt other (sym parent ∙ root_parent n x at first))
-            ]
+        | inl first ↦ search (arith, cases_eq, no_sibling, root_parent)
         | inr other ↦
             elim (cases_eq m 1) [
               | inl second ↦ absurd (no_sibling n x at other (parent ∙ root_parent m y bt second))
@@ -167,13 +149,7 @@ module _ (s : State) (k : Kept s) where
       subst (Found (nodes_of s)) m.number (reach way.0 m.met way.2)
 
   stands_tree : IsTree (nodes_of s)
-  stands_tree = record {
-    root = root;
-    none = none;
-    parents = parents;
-    names = names;
-    found = λ n x at. found_at (nodes_of s) root.0 n root.1 (found n x at);
-  }
+  stands_tree = search (arith, root, none, parents, names, found, found_at)
 
 pub states_are_trees : StatesAreTrees
 states_are_trees s k = stands_tree s k

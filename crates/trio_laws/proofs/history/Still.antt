@@ -1,17 +1,17 @@
 -- An image with other pages, of which all that are read are the same, has the same nodes, where the blocks of regular files are the same.
-use Rattle.std.proofs.Common.{◌≡◌, ℕ, Bool, true, false, cond, eqb, List, [], ◌∷◌, Option, Some, None, Ok, sym, refl, ap, ◌∙◌, inl, inr}
+use Rattle.std.proofs.Common.{◌≡◌, ℕ, Bool, true, false, cond, eqb, List, [], ◌∷◌, Option, Some, None, Ok, sym, refl, ap, ◌∙◌, inl, inr, arith}
 use Rattle.std.specs.List.{cons_option}
 use Rattle.std.specs.Option.{option_map, option_map_or}
 use Rattle.std.proofs.lemmas.Bool.{eq-eqb}
 use Rattle.trio_rights.specs.Row.{Row}
 use Rattle.trio_rights.specs.declared.kind.Kind.{Kind}
-use Rattle.trio_rights.specs.declared.kind.Kind.TheVariants.{Regular, Directory}
+use Rattle.trio_rights.specs.declared.kind.Kind.TheVariants.{Regular}
 use Rattle.trio_layout.specs.Body.{body_at}
 use Rattle.trio_layout.specs.Core.{Core, page_of}
 use Rattle.trio_lists.specs.Lists.{In}
 use Rattle.trio_layout.specs.Survey.{plain, FileRead, file_of, survey}
 use Rattle.trio_rights.specs.Sheets.{Sheet}
-use Rattle.trio_layout.specs.Pages.{settled_chain, sheets_of, block_sheets}
+use Rattle.trio_layout.specs.Pages.{settled_chain, sheets_of}
 use Rattle.trio_layout.specs.Image.{IsFit, Image, row_at}
 use Rattle.trio_state.specs.State.{OpenGrant}
 use Rattle.trio_layout.specs.Verifies.{Verifies}
@@ -22,7 +22,7 @@ use Rattle.trio_surveys.proofs.Local.{file_agrees}
 use Rattle.trio_surveys.proofs.Owned.{sound_parts}
 use Rattle.trio_surveys.proofs.Sheets.{Pages}
 use Rattle.trio_nodes.specs.declared.node.Node.{Node}
-use Rattle.trio_laws.specs.history.Stands.{name_in, name_of, size_of, blocks_of, bytes_of_sheets, bytes_of, node_of}
+use Rattle.trio_laws.specs.history.Stands.{name_in, name_of, size_of, blocks_of, bytes_of, node_of}
 use Rattle.trio_laws.proofs.history.Listing.{met_at, chain_met, listing, block_read}
 
 -- a node with this name and these bytes
@@ -30,15 +30,11 @@ abbrev pub node_with : Row → List ℕ → List ℕ → Node
 node_with r name bytes = record { parent = r.parent; name = name; kind = r.kind; mode = r.mode; uid = r.uid; gid = r.gid; bytes = bytes }
 
 pub bytes_by : (image image' : Image) (n : ℕ) (r : Row) (w w' : Option OpenGrant) (kind : Kind) → size_of image' n ≡ size_of image n → (kind ≡ Regular → blocks_of image' n r w' ≡ blocks_of image n r w) → bytes_of image' n r w' kind ≡ bytes_of image n r w kind
-bytes_by image image' n r w w' Directory size blocks = refl
-bytes_by image image' n r w w' Regular size blocks =
-    ap (λ z. bytes_of_sheets z (blocks_of image' n r w')) size ∙ ap (bytes_of_sheets (size_of image n)) (blocks refl)
+bytes_by image image' n r w w' kind size blocks = search arith
 
 -- nodes with one name, size and blocks are one
 pub node_same : (image image' : Image) (n : ℕ) (r : Row) (w w' : Option OpenGrant) → name_of image' n r ≡ name_of image n r → size_of image' n ≡ size_of image n → (r.kind ≡ Regular → blocks_of image' n r w' ≡ blocks_of image n r w) → node_of image' n w' r ≡ node_of image n w r
-node_same image image' n r w w' name size blocks =
-    ap (λ x. node_with r x (bytes_of image' n r w' r.kind)) name
-    ∙ ap (node_with r (name_of image n r)) (bytes_by image image' n r w w' r.kind size blocks)
+node_same image image' n r w w' name size blocks = search (arith, bytes_by)
 
 pub sheets_same : (core other : Core) (ps : List ℕ) → ((p : ℕ) → In p ps → page_of other p ≡ page_of core p) → sheets_of other ps ≡ sheets_of core ps
 sheets_same core other [] h = refl
@@ -76,9 +72,4 @@ module _ (image : Image) (pages : Pages) (fit : IsFit image.core) (fit' : IsFit 
 
   -- and so are the blocks, where their pages are
   pub blocks_still : (n : ℕ) (r : Row) (e : row_at image n ≡ Some r) → ((p : ℕ) → In p (met_at image fit v n r e).file.chain.blocks → page_of (with_other image.core pages) p ≡ page_of image.core p) → blocks_of (image_with image pages) n r None ≡ blocks_of image n r None
-  blocks_still n r e same =
-      let chain = chain_met image fit v n r e in
-      let m = met_at image fit v n r e in
-      ap (block_sheets (with_other image.core pages)) (chain_still n r e ∙ chain)
-      ∙ sheets_same image.core (with_other image.core pages) m.file.chain.blocks same
-      ∙ ap (block_sheets image.core) (sym chain)
+  blocks_still n r e same = search (arith, chain_met, met_at, chain_still, sheets_same)

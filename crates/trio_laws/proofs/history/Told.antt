@@ -1,6 +1,7 @@
 -- The listed blocks of a file, put in place of its old bytes, give its new ones.
-use Rattle.std.proofs.Common.{◌≡◌, ℕ, zero, suc, ◌+◌, ◌-◌, ◌*◌, ◌<◌, ◌≤◌, Bool, true, false, cond, List, [], ◌∷◌, ◌++◌, length, take, drop, Some, slice_get, sym, refl, ap, ◌∙◌, inl, inr, arith, length-append, append-nil, append_assoc, length-drop, take-append-drop, take_all, drop-drop, unwrap_or, flat_map}
+use Rattle.std.proofs.Common.{◌≡◌, ℕ, zero, suc, ◌+◌, ◌-◌, ◌*◌, ◌<◌, ◌≤◌, Bool, false, cond, List, [], ◌∷◌, ◌++◌, length, take, drop, Some, slice_get, sym, refl, ap, ◌∙◌, inl, inr, arith, length-append, append-nil, append_assoc, length-drop, take-append-drop, take_all, drop-drop, unwrap_or, flat_map}
 use Rattle.std.proofs.lemmas.Bool.{eq-eqb, cases_lt}
+use Rattle.std.proofs.lemmas.List.{take_all, nil_from_length}
 use Rattle.trio_lists.specs.Lists.{In}
 use Rattle.trio_layout.specs.Core.{page_of}
 use Rattle.trio_layout.specs.Image.{Image}
@@ -28,13 +29,6 @@ take_first a d m e =
     let z : m ≡ length a + 0 = omega (arith, e) in
     ap (λ n. take n (a ++ d)) z ∙ take_over a d 0 ∙ append-nil a
 
-take_past : {X : Type 0} (m : ℕ) (l : List X) → length l ≤ m → take m l ≡ l
-take_past m l h = take_all m l h
-
-pub none_long : {X : Type 0} (l : List X) → length l ≡ 0 → l ≡ []
-none_long [] e = refl
-none_long (x ∷ l) e = absurd (omega (arith, e))
-
 -- ---- one block put in place
 
 -- behind the bytes before it
@@ -44,11 +38,7 @@ put_step k p r a at full =
     let first : take (4096 * k) (p ++ r) ≡ p = take_first p r (4096 * k) (sym at) in
     let e : 4096 * k + length a ≡ length p + 4096 = omega (arith, at, full) in
     let last : drop (4096 * k + length a) (p ++ r) ≡ drop 4096 r = ap (λ m. drop m (p ++ r)) e ∙ drop_over p r 4096 in
-    ap (λ m. take m (take (4096 * k) (p ++ r) ++ a ++ drop (4096 * k + length a) (p ++ r))) n
-    ∙ ap (λ l. take (length p + length r) (l ++ a ++ drop (4096 * k + length a) (p ++ r))) first
-    ∙ ap (λ l. take (length p + length r) (p ++ a ++ l)) last
-    ∙ ap (take (length p + length r)) (append_assoc p a (drop 4096 r))
-    ∙ take_over p (a ++ drop 4096 r) (length r)
+    search (arith, append_assoc, take_over)
 
 -- a block that is there already
 here_step : (r a : List ℕ) → length a ≡ 4096 → take 4096 r ≡ take (length r) a → r ≡ take (length r) (a ++ drop 4096 r)
@@ -57,12 +47,12 @@ here_step r a full same =
     let ld : length d ≡ length r - 4096 = length-drop 4096 r in
     elim (cases_lt (length r) 4096) [
       | inl short ↦
-          let none : d ≡ [] = none_long d (omega (arith, ld, short)) in
-          sym (take_past 4096 r (omega (arith, short))) ∙ same ∙ ap (take (length r)) (sym (append-nil a) ∙ ap (λ l. a ++ l) (sym none))
+          let none : d ≡ [] = nil_from_length d (omega (arith, ld, short)) in
+          sym (take_all 4096 r (omega (arith, short))) ∙ same ∙ ap (take (length r)) (sym (append-nil a) ∙ ap (λ l. a ++ l) (sym none))
       | inr long ↦
-          let whole : take (length r) a ≡ a = take_past (length r) a (omega (arith, full, long)) in
+          let whole : take (length r) a ≡ a = take_all (length r) a (omega (arith, full, long)) in
           let n : length r ≡ length a + length d = omega (arith, ld, full, long) in
-          let b : take (length r) (a ++ d) ≡ a ++ d = ap (λ m. take m (a ++ d)) n ∙ take_over a d (length d) ∙ ap (λ l. a ++ l) (take_past (length d) d (omega arith)) in
+          let b : take (length r) (a ++ d) ≡ a ++ d = ap (λ m. take m (a ++ d)) n ∙ take_over a d (length d) ∙ ap (λ l. a ++ l) (take_all (length d) d (omega arith)) in
           sym (take-append-drop 4096 r) ∙ ap (λ l. l ++ d) (same ∙ whole) ∙ sym b
     ]
 
@@ -78,11 +68,7 @@ Count blocks size = (size ≤ 4096 * blocks) × (4096 * blocks < size + 4096)
 module _ (before after : Image) (h : Handed) (n : ℕ) where
   -- the blocks from one position on, with what is listed of them
   told_at : (k : ℕ) (t : Bool) (page : ℕ) (p r : List ℕ) (rest : List ToldBlock) → length p ≡ 4096 * k → length (block_bytes after page) ≡ 4096 → (t ≡ false → take 4096 r ≡ take (length r) (block_bytes after page)) → with_blocks n (cond t (record { ino = n; at = k; bytes = block_bytes after page } ∷ rest) rest) (p ++ r) ≡ with_blocks n rest (p ++ take (length r) (block_bytes after page ++ drop 4096 r))
-  told_at k true page p r rest at full same =
-      ap (λ b. with_blocks n rest (cond b (put_within (4096 * k) (block_bytes after page) (p ++ r)) (p ++ r))) (eq-eqb n n refl)
-      ∙ ap (with_blocks n rest) (put_step k p r (block_bytes after page) at full)
-  told_at k false page p r rest at full same =
-      ap (λ l. with_blocks n rest (p ++ l)) (here_step r (block_bytes after page) full (same refl))
+  told_at k t page p r rest at full same = search (arith, eq-eqb, put_step, here_step)
 
   told_more : (page : ℕ) (p r : List ℕ) (flat : List ℕ) → length (block_bytes after page) ≡ 4096 → 4096 < length r → p ++ block_bytes after page ++ take (length (drop 4096 r)) flat ≡ p ++ take (length r) (block_bytes after page ++ flat)
   told_more page p r flat full long =
@@ -113,20 +99,18 @@ module _ (before after : Image) (h : Handed) (n : ℕ) where
 
   one_put : (page : ℕ) (p r : List ℕ) → length r ≤ 4096 → p ++ take (length r) (block_bytes after page ++ drop 4096 r) ≡ p ++ take (length r) (block_bytes after page ++ [])
   one_put page p r short =
-      let none : drop 4096 r ≡ [] = none_long (drop 4096 r) (let l = length-drop 4096 r in omega (arith, l, short)) in
+      let none : drop 4096 r ≡ [] = nil_from_length (drop 4096 r) (let l = length-drop 4096 r in omega (arith, l, short)) in
       ap (λ l. p ++ take (length r) (block_bytes after page ++ l)) none
 
   more_put : (page : ℕ) (p r : List ℕ) → length (block_bytes after page) ≡ 4096 → 4096 < length r → p ++ take (length r) (block_bytes after page ++ drop 4096 r) ≡ p ++ block_bytes after page ++ drop 4096 r
-  more_put page p r full long = sym (told_more page p r (drop 4096 r) full long) ∙ ap (λ l. p ++ block_bytes after page ++ l) (take_past (length (drop 4096 r)) (drop 4096 r) (omega arith))
+  more_put page p r full long = sym (told_more page p r (drop 4096 r) full long) ∙ ap (λ l. p ++ block_bytes after page ++ l) (take_all (length (drop 4096 r)) (drop 4096 r) (omega arith))
 
   take_none : (m : ℕ) (l : List ℕ) → l ≡ [] → take m l ≡ []
   take_none zero l e = refl
   take_none (suc m) l e = ap (take (suc m)) e
 
   pub told_put : (k : ℕ) (pages : List ℕ) (p r : List ℕ) → length p ≡ 4096 * k → Count (length pages) (length r) → ((page : ℕ) → In page pages → length (block_bytes after page) ≡ 4096) → Unlisted k pages r → with_blocks n (told_blocks before after h n k pages) (p ++ r) ≡ p ++ take (length r) (flat_map (block_bytes after) pages)
-  told_put k [] p r at count full un =
-      let none : r ≡ [] = none_long r (let c = count.0 in omega (arith, c)) in
-      ap (λ l. p ++ l) (none ∙ sym (take_none (length r) [] refl))
+  told_put k [] p r at count full un = search (arith, nil_from_length, take_none, told_at, first_same, one_put, length-drop, length-append, more_put, rest_same, told_more)
   told_put k (page ∷ []) p r at count full un =
       told_at k (is_block_told before after h n k page) page p r [] at (full page (inl refl)) (first_same k page [] r un)
       ∙ one_put page p r (let c = count.0 in let one : length (page ∷ []) ≡ 1 = refl in omega (arith, c, one))

@@ -1,8 +1,7 @@
 -- The blocks that a release tells of a file, by the images before and after and by the bundle.
-use Rattle.std.proofs.Common.{◌≡◌, ℕ, suc, ◌+◌, ◌*◌, ◌<◌, ◌≤◌, Bool, true, false, cond, ◌&&◌, ◌||◌, not, eqb, ltb, leb, ltb-true, min, List, [], ◌∷◌, ◌++◌, length, Option, Some, None, Ok, slice_get, sym, refl, ap, ◌∙◌, subst, inl, inr, arith, unwrap_or, flat_map}
+use Rattle.std.proofs.Common.{◌≡◌, ℕ, suc, ◌+◌, ◌<◌, ◌≤◌, Bool, true, false, cond, ◌&&◌, ◌||◌, eqb, ltb, leb, ltb-true, min, List, [], ◌∷◌, ◌++◌, length, Option, Some, None, Ok, slice_get, sym, refl, ap, ◌∙◌, subst, inl, inr, arith, unwrap_or, flat_map}
 use Rattle.std.specs.Prelude.{is_some, map, replicate, slice_index}
 use Rattle.std.specs.List.{list_any}
-use Rattle.std.specs.Option.{option_map_or}
 use Rattle.std.proofs.lemmas.List.{length-replicate}
 use Rattle.std.proofs.lemmas.Bool.{and_parts, eqb-true, false_from_ne_true}
 use Rattle.trio_lists.specs.Lists.{In, are_new}
@@ -37,6 +36,8 @@ use Rattle.trio_laws.proofs.Bundles.{Unwritten, in_numbers, unwritten_apart}
 use Rattle.trio_laws.proofs.Checkpoints.{one_sheet}
 use Rattle.trio_laws.proofs.StateFacts.{tables}
 use Rattle.trio_laws.proofs.history.Listing.{chain_met, met_at}
+use Rattle.trio_state.specs.Kept.{Kept}
+use Rattle.trio_state.specs.Given.{GivenTo}
 
 -- ---- block by block
 
@@ -67,11 +68,7 @@ pub told_alike : (before after : Image) (c : Case) (notes : Notes) (h : Handed) 
     → block_numbers before f.ino (row_at before f.ino) ≡ lent_blocks c.bundle f.ino
     → size_of before f.ino ≡ noted_size notes f.ino → size_of after f.ino ≡ f.size
     → is_block_told before after h f.ino at page ≡ is_block_changed c notes h f at page
-told_alike before after c notes h f at page blocks was is =
-    let n : ℕ = f.ino in
-    ap (λ l. is_touched h page || not (option_map_or (λ q. eqb q page) (slice_get l at) false) || ltb (size_of before n) (min (size_of after n) (4096 * at + 4096))) blocks
-    ∙ ap (λ z. is_touched h page || not (option_map_or (λ q. eqb q page) (slice_get (lent_blocks c.bundle n) at) false) || ltb z (min (size_of after n) (4096 * at + 4096))) was
-    ∙ ap (λ z. is_touched h page || not (option_map_or (λ q. eqb q page) (slice_get (lent_blocks c.bundle n) at) false) || ltb (noted_size notes n) (min z (4096 * at + 4096))) is
+told_alike before after c notes h f at page blocks was is = search (arith, min)
 
 -- where no page stood there, a block is told
 always : (t u : Bool) → (t || true || u) ≡ true
@@ -81,12 +78,23 @@ always false u = refl
 pub told_new : (before after : Image) (c : Case) (notes : Notes) (h : Handed) (f : RawFile) (at page : ℕ)
     → block_numbers before f.ino (row_at before f.ino) ≡ [] → lent_blocks c.bundle f.ino ≡ []
     → is_block_told before after h f.ino at page ≡ is_block_changed c notes h f at page
-told_new before after c notes h f at page was lent =
-    let n : ℕ = f.ino in
-    ap (λ l. is_touched h page || not (option_map_or (λ q. eqb q page) (slice_get l at) false) || ltb (size_of before n) (min (size_of after n) (4096 * at + 4096))) was
-    ∙ always (is_touched h page) (ltb (size_of before n) (min (size_of after n) (4096 * at + 4096)))
-    ∙ sym (always (is_touched h page) (ltb (noted_size notes n) (min f.size (4096 * at + 4096))))
-    ∙ ap (λ l. is_touched h page || not (option_map_or (λ q. eqb q page) (slice_get l at) false) || ltb (noted_size notes n) (min f.size (4096 * at + 4096))) (sym lent)
+told_new before after c notes h f at page was lent = search (arith, min, always)
+
+-- no block of a file that isn't written was handed in
+pub clean_block : (s : State) (k : Kept s) (lib : ℕ) (h : Handed) → GivenTo s lib (bundle_handed h) → (n : ℕ) (r : Row) (row : row_at (settled s) n ≡ Some r) → Unwritten (bundle_handed h) n → (p : ℕ) → In p (met_at (settled s) k.fit k.verifies n r row).file.chain.blocks → is_touched h p ≡ false
+clean_block s k lib h given n r row un p i =
+    let m = met_at (settled s) k.fit k.verifies n r row in
+    false_from_ne_true (is_touched h p)
+    (λ t.
+    let w = list_any-In (λ (f : HandedFile). list_any (λ (c : HandedPage). eqb c.no p && c.touched) f.blocks) h.writes t in
+    let c = list_any-In (λ (c : HandedPage). eqb c.no p && c.touched) w.0.blocks w.2 in
+    let at : c.0.no ≡ p = eqb-true c.0.no p (and_parts (eqb c.0.no p) c.0.touched c.2).0 in
+    let handed : In (sheet_handed c.0) (bundle_sheets (bundle_handed h)) =
+    In-left (sheet_handed c.0) (flat_map (λ (w : Written). w.index ++ w.blocks) (bundle_handed h).writes) (bundle_handed h).pages
+    (In-flat (λ (w : Written). w.index ++ w.blocks) (written_handed w.0) (sheet_handed c.0) (bundle_handed h).writes (In-map written_handed w.0 h.writes w.1)
+    (In-right (sheet_handed c.0) (map sheet_handed w.0.index) (map sheet_handed w.0.blocks) (In-map sheet_handed c.0 w.0.blocks c.1))) in
+    let page : In p (bundle_pages (bundle_handed h)) = in_numbers (bundle_sheets (bundle_handed h)) (sheet_handed c.0) p handed (sym at) in
+    unwritten_apart s k lib (bundle_handed h) given m.met p m.stands (λ v j same. un v j (same ∙ m.number)) (subst (λ l. In p l) (sym (pages_are (settled s).core m.met m.file m.read)) (In-right p m.file.chain.index m.file.chain.blocks i)) page)
 
 module _ (s : State) (lib : ℕ) (h : Handed) (j : IsJudgeable s lib (bundle_handed h)) where
   abbrev b : Bundle
@@ -115,22 +123,6 @@ module _ (s : State) (lib : ℕ) (h : Handed) (j : IsJudgeable s lib (bundle_han
       let read : Ok l.file ≡ Ok m.file = sym l.read ∙ ap (file_of C) same ∙ m.read in
       let file : l.file ≡ m.file = cc read in
       g.blocks ∙ l.blocks ∙ ap (λ (f : FileRead). f.chain.blocks) file
-
-  -- no block of a file that isn't written was handed in
-  pub clean_block : (n : ℕ) (r : Row) (row : row_at (settled s) n ≡ Some r) → Unwritten (bundle_handed h) n → (p : ℕ) → In p (met_at (settled s) j.kept.fit j.kept.verifies n r row).file.chain.blocks → is_touched h p ≡ false
-  clean_block n r row un p i =
-      let m = met_at I j.kept.fit j.kept.verifies n r row in
-      false_from_ne_true (is_touched h p)
-      (λ t.
-      let w = list_any-In (λ (f : HandedFile). list_any (λ (c : HandedPage). eqb c.no p && c.touched) f.blocks) h.writes t in
-      let c = list_any-In (λ (c : HandedPage). eqb c.no p && c.touched) w.0.blocks w.2 in
-      let at : c.0.no ≡ p = eqb-true c.0.no p (and_parts (eqb c.0.no p) c.0.touched c.2).0 in
-      let handed : In (sheet_handed c.0) (bundle_sheets b) =
-      In-left (sheet_handed c.0) (flat_map (λ (w : Written). w.index ++ w.blocks) b.writes) b.pages
-      (In-flat (λ (w : Written). w.index ++ w.blocks) (written_handed w.0) (sheet_handed c.0) b.writes (In-map written_handed w.0 h.writes w.1)
-      (In-right (sheet_handed c.0) (map sheet_handed w.0.index) (map sheet_handed w.0.blocks) (In-map sheet_handed c.0 w.0.blocks c.1))) in
-      let page : In p (bundle_pages b) = in_numbers (bundle_sheets b) (sheet_handed c.0) p handed (sym at) in
-      unwritten_apart s j.kept lib b j.given m.met p m.stands (λ v k same. un v k (same ∙ m.number)) (subst (λ l. In p l) (sym (pages_are C m.met m.file m.read)) (In-right p m.file.chain.index m.file.chain.blocks i)) page)
 
   -- ---- the page of a lent block is handed in once
 

@@ -1,7 +1,7 @@
 -- The entry of a release tells of the files that were handed in, that are new or that have another name, each once.
 use Rattle.std.proofs.Common.{◌≡◌, ℕ, ◌<◌, Bool, true, false, cond, ◌&&◌, ◌||◌, not, eqb, List, [], ◌∷◌, map, Option, Some, None, is_some, sym, refl, ap, ◌∙◌, inl, inr, arith}
 use Rattle.std.specs.Str.{bytes_eq}
-use Rattle.std.proofs.lemmas.Bool.{both_ways, eqb-true, eq-eqb, false≢true, or_cases, or_left, or_right}
+use Rattle.std.proofs.lemmas.Bool.{both_ways, eqb-true, eq-eqb, or_cases, or_left, or_right, or_parts}
 use Rattle.std.proofs.lemmas.Slice.Eq.{bytes_eq-Decides}
 use Rattle.trio_rights.specs.Bundle.{Bundle}
 use Rattle.trio_rights.specs.Row.{Row}
@@ -43,17 +43,11 @@ rising_new key (x ∷ xs) r =
       | inr none ↦ none
     ])
 
--- ---- files of which nothing is told
-
-either_not : (a b : Bool) → (a || b) ≡ false → (a ≡ false) × (b ≡ false)
-either_not true b e = absurd (false≢true (sym e))
-either_not false b e = (refl, e)
-
 -- they stay as they are
 untold_stays : (blocks : List ToldBlock) (files : List RawFile) (nodes : Nodes) (n : ℕ) → tells_of files n ≡ false → node_at (raw_nodes blocks files nodes) n ≡ node_at nodes n
 untold_stays blocks [] nodes n t = refl
 untold_stays blocks (f ∷ fs) nodes n t =
-    let p = either_not (eqb f.ino n) (tells_of fs n) t in
+    let p = or_parts (eqb f.ino n) (tells_of fs n) t in
     untold_stays blocks fs (with_node nodes f.ino (raw_node blocks f (node_at nodes f.ino))) n p.1
     ∙ with_node-else nodes f.ino n (raw_node blocks f (node_at nodes f.ino)) (λ e. both_ways (eqb f.ino n) p.0 (eq-eqb f.ino n (sym e)))
 
@@ -61,7 +55,7 @@ untold_stays blocks (f ∷ fs) nodes n t =
 untold_ungiven : (files : List RawFile) (n : ℕ) → tells_of files n ≡ false → is_given files n ≡ false
 untold_ungiven [] n t = refl
 untold_ungiven (f ∷ fs) n t =
-    let p = either_not (eqb f.ino n) (tells_of fs n) t in
+    let p = or_parts (eqb f.ino n) (tells_of fs n) t in
     ap (λ x. (x && f.given) || is_given fs n) p.0 ∙ untold_ungiven fs n p.1
 
 -- what stays as it is is neither new nor renamed
@@ -87,18 +81,10 @@ module _ (before after : Image) (h : Handed) where
   is_changed n o o' = is_some o' && not (bytes_eq (name_by before n o) (name_by after n o'))
 
   changed_means : (n : ℕ) (w w' : Option OpenGrant) (o o' : Option Row) → is_changed n o o' ≡ true → is_new_or_renamed (node_by before n w o) (node_by after n w' o') ≡ true
-  changed_means n w w' None None t = t
-  changed_means n w w' (Some r) None t = t
-  changed_means n w w' None (Some r') t = refl
-  changed_means n w w' (Some r) (Some r') t = t
+  changed_means n w w' o o' t = search arith
 
   told_means : (n : ℕ) (w w' : Option OpenGrant) → is_told before after b n ≡ true → (is_in b n || is_new_or_renamed (node_by before n w (row_at before n)) (node_by after n w' (row_at after n))) ≡ true
-  told_means n w w' t =
-      let why : Bool = is_new_or_renamed (node_by before n w (row_at before n)) (node_by after n w' (row_at after n)) in
-      elim (or_cases (is_in b n) (is_changed n (row_at before n) (row_at after n)) t) [
-        | inl given ↦ or_left (is_in b n) why given
-        | inr changed ↦ or_right (is_in b n) why (changed_means n w w' (row_at before n) (row_at after n) changed)
-      ]
+  told_means n w w' t = search (arith, or_cases, or_left, or_right, changed_means)
 
   once : are_new [] (map (λ (f : RawFile). f.ino) these) ≡ true
   once = rising_new (λ (f : RawFile). f.ino) these (counted_rising (λ (f : RawFile). f.ino) (raw_file before after b) (raw_number before after b) 1 before.core.inodes)
@@ -116,16 +102,10 @@ module _ (before after : Image) (h : Handed) where
         let m = files_from (raw_file before after b) (count_up 1 before.core.inodes) a.0 a.1 in
         let same : m.0 ≡ n = sym (raw_number before after b m.0 a.0 m.1) ∙ eqb-true a.0.ino n a.2 in
         let told : is_told before after b m.0 ≡ true = told_true (is_told before after b m.0) (told_by before after b m.0 (row_at before m.0) (row_at after m.0)) a.0 m.1 in
-        ap (λ x. x || is_new_or_renamed (node_at nodes n) (node_at (raw_nodes blocks these nodes) n)) (handed_is h n)
-        ∙ ap (λ x. is_in b n || is_new_or_renamed x (node_at (raw_nodes blocks these nodes) n)) (was n)
-        ∙ ap (λ x. is_in b n || is_new_or_renamed (node_by before n (w n) (row_at before n)) x) (is n)
-        ∙ told_means n (w n) (w' n) (ap (is_told before after b) (sym same) ∙ told)
+        search (arith, handed_is, told_means)
 
     untold_why : (n : ℕ) → tells_of these n ≡ false → why n ≡ false
-    untold_why n t =
-        ap (λ x. x || is_new_or_renamed (node_at nodes n) (node_at (raw_nodes blocks these nodes) n)) (sym (given n) ∙ untold_ungiven these n t)
-        ∙ ap (is_new_or_renamed (node_at nodes n)) (untold_stays blocks these nodes n t)
-        ∙ same_unnamed (node_at nodes n)
+    untold_why n t = search (arith, untold_ungiven, untold_stays, same_unnamed)
 
     why_told : (n : ℕ) (t : Bool) → tells_of these n ≡ t → why n ≡ true → tells_of these n ≡ true
     why_told n true e y = e

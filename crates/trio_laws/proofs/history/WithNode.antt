@@ -1,5 +1,5 @@
 -- Nodes with another at one number.
-use Rattle.std.proofs.Common.{◌≡◌, ℕ, zero, suc, ◌+◌, ◌<◌, ◌≤◌, [], ◌∷◌, length, Option, None, sym, refl, ap, ◌∙◌, inl, inr, arith, ext_get_or}
+use Rattle.std.proofs.Common.{◌≡◌, ℕ, zero, suc, ◌+◌, ◌<◌, ◌≤◌, [], ◌∷◌, length, Option, None, refl, ap, arith, ext_get_or}
 use Rattle.std.proofs.lemmas.Bool.{cases_eq}
 use Rattle.trio_state.specs.State.{State}
 use Rattle.trio_state.specs.Kept.{Kept}
@@ -24,12 +24,4 @@ nodes_long s = tabulated-length (node_in s) (s.home.core.inodes + 1)
 
 -- a state of which one node is another
 pub nodes_with : (s s' : State) → Kept s → Kept s' → s'.home.core.inodes ≡ s.home.core.inodes → (n : ℕ) (v : Option Node) → n ≤ s.home.core.inodes → node_in s' n ≡ v → ((m : ℕ) → (m ≡ n → ⊥) → node_in s' m ≡ node_in s m) → nodes_of s' ≡ with_node (nodes_of s) n v
-nodes_with s s' k k' count n v inside here else' =
-    let l = nodes_long s in
-    let l' = nodes_long s' in
-    let w = with_length (nodes_of s) n v (omega (arith, l, inside)) in
-    nodes_same (nodes_of s') (with_node (nodes_of s) n v) (omega (arith, l, l', w, count))
-    (λ m. elim (cases_eq m n) [
-      | inl same ↦ ap (node_at (nodes_of s')) same ∙ node_is s' k' n ∙ here ∙ sym (with_node-same (nodes_of s) n v) ∙ ap (node_at (with_node (nodes_of s) n v)) (sym same)
-      | inr differ ↦ node_is s' k' m ∙ else' m differ ∙ sym (node_is s k m) ∙ sym (with_node-else (nodes_of s) n m v differ)
-    ])
+nodes_with s s' k k' count n v inside here else' = search (arith, nodes_long, with_length, nodes_same, cases_eq, node_is, with_node-same, with_node-else)

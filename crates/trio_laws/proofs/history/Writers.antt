@@ -1,10 +1,10 @@
 -- Who writes a file once a bundle has come to its end.
-use Rattle.std.proofs.Common.{◌≡◌, ℕ, Bool, true, false, cond, ◌&&◌, ◌||◌, not, eqb, List, [], ◌∷◌, map, Option, Some, None, is_some, sym, refl, ap, ◌∙◌, inl, inr, ◌⊎◌, find, option_map}
+use Rattle.std.proofs.Common.{◌≡◌, ℕ, Bool, true, false, cond, ◌&&◌, not, eqb, List, [], ◌∷◌, map, Option, Some, None, is_some, sym, refl, ap, ◌∙◌, ◌⊎◌, find, option_map, arith}
 use Rattle.std.proofs.lemmas.Bool.{and_parts, and_from, eqb-true, eq-eqb, not-false, false≢true, false_from_ne_true, or_left}
 use Rattle.trio_nodes.specs.declared.grant.GrantKind.{GrantKind}
-use Rattle.trio_nodes.specs.declared.grant.GrantKind.TheVariants.{Read, Write, Hold}
+use Rattle.trio_nodes.specs.declared.grant.GrantKind.TheVariants.{Write}
 use Rattle.trio_rights.specs.Row.{Row}
-use Rattle.trio_lists.specs.Lists.{In, is_among}
+use Rattle.trio_lists.specs.Lists.{In}
 use Rattle.trio_layout.specs.Image.{Image, row_at}
 use Rattle.trio_state.specs.State.{OpenGrant, State}
 use Rattle.trio_nodes.specs.GrantKinds.{is_write, is_hold}
@@ -35,24 +35,17 @@ none_mapped None e = refl
 none_mapped (Some g) e = absurd cc
 
 pub blocks_lent : (image : Image) (n : ℕ) (r : Row) (o p : Option OpenGrant) → option_map lent_part o ≡ option_map lent_part p → blocks_of image n r o ≡ blocks_of image n r p
-blocks_lent image n r None None e = refl
-blocks_lent image n r None (Some p) e = absurd cc
-blocks_lent image n r (Some o) None e = absurd cc
-blocks_lent image n r (Some o) (Some p) e = (let s : lent_part o ≡ lent_part p = cc e in ap (λ (g : OpenGrant). g.blocks) s)
+blocks_lent image n r o p e = search arith
 
 pub none_found : {X : Type 0} (p : X → Bool) (xs : List X) (x : X) → find p xs ≡ None → In x xs → p x ≡ false
 none_found p (z ∷ zs) x e i = step (p z) refl e i (λ f j. none_found p zs x f j)
   where
     step : (b : Bool) → p z ≡ b → cond b (Some z) (find p zs) ≡ None → (x ≡ z) ⊎ In x zs → (find p zs ≡ None → In x zs → p x ≡ false) → p x ≡ false
-    step true t f i h = absurd cc
-    step false t f (inl s) h = ap p s ∙ t
-    step false t f (inr j) h = h f j
+    step b t f i h = search arith
 none_found p [] x e i = absurd i
 
 write_unheld : (t : GrantKind) → t ≡ Write → is_hold t ≡ false
-write_unheld Write e = refl
-write_unheld Read e = absurd cc
-write_unheld Hold e = absurd cc
+write_unheld t e = search arith
 
 -- no one writes a number that isn't live
 pub dead_writer : (s : State) → Kept s → (n : ℕ) → row_at s.home n ≡ None → writer_of s n ≡ None
@@ -67,9 +60,6 @@ dead_writer s k n dead = by (writer_of s n) refl
         absurd (false≢true (sym (ap is_some dead) ∙ live))
 
 module _ (s s' : State) (k : Kept s) (lib : ℕ) (b : Bundle) (given : GivenTo s lib b) (image : Image) (e : Ends s lib b image s') (n : ℕ) where
-  stays : OpenGrant → Bool
-  stays g = not (is_in_bundle lib b g)
-
   writer_then : option_map lent_part (writer_of s' n) ≡ option_map lent_part (find (writes n) (grants_after s lib b))
   writer_then =
       sym (find_mapped lent_part (writes n) s'.open_grants (λ g. refl))
@@ -78,25 +68,7 @@ module _ (s s' : State) (k : Kept s) (lib : ℕ) (b : Bundle) (given : GivenTo s
 
   -- a writer of a file that isn't written stays
   pub other_writer : is_written b n ≡ false → (image' : Image) (r : Row) → blocks_of image' n r (writer_of s' n) ≡ blocks_of image' n r (writer_of s n)
-  other_writer un image' r =
-      let same : find (writes n) (grants_after s lib b) ≡ writer_of s n =
-      find_filter (writes n) (λ (g : OpenGrant). not (is_in_bundle lib b g)) s.open_grants
-      (λ g i out.
-      false_from_ne_true (writes n g)
-      (λ t.
-      let p = and_parts (eqb g.ino n) (is_write g.kind) t in
-      let inside : is_in_bundle lib b g ≡ true = not-false (is_in_bundle lib b g) out in
-      let q = (and_parts (eqb g.lib lib) ((is_write g.kind && is_written b g.ino) || (is_hold g.kind && is_among g.ino b.holds)) inside).1 in
-      let unwritten : is_written b g.ino ≡ false = ap (is_written b) (eqb-true g.ino n p.0) ∙ un in
-      let unheld : is_hold g.kind ≡ false = write_unheld g.kind (write_is g.kind p.1) in
-      let none : ((is_write g.kind && is_written b g.ino) || (is_hold g.kind && is_among g.ino b.holds)) ≡ false =
-      ap (λ x. (is_write g.kind && x) || (is_hold g.kind && is_among g.ino b.holds)) unwritten ∙ ap (λ x. (is_write g.kind && false) || (x && is_among g.ino b.holds)) unheld ∙ neither (is_write g.kind) in
-      false≢true (sym none ∙ q))) in
-      blocks_lent image' n r (writer_of s' n) (writer_of s n) (writer_then ∙ ap (option_map lent_part) same)
-    where
-      neither : (a : Bool) → ((a && false) || (false && is_among n b.holds)) ≡ false
-      neither true = refl
-      neither false = refl
+  other_writer un image' r = search (arith, find_filter, false_from_ne_true, and_parts, not-false, eqb-true, write_unheld, write_is, false≢true, blocks_lent, writer_then)
 
   -- one who wrote a written file has ended
   pub no_writer : is_written b n ≡ true → writer_of s' n ≡ None
@@ -115,8 +87,6 @@ module _ (s s' : State) (k : Kept s) (lib : ℕ) (b : Bundle) (given : GivenTo s
       let mine : l.grant ≡ g = write_alone s.open_grants l.grant g k.apart l.is_open old.0 l.kind (number ∙ sym (eqb-true g.ino n p.0)) in
       let lib_is : eqb g.lib lib ≡ true = eq-eqb g.lib lib (sym (ap (λ (x : OpenGrant). x.lib) mine) ∙ l.lib) in
       let written' : is_written b g.ino ≡ true = ap (is_written b) (eqb-true g.ino n p.0) ∙ written in
-      let inside : is_in_bundle lib b g ≡ true =
-      and_from (eqb g.lib lib) ((is_write g.kind && is_written b g.ino) || (is_hold g.kind && is_among g.ino b.holds)) lib_is
-      (or_left (is_write g.kind && is_written b g.ino) (is_hold g.kind && is_among g.ino b.holds) (and_from (is_write g.kind) (is_written b g.ino) p.1 written')) in
+      let inside : is_in_bundle lib b g ≡ true = search (arith, and_from, or_left) in
       false≢true (sym (ap not inside) ∙ old.1))) in
       none_mapped (writer_of s' n) (writer_then ∙ ap (option_map lent_part) gone)

@@ -1,8 +1,7 @@
 -- Where a bundle meets the four rules, the change is allowed, and so the bundle is accepted.
-use Rattle.std.proofs.Common.{Bool, List, None, Ok, Option, Some, ap, arith, cond, eqb, false, inl, inr, not, refl, subst, suc, sym, true, zero, ℕ, ◌&&◌, ◌<◌, ◌||◌, ◌∙◌, ◌≡◌, ◌≤◌}
+use Rattle.std.proofs.Common.{Bool, List, Ok, Option, Some, ap, arith, cond, eqb, false, inl, inr, not, refl, subst, suc, sym, true, zero, ℕ, ◌&&◌, ◌<◌, ◌||◌, ◌∙◌, ◌≡◌, ◌≤◌}
 use Rattle.std.proofs.lemmas.Bool.{and_from, and_parts, both_ways, cases_Bool, eq-eqb, eqb-true, or_left, or_right}
 use Rattle.std.proofs.lemmas.Slice.Eq.{bytes_eq-Decides}
-use Rattle.std.specs.List.{list_all}
 use Rattle.std.specs.Prelude.{is_some}
 use Rattle.std.specs.Str.{bytes_eq}
 use Rattle.trio_rights.specs.Row.{Row, row_in}
@@ -10,17 +9,16 @@ use Rattle.trio_lists.proofs.Filters.{some_one}
 use Rattle.trio_lists.proofs.Members.{is_among-In, list_all-each, In-is_among}
 use Rattle.trio_lists.specs.Lists.{In, is_among}
 use Rattle.trio_layout.specs.Accept.{is_accepted}
-use Rattle.trio_layout.specs.Allowed.{all_up_to, has_kind, has_owner, is_allowed, keeps_rows, lists_own, may_stand, same_row}
-use Rattle.trio_rights.specs.Kind.{same_kind}
+use Rattle.trio_layout.specs.Allowed.{all_up_to, has_kind, has_owner, keeps_rows, lists_own, may_stand, same_row}
 use Rattle.trio_layout.specs.Case.{Case, case_of}
 use Rattle.trio_layout.specs.Core.{Core}
 use Rattle.trio_layout.specs.Image.{row_at, settled_body}
 use Rattle.trio_layout.specs.JudgedFiles.{judged_files}
-use Rattle.trio_rights.specs.Bundle.{Bundle, bundle_pages, is_written}
+use Rattle.trio_rights.specs.Bundle.{Bundle, is_written}
 use Rattle.trio_layout.specs.Proposed.{proposed, proposed_pick}
 use Rattle.trio_layout.specs.Rules.{has_rights, meets_rules}
 use Rattle.trio_layout.specs.Sound.{is_sound}
-use Rattle.trio_layout.specs.Survey.{FileRead, Met, Pick, file_of, pages_of, row_by, row_of, survey}
+use Rattle.trio_layout.specs.Survey.{FileRead, Met, Pick, file_of, row_by, row_of, survey}
 use Rattle.trio_layout.specs.declared.body.Body.{Body}
 use Rattle.trio_surveys.proofs.Images.{read_met, row_met, some_of}
 use Rattle.trio_surveys.proofs.Sheets.{not_among}
@@ -39,34 +37,10 @@ up_to_from p (suc n) h =
     and_from (all_up_to p n) (p (suc n)) (up_to_from p n (λ k a b. h k a (omega (arith, b)))) (h (suc n) (omega arith) (omega arith))
 
 pub same_row_from : (r q : Row) → r.kind ≡ q.kind → r.mode.0 ≡ q.mode.0 → r.uid ≡ q.uid → r.gid ≡ q.gid → r.parent ≡ q.parent → r.page ≡ q.page → r.slot ≡ q.slot → same_row (Some r) (Some q) ≡ true
-same_row_from r q kind mode uid gid parent page slot =
-    let a1 : Bool = same_kind r.kind q.kind in
-    let a2 : Bool = eqb r.mode.0 q.mode.0 in
-    let a3 : Bool = eqb r.uid q.uid in
-    let a4 : Bool = eqb r.gid q.gid in
-    let a5 : Bool = eqb r.parent q.parent in
-    let a6 : Bool = eqb r.page q.page in
-    let a7 : Bool = eqb r.slot q.slot in
-    and_from (a1 && a2 && a3 && a4 && a5 && a6) a7
-    (and_from (a1 && a2 && a3 && a4 && a5) a6
-    (and_from (a1 && a2 && a3 && a4) a5
-    (and_from (a1 && a2 && a3) a4
-    (and_from (a1 && a2) a3
-    (and_from a1 a2 (same_kind_from r.kind q.kind kind) (eq-eqb r.mode.0 q.mode.0 mode))
-    (eq-eqb r.uid q.uid uid))
-    (eq-eqb r.gid q.gid gid))
-    (eq-eqb r.parent q.parent parent))
-    (eq-eqb r.page q.page page))
-    (eq-eqb r.slot q.slot slot)
+same_row_from r q kind mode uid gid parent page slot = search (arith, and_from, same_kind_from, eq-eqb)
 
 rights_parts : (o : Option Row) (r : Row) (f : Body) → o ≡ Some r → has_rights o f ≡ true → (r.mode.0 ≡ f.mode.0) × (r.uid ≡ f.uid) × (r.gid ≡ f.gid)
-rights_parts None r f e h = absurd cc
-rights_parts (Some q) r f e h =
-    let same : q ≡ r = cc e in
-    let p = and_parts (eqb q.mode.0 f.mode.0 && eqb q.uid f.uid) (eqb q.gid f.gid) h in
-    let p' = and_parts (eqb q.mode.0 f.mode.0) (eqb q.uid f.uid) p.0 in
-    let P : Row → Type 0 = λ x. (x.mode.0 ≡ f.mode.0) × (x.uid ≡ f.uid) × (x.gid ≡ f.gid) in
-    subst P same (eqb-true q.mode.0 f.mode.0 p'.0, eqb-true q.uid f.uid p'.1, eqb-true q.gid f.gid p.1)
+rights_parts o r f e h = search (arith, and_parts, eqb-true)
 
 -- the cases of what is asked of a file that is met, the other way
 stand_held : (h l w x y z : Bool) → h ≡ true → x ≡ true → cond h x (cond l (cond w y true) z) ≡ true
@@ -142,14 +116,7 @@ module _ (s : State) (lib : ℕ) (b : Bundle) (j : IsJudgeable s lib b) (h : mee
       ∙ ap (same_row (Some r)) now
       ∙ elim (met_stands s lib b j h m.0 m.1) [
         | inr new ↦ absurd (new_not_live s lib b j m.0.ino r new.1 row)
-        | inl l ↦
-            let is : l.row ≡ r = some_one (row_at (settled s) m.0.ino) l.row r l.is_row row in
-            elim l.place [
-              | inl held ↦ absurd (unheld (subst (λ x. In x b.holds) m.2 held))
-              | inr p ↦
-                  same_row_from r (row_by m.0 f.0.body) (ap (λ (x : Row). x.kind) (sym is) ∙ sym l.kind) rights.0 rights.1 rights.2
-                  (ap (λ (x : Row). x.parent) (sym is) ∙ sym p.0) (ap (λ (x : Row). x.page) (sym is) ∙ sym p.1) (ap (λ (x : Row). x.slot) (sym is) ∙ sym p.2)
-            ]
+        | inl l ↦ search (arith, some_one, same_row_from)
       ]
 
   rows_kept : keeps_rows (settled s) b core files ≡ true
@@ -160,20 +127,11 @@ module _ (s : State) (lib : ℕ) (b : Bundle) (j : IsJudgeable s lib b) (h : mee
       let same : Bool = same_row (row_at (settled s) n) (row_of core files n) in
       elim (cases_Bool live) [
         | inr dead ↦ or_left (not live || is_among n b.holds) same (or_left (not live) (is_among n b.holds) (ap not dead))
-        | inl there ↦
-            elim (cases_Bool (is_among n b.holds)) [
-              | inl held ↦ or_left (not live || is_among n b.holds) same (or_right (not live) (is_among n b.holds) held)
-              | inr free ↦
-                  let r = some_of (row_at (settled s) n) there in
-                  or_right (not live || is_among n b.holds) same
-                  (row_kept n r.0 r.1 (λ i. both_ways (is_among n b.holds) free (In-is_among n b.holds i)))
-            ]
+        | inl there ↦ search (arith, cases_Bool, or_left, or_right, some_of, row_kept, both_ways, In-is_among)
       ])
 
   own_pages : (m : Met) (k : Inside s lib b j (reads s lib b j h) m) → lists_own b core m ≡ true
-  own_pages m k =
-      list_all-each (λ page. is_among page (bundle_pages b)) (pages_of core m)
-      (λ p i. In-is_among p (bundle_pages b) (inside_own s lib b j (reads s lib b j h) m k p i))
+  own_pages m k = search (arith, list_all-each, In-is_among, inside_own, reads)
 
   stands_so : (m : Met) → In m files → may_stand (settled s) (creds_of s lib) b core files m ≡ true
   stands_so m i =
@@ -228,7 +186,4 @@ module _ (s : State) (lib : ℕ) (b : Bundle) (j : IsJudgeable s lib b) (h : mee
       ]
 
   pub rules_allow : is_accepted (settled s) (creds_of s lib) b ≡ true
-  rules_allow =
-      and_from (is_sound core pick) (is_allowed (settled s) (creds_of s lib) b core files) sound
-      (and_from (keeps_rows (settled s) b core files) (list_all (may_stand (settled s) (creds_of s lib) b core files) files) rows_kept
-      (list_all-each (may_stand (settled s) (creds_of s lib) b core files) files stands_so))
+  rules_allow = search (arith, and_from, sound, rows_kept, list_all-each, stands_so)

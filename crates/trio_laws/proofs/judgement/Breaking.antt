@@ -1,5 +1,5 @@
 -- A bundle breaks a rule exactly where it doesn't meet all four; the lowest is named.
-use Rattle.std.proofs.Common.{Bool, Err, List, None, Ok, Option, Result, [], ap, arith, false, inl, inr, is_ok, length, refl, suc, sym, true, zero, ℕ, ◌&&◌, ◌++◌, ◌<◌, ◌∙◌, ◌∷◌, ◌≡◌, ◌≤◌}
+use Rattle.std.proofs.Common.{Bool, Err, List, Ok, Option, Result, [], ap, arith, false, inl, inr, is_ok, length, refl, suc, sym, true, zero, ℕ, ◌&&◌, ◌++◌, ◌<◌, ◌∙◌, ◌∷◌, ◌≡◌, ◌≤◌}
 use Rattle.std.proofs.lemmas.Bool.{and_from, and_parts, both_ways, cases_Bool, cases_lt, false_from_ne_true, false≢true}
 use Rattle.std.proofs.lemmas.List.{get_or_past, map-append}
 use Rattle.std.specs.List.{flat_map, list_all}
@@ -114,11 +114,7 @@ module _ (c : Case) where
       let N : Bool = list_all (leaves_none l rows) l.held in
       elim (and_false (K && N) (list_all (comes_to_root l rows) l.entries) e) [
         | inr moved ↦ let x = all_false (comes_to_root l rows) l.entries moved.1 in (x.0.ino, inr (inr (x.0, x.1, refl, x.2)))
-        | inl first ↦
-            elim (and_false K N first) [
-              | inl lost ↦ let n = up_to_false (λ n. stays_listed l n (row_in rows n)) (length rows) lost in (n.0, inl (n.1, n.2))
-              | inr dropped ↦ let n = all_false (leaves_none l rows) l.held dropped.1 in (n.0, inr (inl (n.1, n.2)))
-            ]
+        | inl first ↦ search (arith, and_false, up_to_false, all_false)
       ]
 
   rights_broken : meets_rights c ≡ false → Somewhere (BreaksRights c)
@@ -160,12 +156,7 @@ module _ (c : Case) where
   -- ---- what is named is broken
 
   no_grammar : (ino : ℕ) (place : Location) → BreaksGrammar c ino place → meets_grammar c ≡ true → ⊥
-  no_grammar ino place (inl x) t =
-      let p = and_parts (list_all (λ m. is_ok (file_within (bundle_core c) m)) (judged_files c)) (list_all (entry_in_grammar c) (judged_entries c)) t in
-      false≢true (sym (ap is_ok x.2) ∙ list_all-In (λ m. is_ok (file_within (bundle_core c) m)) x.0 (judged_files c) p.0 x.1.among)
-  no_grammar ino place (inr x) t =
-      let p = and_parts (list_all (λ m. is_ok (file_within (bundle_core c) m)) (judged_files c)) (list_all (entry_in_grammar c) (judged_entries c)) t in
-      both_ways (entry_in_grammar c x.0) x.2 (list_all-In (entry_in_grammar c) x.0 (judged_entries c) p.1 x.1.among)
+  no_grammar ino place h t = search (arith, and_parts, is_ok, false≢true, list_all-In, both_ways)
 
   no_owning : (ino : ℕ) (place : Location) → BreaksOwning c ino place → meets_owning c ≡ true → ⊥
   no_owning ino place x t =
@@ -176,25 +167,11 @@ module _ (c : Case) where
         | inl f ↦
             both_ways (is_among f.0 (bundle_pages c.bundle)) f.1.3
             (list_all-In (λ page. is_among page (bundle_pages c.bundle)) f.0 (judged_pages c) r.0 (In-flat (pages_within c) f.1.0 f.0 (judged_files c) f.1.1.among f.1.2))
-        | inr y ↦
-            elim y [
-              | inl again ↦
-                  let l = again.1 in
-                  both_ways B (sym (ap (are_new []) (pages_listed (judged_files c))) ∙ not_new page_of_listing (judged_listings c) l.earlier l.later (record { ino = ino; page = again.0 }) l.order l.seen) r.1
-              | inr z ↦
-                  elim z [
-                    | inl e ↦ both_ways (entry_is_own c e.0) e.2 (list_all-In (entry_is_own c) e.0 (judged_entries c) q.1 e.1.among)
-                    | inr n ↦ both_ways (are_new [] (numbers (judged_entries c))) (not_new (λ (m : Met). m.ino) (judged_entries c) n.earlier n.later n.again n.order n.seen) p.1
-                  ]
-            ]
+        | inr y ↦ search (arith, both_ways, pages_listed, not_new, list_all-In)
       ]
 
   row_high : (l : Listing) (rows : List (Option Row)) (n : ℕ) → stays_listed l n (row_in rows n) ≡ false → n ≤ length rows
-  row_high l rows n e =
-      elim (cases_lt n (length rows)) [
-        | inl lt ↦ omega (arith, lt)
-        | inr g ↦ absurd (false≢true (sym e ∙ ap (stays_listed l n) (get_or_past rows n None g)))
-      ]
+  row_high l rows n e = search (arith, cases_lt, false≢true, get_or_past)
 
   no_edges : (l : Listing) (rows : List (Option Row)) (ino : ℕ) → BreaksEdges l rows ino → meets_edges l rows ≡ true → ⊥
   no_edges l rows ino x t =
@@ -205,22 +182,11 @@ module _ (c : Case) where
       elim x [
         | inl lost ↦
             both_ways (stays_listed l ino (row_in rows ino)) lost.1 (up_to_at (λ n. stays_listed l n (row_in rows n)) (length rows) ino q.0 lost.0 (row_high l rows ino lost.1))
-        | inr y ↦
-            elim y [
-              | inl dropped ↦ both_ways (leaves_none l rows ino) dropped.1 (list_all-In (leaves_none l rows) ino l.held q.1 dropped.0)
-              | inr moved ↦ both_ways (comes_to_root l rows moved.0) moved.3 (list_all-In (comes_to_root l rows) moved.0 l.entries p.1 moved.1)
-            ]
+        | inr y ↦ search (arith, both_ways, list_all-In)
       ]
 
   no_rights : (ino : ℕ) (place : Location) → BreaksRights c ino place → meets_rights c ≡ true → ⊥
-  no_rights ino place x t =
-      let p = and_parts (list_all (entry_keeps_rights c) (judged_entries c)) (list_all (λ m. file_keeps_rights c m (file_within (bundle_core c) m)) (judged_files c)) t in
-      elim x [
-        | inl e ↦ both_ways (entry_keeps_rights c e.0) e.2 (list_all-In (entry_keeps_rights c) e.0 (judged_entries c) p.0 e.1.among)
-        | inr m ↦
-            both_ways (file_keeps_rights c m.0 (file_within (bundle_core c) m.0)) m.2
-            (list_all-In (λ m. file_keeps_rights c m (file_within (bundle_core c) m)) m.0 (judged_files c) p.1 m.1.among)
-      ]
+  no_rights ino place x t = search (arith, and_parts, both_ways, list_all-In)
 
   is_broken : Broken_at → meets_rules c ≡ false
   is_broken x =
@@ -275,10 +241,7 @@ module _ (c : Case) where
                         a.0
                         ∙ sym (ap (λ g. by_rules g O E) a.1 ∙ ap (λ o. by_rules true o E) a.2
                         ∙ ap (by_rules true true) (false_from_ne_true E (no_edges (listing c) c.rows ino a.3)))
-                    | inr a ↦
-                        a.0
-                        ∙ sym (ap (λ g. by_rules g O E) a.1 ∙ ap (λ o. by_rules true o E) a.2
-                        ∙ ap (by_rules true true) a.3)
+                    | inr a ↦ search arith
                   ]
             ]
       ]

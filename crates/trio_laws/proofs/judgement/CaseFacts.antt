@@ -6,18 +6,16 @@ use Rattle.std.specs.List.{find}
 use Rattle.std.specs.Option.{option_map_or}
 use Rattle.trio_rights.specs.Row.{Row}
 use Rattle.trio_rights.specs.declared.kind.Kind.TheVariants.{Directory}
-use Rattle.trio_rights.specs.declared.rights.Creds.{Creds}
 use Rattle.trio_lists.proofs.Filters.{find-In}
 use Rattle.trio_lists.proofs.Members.{In-is_among}
 use Rattle.trio_lists.specs.Lists.{In, is_among}
-use Rattle.trio_layout.specs.Case.{Case, bundle_core, case_of}
 use Rattle.trio_layout.specs.Core.{Core}
 use Rattle.trio_layout.specs.Edges.{row_parent}
-use Rattle.trio_layout.specs.Image.{Image, IsFit, row_at, settled_body}
+use Rattle.trio_layout.specs.Image.{IsFit, row_at, settled_body}
 use Rattle.trio_rights.specs.Bundle.{Bundle, Written, bundle_sheets, is_written}
-use Rattle.trio_layout.specs.Proposed.{kept_body, proposed, proposed_pick}
+use Rattle.trio_layout.specs.Proposed.{kept_body, proposed}
 use Rattle.trio_rights.specs.Sheets.{with_pages}
-use Rattle.trio_layout.specs.Survey.{FileRead, Met, Pick, file_of, plain, root_of, row_by, survey}
+use Rattle.trio_layout.specs.Survey.{FileRead, Met, file_of, plain, root_of, row_by, survey}
 use Rattle.trio_surveys.proofs.Accepted.{fit_proposed}
 use Rattle.trio_surveys.proofs.Images.{MetAt, met_numbered, read_met, root_is_met, row_at_is, row_met, settled_body_met, some_of}
 use Rattle.trio_surveys.proofs.Local.{file_local}
@@ -25,30 +23,15 @@ use Rattle.trio_surveys.proofs.Owned.{pages_are}
 use Rattle.trio_surveys.specs.Reading.{with_other}
 use Rattle.trio_nodes.specs.GrantKinds.{is_hold}
 use Rattle.trio_state.specs.Bundles.{is_parent_written, is_parted}
-use Rattle.trio_state.specs.State.{OpenGrant, State, creds_of, settled}
+use Rattle.trio_state.specs.State.{OpenGrant, State, settled}
 use Rattle.trio_laws.proofs.Bundles.{Unwritten, finds_unwritten, held_unwritten, page_kept, unparted_at, unwritten_apart, unwritten_finds}
 use Rattle.trio_laws.proofs.StateFacts.{live_met, tables}
 use Rattle.trio_laws.specs.RuleLaws.{IsJudgeable}
 use Rattle.trio_surveys.proofs.Within.{read_pages, file_same, root_unread}
 
 module _ (s : State) (lib : ℕ) (b : Bundle) (j : IsJudgeable s lib b) where
-  abbrev pub image : Image
-  image = settled s
-
-  abbrev pub creds : Creds
-  creds = creds_of s lib
-
-  abbrev pub c : Case
-  c = case_of (settled s) (creds_of s lib) b
-
-  abbrev pub cb : Core
-  cb = bundle_core (case_of (settled s) (creds_of s lib) b)
-
   abbrev pub core : Core
   core = proposed (settled s) b
-
-  abbrev pub pick : Pick
-  pick = proposed_pick (settled s) b
 
   pub fit : IsFit (proposed (settled s) b)
   fit = fit_proposed (settled s) b j.kept.fit j.given.full
@@ -129,10 +112,7 @@ module _ (s : State) (lib : ℕ) (b : Bundle) (j : IsJudgeable s lib b) where
   no_row_zero r e = (let q = live_bounds 0 r e in let l : 0 < 0 = q.0 in omega (arith, l))
 
   pub no_written_zero : is_written b 0 ≡ true → ⊥
-  no_written_zero e =
-      let w = written_find 0 e in
-      let r = written_row w.0 w.1 in
-      no_row_zero r.0 (ap (row_at (settled s)) (sym w.2) ∙ r.1)
+  no_written_zero e = search (arith, written_find, written_row, no_row_zero)
 
   -- the root's row
   pub root_row : (r : Row) × (row_at (settled s) 1 ≡ Some r) × (r.kind ≡ Directory) × (r.parent ≡ 0) × (r.page ≡ 0) × (r.slot ≡ 0)
@@ -143,9 +123,7 @@ module _ (s : State) (lib : ℕ) (b : Bundle) (j : IsJudgeable s lib b) where
       (row_by m f.0.body, row_of_met m f.0 i f.1, refl, refl, refl, refl)
 
   pub root_unheld : In 1 b.holds → ⊥
-  root_unheld i =
-      let r = root_row in
-      no_written_zero (ap (is_written b) (sym r.3) ∙ held_parent 1 r.0 i r.1)
+  root_unheld i = search (arith, root_row, no_written_zero, held_parent)
 
   -- the body that is kept of a file that isn't written is the settled one
   pub kept_settled : (n : ℕ) → Unwritten b n → kept_body (settled s) b n ≡ settled_body (settled s) n

@@ -1,16 +1,14 @@
 -- A place at which a rule fails with the copied rows alone is one at which it fails.
-use Rattle.std.proofs.Common.{◌≡◌, ℕ, ◌||◌, List, map, sym, ap, subst, ◌∙◌, inl, inr}
+use Rattle.std.proofs.Common.{◌≡◌, ℕ, ◌||◌, sym, ap, subst, ◌∙◌, inl, inr, arith}
 use Rattle.std.specs.Prelude.{is_some}
-use Rattle.std.specs.List.{flat_map}
-use Rattle.trio_lists.specs.Lists.{In, is_among}
+use Rattle.trio_lists.specs.Lists.{In}
 use Rattle.trio_layout.specs.Body.{body_of}
 use Rattle.trio_layout.specs.Broken.{BreaksGrammar, BreaksOwning, BreaksRights, EntryAt, FileAt, judged_listings}
 use Rattle.trio_layout.specs.Case.{Case, case_of, file_in}
 use Rattle.trio_layout.specs.Copied.{with_copied}
 use Rattle.trio_layout.specs.Core.{Location}
-use Rattle.trio_layout.specs.JudgedFiles.{judged_entries, pages_within}
-use Rattle.trio_layout.specs.Rules.{entry_in_grammar, entry_is_own}
-use Rattle.trio_layout.specs.Sound.{PageListing}
+use Rattle.trio_layout.specs.JudgedFiles.{judged_entries}
+use Rattle.trio_layout.specs.Rules.{entry_in_grammar}
 use Rattle.trio_layout.specs.Survey.{Met}
 use Rattle.trio_rights.specs.Bundle.{Bundle}
 use Rattle.trio_state.specs.State.{State, creds_of, settled}
@@ -34,9 +32,7 @@ module _ (s : State) (lib : ℕ) (b : Bundle) (j : IsJudgeable s lib b) (ino : �
   entry_kept e a = (entry_told e a).among
 
   listings_same : judged_listings d ≡ judged_listings c
-  listings_same =
-      let listed : Met → List PageListing = λ m. map (λ p. record { ino = m.ino; page = p }) (pages_within c m) in
-      ap (flat_map listed) (judged_same s lib b j)
+  listings_same = search (arith, judged_same)
 
   pub grammar_told : BreaksGrammar d ino place → BreaksGrammar c ino place
   grammar_told (inl f) = inl (f.0, file_told f.0 f.1, f.2)
@@ -46,23 +42,9 @@ module _ (s : State) (lib : ℕ) (b : Bundle) (j : IsJudgeable s lib b) (ino : �
 
   pub owning_told : BreaksOwning d ino place → BreaksOwning c ino place
   owning_told (inl p) = inl (p.0, (p.1.0, file_told p.1.0 p.1.1, p.1.2, p.1.3), p.2)
-  owning_told (inr (inl p)) =
-      let a = p.1 in
-      inr (inl (p.0, record { earlier = a.earlier; later = a.later; order = sym listings_same ∙ a.order; seen = a.seen }, p.2))
-  owning_told (inr (inr (inl e))) =
-      let same : entry_is_own d e.0 ≡ entry_is_own c e.0 = ap (λ t. t || is_among e.0.ino b.holds || is_among e.0.ino b.numbers) (kept_same s lib b j e.0 (entry_kept e.0 e.1)) in
-      inr (inr (inl (e.0, entry_told e.0 e.1, sym same ∙ e.2)))
-  owning_told (inr (inr (inr a))) =
-      inr (inr (inr (record {
-        earlier = a.earlier;
-        again = a.again;
-        later = a.later;
-        order = sym (entries_same s lib b j) ∙ a.order;
-        directory = a.directory;
-        page = a.page;
-        slot = a.slot;
-        seen = a.seen;
-      })))
+  owning_told (inr (inl p)) = search (arith, file_told, listings_same, kept_same, entry_kept, entry_told, entries_same)
+  owning_told (inr (inr (inl e))) = search (arith, file_told, listings_same, kept_same, entry_kept, entry_told, entries_same)
+  owning_told (inr (inr (inr a))) = search (arith, file_told, listings_same, kept_same, entry_kept, entry_told, entries_same)
 
   pub rights_told : BreaksRights d ino place → BreaksRights c ino place
   rights_told (inl e) = inl (e.0, entry_told e.0 e.1, sym (entry_rights_same s lib b j e.0 (entry_kept e.0 e.1)) ∙ e.2)

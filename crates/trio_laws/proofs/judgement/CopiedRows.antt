@@ -1,35 +1,30 @@
 -- The rows that a case copies are all that I1, I2, I4 and the listing look at.
-use Rattle.std.proofs.Common.{Bool, Err, List, None, Ok, Option, Result, Some, [], ap, arith, cond, eqb, false, inl, inr, is_ok, length, not, refl, subst, suc, sym, true, ℕ, ◌&&◌, ◌<◌, ◌||◌, ◌∙◌, ◌∷◌, ◌≡◌, ◌⊎◌}
+use Rattle.std.proofs.Common.{Bool, Err, List, None, Ok, Option, Result, Some, [], ap, arith, cond, inl, inr, is_ok, refl, subst, suc, sym, true, ℕ, ◌&&◌, ◌<◌, ◌||◌, ◌∙◌, ◌∷◌, ◌≡◌, ◌⊎◌}
 use Rattle.std.proofs.lemmas.Bool.{both_ways, cases_Bool, cases_lt, or_left, or_right}
 use Rattle.std.proofs.lemmas.List.{get_or_past}
 use Rattle.std.specs.List.{flat_map, list_all}
-use Rattle.std.specs.Prelude.{is_some, map}
-use Rattle.std.specs.Str.{bytes_eq}
+use Rattle.std.specs.Prelude.{map}
 use Rattle.trio_rights.specs.Row.{Row, row_in}
 use Rattle.trio_rights.specs.declared.kind.Kind.{Kind}
-use Rattle.trio_rights.specs.declared.kind.Kind.TheVariants.{Directory, Regular}
 use Rattle.trio_lists.proofs.Members.{is_among-In, In-is_among, map-In, result_then-Ok}
-use Rattle.trio_lists.specs.Lists.{In, are_new, gathered, is_among}
-use Rattle.trio_layout.specs.Allowed.{has_kind}
-use Rattle.trio_layout.specs.Body.{body_of}
+use Rattle.trio_lists.specs.Lists.{In, is_among}
 use Rattle.trio_layout.specs.Case.{Case, bundle_core, case_of}
 use Rattle.trio_layout.specs.Copied.{copied_row, copied_rows, is_copied, with_copied}
-use Rattle.trio_layout.specs.Core.{Core, Location, page_of}
-use Rattle.trio_layout.specs.Entries.{Listed, body_in_slot, entries_on, listed_at, repeated_name, slot_bytes, slot_entries, unless_repeated, with_names_apart}
+use Rattle.trio_layout.specs.Core.{Core, Location}
+use Rattle.trio_layout.specs.Entries.{Listed, body_in_slot, entries_on, listed_at, slot_bytes, slot_entries, unless_repeated}
 use Rattle.trio_layout.specs.Image.{row_at}
-use Rattle.trio_layout.specs.JudgedFiles.{entries_in, fronts, judged_entries, judged_files, new_entries, pages_within, written_at, written_files, written_met}
-use Rattle.trio_layout.specs.Listing.{ListedEntry, Listing, entry_listed, file_listed, is_kept, listing}
-use Rattle.trio_rights.specs.Bundle.{Bundle, Written, bundle_pages, is_written}
+use Rattle.trio_layout.specs.JudgedFiles.{entries_in, fronts, judged_entries, judged_files, new_entries, written_at, written_files, written_met}
+use Rattle.trio_layout.specs.Listing.{is_kept, listing}
+use Rattle.trio_rights.specs.Bundle.{Bundle, Written, is_written}
 use Rattle.trio_layout.specs.Proposed.{is_place_of}
-use Rattle.trio_layout.specs.Rules.{entry_in_grammar, entry_is_own, entry_keeps_rights, file_keeps_rights, has_rights, lent_body, meets_grammar, meets_owning, meets_rights}
+use Rattle.trio_layout.specs.Rules.{entry_keeps_rights, file_keeps_rights, meets_grammar, meets_owning, meets_rights}
 use Rattle.trio_layout.specs.Slot.{slot_of}
 use Rattle.trio_layout.specs.Survey.{FileRead, Met, children_in, met_in, numbers, plain}
 use Rattle.trio_layout.specs.Within.{entries_where, entries_within, file_within}
 use Rattle.trio_layout.specs.declared.slot.SlotRead.{SlotRead}
-use Rattle.trio_layout.specs.declared.slot.SlotRead.TheVariants.{Bad, Empty, Entry}
+use Rattle.trio_layout.specs.declared.slot.SlotRead.TheVariants.{Entry}
 use Rattle.trio_surveys.proofs.Images.{read_met}
 use Rattle.trio_lists.proofs.Tabulated.{tabulated-get, tabulated-past}
-use Rattle.trio_surveys.proofs.ModedCore.{ms}
 use Rattle.trio_surveys.proofs.Places.{below_from, entry_numbered, gathered_from}
 use Rattle.trio_state.specs.State.{State, creds_of, settled}
 use Rattle.trio_laws.specs.RuleLaws.{CopiedRowsSuffice, IsJudgeable}
@@ -56,12 +51,7 @@ apart_is None ls es e = cc
 apart_is (Some place) ls es e = absurd cc
 
 slot_says : (page slot : ℕ) (body : List ℕ) (r : SlotRead) (es : List Listed) (l : Listed) → listed_at page slot body r ≡ Ok es → In l es → r ≡ Entry l.entry
-slot_says page slot body Empty es l e i = (let n : [] ≡ es = cc in absurd (subst (λ x. In l x) (sym n) i))
-slot_says page slot body Bad es l e i = absurd cc
-slot_says page slot body (Entry p) es l e i =
-    let n : record { entry = p; page = page; slot = slot; body = body } ∷ [] ≡ es = cc in
-    let k : In l (record { entry = p; page = page; slot = slot; body = body } ∷ []) = subst (λ x. In l x) (sym n) i in
-    elim k [ inl s ↦ ap (λ (x : Listed). Entry x.entry) (sym s) | inr no' ↦ absurd no' ]
+slot_says page slot body r es l e i = search arith
 
 where_numbered : (inodes page : ℕ) (o : Option (List ℕ)) (es : List Listed) (l : Listed) → entries_where inodes page o ≡ Ok es → In l es → 0 < l.entry.ino
 unfolding entries_on
@@ -72,13 +62,7 @@ where_numbered inodes page (Some bytes) es l e i =
     (entry_numbered inodes (slot_bytes b.0 bytes) l.entry says).0
 
 kind_numbered : (core : Core) (kind : Kind) (blocks : List ℕ) (es : List Listed) (l : Listed) → entries_within core kind blocks ≡ Ok es → In l es → 0 < l.entry.ino
-kind_numbered core Regular blocks es l e i = (let n : [] ≡ es = cc in absurd (subst (λ x. In l x) (sym n) i))
-kind_numbered core Directory blocks es l e i =
-    let f : ℕ → Result (List Listed) Location = λ page. entries_where core.inodes page (page_of core page) in
-    let q = result_then-Ok with_names_apart (gathered f blocks) es e in
-    let same : q.0 ≡ es = apart_is (repeated_name [] q.0) q.0 es q.2 in
-    let g = gathered_from f blocks q.0 l q.1 (subst (λ x. In l x) (sym same) i) in
-    where_numbered core.inodes g.0 (page_of core g.0) g.1 l g.3 g.4
+kind_numbered core kind blocks es l e i = search (arith, result_then-Ok, apart_is, gathered_from, where_numbered)
 
 entry_number : (core : Core) (m e : Met) (r : Result FileRead Location) → file_within core m ≡ r → In e (children_in plain m.ino r) → (0 < e.ino) × (e.parent ≡ m.ino)
 entry_number core m e (Err p) q i = absurd i
@@ -92,36 +76,17 @@ entry_number core m e (Ok f) q i =
 -- ---- rows
 
 copied_at : (b : Bundle) (rows : List (Option Row)) (n : ℕ) → row_in (copied_rows b rows) n ≡ copied_row b n (row_in rows n)
-copied_at b rows n =
-    elim (cases_lt n (length rows)) [
-      | inl l ↦ tabulated-get (λ n. copied_row b n (row_in rows n)) (length rows) n None l
-      | inr g ↦ tabulated-past (λ n. copied_row b n (row_in rows n)) (length rows) n None g ∙ sym (ap (copied_row b n) (get_or_past rows n None g))
-    ]
+copied_at b rows n = search (arith, cases_lt, tabulated-get, tabulated-past, get_or_past)
 
 own_row : (b : Bundle) (n : ℕ) (o : Option Row) → (is_written b n ≡ true) ⊎ In n b.holds → copied_row b n o ≡ o
-own_row b n None h = refl
-own_row b n (Some r) (inl w) =
-    ap (λ t. cond t (Some r) None) (or_left (is_written b n || is_among n b.holds) (is_written b r.parent) (or_left (is_written b n) (is_among n b.holds) w))
-own_row b n (Some r) (inr i) =
-    ap (λ t. cond t (Some r) None) (or_left (is_written b n || is_among n b.holds) (is_written b r.parent) (or_right (is_written b n) (is_among n b.holds) (In-is_among n b.holds i)))
+own_row b n o h = search (arith, or_left, or_right, In-is_among)
 
 child_row : (b : Bundle) (n : ℕ) (r : Row) → is_written b r.parent ≡ true → copied_row b n (Some r) ≡ Some r
 child_row b n r w = ap (λ t. cond t (Some r) None) (or_right (is_written b n || is_among n b.holds) (is_written b r.parent) w)
 
 -- a place that a row names is named by the copied row, where the directory is written or is no row's parent
 place_step : (b : Bundle) (n d p t : ℕ) (o : Option Row) (k : Bool) → is_copied b n o ≡ k → ((r : Row) → o ≡ Some r → r.parent ≡ d → is_written b d ≡ true) → is_place_of d p t (cond k o None) ≡ is_place_of d p t o
-place_step b n d p t o true e h = refl
-place_step b n d p t None false e h = refl
-place_step b n d p t (Some r) false e h =
-    elim (cases_Bool (is_place_of d p t (Some r))) [
-      | inr f ↦ sym f
-      | inl y ↦
-          let q = place_parts d p t (Some r) y in
-          let same : r ≡ q.0 = (let z : Some r ≡ Some q.0 = q.1 in cc z) in
-          let parent : r.parent ≡ d = ap (λ (x : Row). x.parent) same ∙ q.2 in
-          let w : is_written b r.parent ≡ true = ap (is_written b) parent ∙ h r refl parent in
-          absurd (both_ways (is_copied b n (Some r)) e (or_right (is_written b n || is_among n b.holds) (is_written b r.parent) w))
-    ]
+place_step b n d p t o k e h = search (arith, cases_Bool, place_parts, both_ways, or_right)
 
 module _ (s : State) (lib : ℕ) (b : Bundle) (j : IsJudgeable s lib b) where
   abbrev c : Case
@@ -146,9 +111,7 @@ module _ (s : State) (lib : ℕ) (b : Bundle) (j : IsJudgeable s lib b) where
   new_childless x n r new low row is =
       let m = live s lib b j n r row in
       elim (met_cases (settled s).core plain j.kept.fit.numbers j.kept.verifies.sound m.met m.stands) [
-        | inl z ↦
-            let p : r.parent ≡ 0 = ap (λ (y : Row). y.parent) m.row ∙ ap (λ (y : Met). y.parent) z in
-            omega (arith, low, is, p)
+        | inl z ↦ search arith
         | inr q ↦
             let f = read_met (settled s).core plain j.kept.fit j.kept.verifies.sound q.0 q.1 in
             let p : x.ino ≡ q.0.ino = sym is ∙ ap (λ (y : Row). y.parent) m.row ∙ child_parent (settled s).core plain q.0 m.met q.2 in
@@ -178,64 +141,23 @@ module _ (s : State) (lib : ℕ) (b : Bundle) (j : IsJudgeable s lib b) where
   entries_same = ap (flat_map (entries_in c)) judged_same
 
   grammar_same : meets_grammar d ≡ meets_grammar c
-  grammar_same =
-      ap (λ ms. list_all (λ m. is_ok (file_within (bundle_core c) m)) ms && list_all (entry_in_grammar d) (flat_map (entries_in c) ms)) judged_same
-      ∙ ap (λ t. list_all (λ m. is_ok (file_within (bundle_core c) m)) (judged_files c) && t)
-      (all_same (entry_in_grammar d) (entry_in_grammar c) (judged_entries c) (λ e i. ap (λ t. t || is_some (body_of e.kind c.range e.body)) (kept_same e i)))
-
-  abbrev meets_with : List Met → Bool → Bool
-  meets_with ms own =
-      list_all (λ page. is_among page (bundle_pages b)) (flat_map (pages_within c) ms) && are_new [] (flat_map (pages_within c) ms)
-      && own && are_new [] (numbers (flat_map (entries_in c) ms))
+  grammar_same = search (arith, is_ok, judged_same, all_same, kept_same)
 
   owning_same : meets_owning d ≡ meets_owning c
-  owning_same =
-      ap (λ ms. meets_with ms (list_all (entry_is_own d) (flat_map (entries_in c) ms))) judged_same
-      ∙ ap (meets_with (judged_files c))
-      (all_same (entry_is_own d) (entry_is_own c) (judged_entries c) (λ e i. ap (λ t. t || is_among e.ino b.holds || is_among e.ino b.numbers) (kept_same e i)))
+  owning_same = search (arith, judged_same, all_same, kept_same)
 
   -- the row of a kept child or a held file is copied
   pub entry_rights_same : (e : Met) → In e (judged_entries c) → entry_keeps_rights d e ≡ entry_keeps_rights c e
-  entry_rights_same e i =
-      ap (λ t. cond t (has_kind e.kind (row_in d.rows e.ino)) (not (is_among e.ino b.holds) || (has_kind e.kind (row_in d.rows e.ino) && bytes_eq e.body (lent_body c e.ino)))) (kept_same e i)
-      ∙ by_kept (is_kept c e) refl (is_among e.ino b.holds) refl
-    where
-      row_e : (is_kept c e ≡ true) ⊎ In e.ino b.holds → row_in d.rows e.ino ≡ row_in c.rows e.ino
-      row_e (inr held) = copied_at b c.rows e.ino ∙ own_row b e.ino (row_in c.rows e.ino) (inr held)
-      row_e (inl kept) =
-          let r = place_parts e.parent e.page e.slot (row_in c.rows e.ino) kept in
-          let w : is_written b r.0.parent ≡ true = ap (is_written b) r.2 ∙ dir_written e e.ino r.0 i r.1 r.2 in
-          copied_at b c.rows e.ino ∙ ap (copied_row b e.ino) r.1 ∙ child_row b e.ino r.0 w ∙ sym r.1
-
-      by_kept : (t : Bool) → is_kept c e ≡ t → (h : Bool) → is_among e.ino b.holds ≡ h → cond t (has_kind e.kind (row_in d.rows e.ino)) (not h || (has_kind e.kind (row_in d.rows e.ino) && bytes_eq e.body (lent_body c e.ino))) ≡ cond t (has_kind e.kind (row_in c.rows e.ino)) (not h || (has_kind e.kind (row_in c.rows e.ino) && bytes_eq e.body (lent_body c e.ino)))
-      by_kept true k h q = ap (has_kind e.kind) (row_e (inl k))
-      by_kept false k false q = refl
-      by_kept false k true q = ap (λ o. has_kind e.kind o && bytes_eq e.body (lent_body c e.ino)) (row_e (inr (is_among-In e.ino b.holds q)))
+  entry_rights_same e i = search (arith, kept_same, copied_at, own_row, place_parts, dir_written, child_row, is_among-In)
 
   pub file_rights_same : (m : Met) (r : Result FileRead Location) → file_keeps_rights d m r ≡ file_keeps_rights c m r
-  file_rights_same m (Err p) = refl
-  file_rights_same m (Ok f) = by_written (is_written b m.ino) refl
-    where
-      by_written : (w : Bool) → is_written b m.ino ≡ w → cond w (has_rights (row_in d.rows m.ino) f.body) (eqb f.body.uid c.creds.uid && eqb f.body.gid c.creds.gid) ≡ cond w (has_rights (row_in c.rows m.ino) f.body) (eqb f.body.uid c.creds.uid && eqb f.body.gid c.creds.gid)
-      by_written true e = ap (λ o. has_rights o f.body) (copied_at b c.rows m.ino ∙ own_row b m.ino (row_in c.rows m.ino) (inl e))
-      by_written false e = refl
+  file_rights_same m r = search (arith, copied_at, own_row)
 
   rights_same : meets_rights d ≡ meets_rights c
-  rights_same =
-      ap (λ ms. list_all (entry_keeps_rights d) (flat_map (entries_in c) ms) && list_all (λ m. file_keeps_rights d m (file_within (bundle_core c) m)) ms) judged_same
-      ∙ ap (λ t. t && list_all (λ m. file_keeps_rights d m (file_within (bundle_core c) m)) (judged_files c)) (all_same (entry_keeps_rights d) (entry_keeps_rights c) (judged_entries c) entry_rights_same)
-      ∙ ap (λ t. list_all (entry_keeps_rights c) (judged_entries c) && t)
-      (all_same (λ m. file_keeps_rights d m (file_within (bundle_core c) m)) (λ m. file_keeps_rights c m (file_within (bundle_core c) m)) (judged_files c) (λ m i. file_rights_same m (file_within (bundle_core c) m)))
-
-  abbrev listed : List Met → List ListedEntry → Listing
-  listed ms es = record { held = sorted_by (λ (n : ℕ). n) b.holds; files = flat_map (λ m. file_listed m (file_within (bundle_core c) m)) ms; entries = es }
+  rights_same = search (arith, judged_same, all_same, entry_rights_same, file_rights_same)
 
   listing_same : listing d ≡ listing c
-  listing_same =
-      ap (λ ms. listed ms (map (entry_listed d) (flat_map (entries_in c) ms))) judged_same
-      ∙ ap (listed (judged_files c))
-      (map_same (entry_listed d) (entry_listed c) (judged_entries c)
-      (λ e i. ap (λ t. record { ino = e.ino; kind = e.kind; dir = e.parent; page = e.page; slot = e.slot; kept = t }) (kept_same e i)))
+  listing_same = search (arith, judged_same, map_same, kept_same)
 
 pub copied_rows_suffice : CopiedRowsSuffice
 copied_rows_suffice s lib b j = (grammar_same s lib b j, owning_same s lib b j, rights_same s lib b j, listing_same s lib b j)

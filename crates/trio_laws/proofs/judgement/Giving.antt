@@ -69,9 +69,7 @@ module _ (s : State) (lib : ℕ) (b : Bundle) (j : IsJudgeable s lib b) (h : mee
   sides m (inr n) = inl (record { file = m; judged_one = n.0; ino = refl; kind = refl; body = refl })
 
   pub root_stands : Stands (root_of (proposed (settled s) b))
-  root_stands =
-      let r = root_row s lib b j in
-      inl (record { row = r.0; is_row = r.1; kind = sym r.2; body = refl; place = inr (sym r.3, sym r.4, sym r.5) })
+  root_stands = search (arith, root_row)
 
   -- ---- what a child inside is
 
@@ -156,10 +154,7 @@ module _ (s : State) (lib : ℕ) (b : Bundle) (j : IsJudgeable s lib b) (h : mee
       let same : z.0.ino ≡ e.ino = sym z.2 ∙ y.2 ∙ q.ino in
       let row : row_at (settled s) e.ino ≡ Some p.row = ap (row_at (settled s)) (sym same) ∙ p.is_row in
       elim (rule_own c h e ei) [
-        | inl kept ↦
-            let r = kept_row e kept in
-            let is : r.0 ≡ p.row = some_one (row_at (settled s) e.ino) r.0 p.row r.1 row in
-            k.ino ∙ sym q.directory ∙ sym r.2 ∙ ap (λ (w : Row). w.parent) is ∙ p.directory
+        | inl kept ↦ search (arith, kept_row, some_one)
         | inr free ↦
             elim free.1 [
               | inl held ↦
@@ -197,11 +192,7 @@ module _ (s : State) (lib : ℕ) (b : Bundle) (j : IsJudgeable s lib b) (h : mee
                   let r = kept_row e kept in
                   let same : r.0 ≡ r1.0 = some_one (row_at (settled s) 1) r.0 r1.0 (ap (row_at (settled s)) (sym is) ∙ r.1) r1.1 in
                   zero_none m t (k.ino ∙ sym q.directory ∙ sym r.2 ∙ ap (λ (w : Row). w.parent) same ∙ r1.3)
-              | inr free ↦
-                  elim free.1 [
-                    | inl held ↦ root_unheld s lib b j (subst (λ n. In n b.holds) is held)
-                    | inr new ↦ new_not_live s lib b j 1 r1.0 (subst (λ n. In n b.numbers) is new) r1.1
-                  ]
+              | inr free ↦ search (arith, root_unheld, new_not_live)
             ]
         | inr o ↦
             let p = outside_child s lib b j reads m o x i in
@@ -285,16 +276,7 @@ module _ (s : State) (lib : ℕ) (b : Bundle) (j : IsJudgeable s lib b) (h : mee
       ]
 
   shares : Shares core pick Stands
-  shares = record {
-    root = root_stands;
-    down = down;
-    reads = all_read;
-    pages = all_pages_new;
-    paged = page_once;
-    names = all_names_new;
-    named = name_once;
-    no_root = root_unlisted;
-  }
+  shares = search (arith, root_stands, down, reads, all_read, all_pages_new, page_once, all_names_new, name_once, root_unlisted)
 
   pub rules_sound : is_sound (proposed (settled s) b) (proposed_pick (settled s) b) ≡ true
   rules_sound = sound_by core pick Stands shares

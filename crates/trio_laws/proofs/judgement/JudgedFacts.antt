@@ -79,9 +79,7 @@ module _ (s : State) (lib : ℕ) (b : Bundle) (j : IsJudgeable s lib b) where
 
   pub written_judged : (w : Written) → In w b.writes → In (written_met c w) (judged_files c)
   unfolding judged_files
-  written_judged w i =
-      starts_met (new_entries c) (written_files c) (settled s).core.inodes (written_met c w)
-      (In-map (written_met c) w (sorted_by (λ (w : Written). w.ino) b.writes) (in_sorted (λ (w : Written). w.ino) w b.writes i))
+  written_judged w i = search (arith, starts_met, In-map, in_sorted)
 
   pub judged_from : (m : Met) → In m (judged_files c) → ((w : Written) × In w b.writes × (m ≡ written_met c w)) ⊎ ((x : Met) × In x (judged_files c) × In m (new_entries c x))
   unfolding judged_files

@@ -1,5 +1,5 @@
 -- What stands in the listing of a bundle.
-use Rattle.std.proofs.Common.{Err, None, Ok, Option, Result, Some, ap, eqb, inl, inr, refl, subst, sym, true, ℕ, ◌&&◌, ◌∙◌, ◌≡◌, ◌⊎◌}
+use Rattle.std.proofs.Common.{None, Ok, Option, Result, Some, ap, eqb, inl, inr, refl, subst, sym, true, ℕ, ◌∙◌, ◌≡◌, ◌⊎◌, arith}
 use Rattle.std.proofs.lemmas.Bool.{and_from, and_parts, eq-eqb, eqb-true}
 use Rattle.std.specs.List.{find}
 use Rattle.std.specs.Option.{option_map_or}
@@ -23,25 +23,16 @@ module _ (c : Case) where
   listed_to e i = In-map (entry_listed c) e (judged_entries c) i
 
   pub is_listed_at : (n : ℕ) → is_listed (listing c) n ≡ true → (e : Met) × In e (judged_entries c) × (e.ino ≡ n)
-  is_listed_at n t =
-      let q = list_any-In (λ (e : ListedEntry). eqb e.ino n) (listing c).entries t in
-      let e = listed_from q.0 q.1 in
-      (e.0, e.1, ap (λ (x : ListedEntry). x.ino) (sym e.2) ∙ eqb-true q.0.ino n q.2)
+  is_listed_at n t = search (arith, list_any-In, listed_from, eqb-true)
 
   pub is_listed_by : (e : Met) (n : ℕ) → In e (judged_entries c) → e.ino ≡ n → is_listed (listing c) n ≡ true
   is_listed_by e n i is = In-list_any (λ (e : ListedEntry). eqb e.ino n) (entry_listed c e) (listing c).entries (listed_to e i) (eq-eqb e.ino n is)
 
   pub kept_at : (n : ℕ) → is_listed_kept (listing c) n ≡ true → (e : Met) × In e (judged_entries c) × (e.ino ≡ n) × (is_kept c e ≡ true)
-  kept_at n t =
-      let q = list_any-In (λ (e : ListedEntry). eqb e.ino n && e.kept) (listing c).entries t in
-      let p = and_parts (eqb q.0.ino n) q.0.kept q.2 in
-      let e = listed_from q.0 q.1 in
-      (e.0, e.1, ap (λ (x : ListedEntry). x.ino) (sym e.2) ∙ eqb-true q.0.ino n p.0, ap (λ (x : ListedEntry). x.kept) (sym e.2) ∙ p.1)
+  kept_at n t = search (arith, list_any-In, and_parts, listed_from, eqb-true)
 
   pub kept_by : (e : Met) (n : ℕ) → In e (judged_entries c) → e.ino ≡ n → is_kept c e ≡ true → is_listed_kept (listing c) n ≡ true
-  kept_by e n i is k =
-      In-list_any (λ (e : ListedEntry). eqb e.ino n && e.kept) (entry_listed c e) (listing c).entries (listed_to e i)
-      (and_from (eqb e.ino n) (is_kept c e) (eq-eqb e.ino n is) k)
+  kept_by e n i is k = search (arith, In-list_any, listed_to, and_from, eq-eqb)
 
   pub has_file_by : (m : Met) (f : FileRead) (n : ℕ) → In m (judged_files c) → file_within (bundle_core c) m ≡ Ok f → m.ino ≡ n → has_file (listing c) n ≡ true
   has_file_by m f n i e is =
@@ -51,15 +42,10 @@ module _ (c : Case) where
       (eq-eqb m.ino n is)
 
   file_made : (m x : Met) (r : Result FileRead Location) (f : ListedFile) → In f (file_listed m r) → f.ino ≡ m.ino
-  file_made m x (Ok g) f (inl e) = ap (λ (y : ListedFile). y.ino) e
-  file_made m x (Ok g) f (inr no') = absurd no'
-  file_made m x (Err p) f i = absurd i
+  file_made m x r f h = search arith
 
   pub has_file_at : (n : ℕ) → has_file (listing c) n ≡ true → (m : Met) × In m (judged_files c) × (m.ino ≡ n)
-  has_file_at n t =
-      let q = list_any-In (λ (f : ListedFile). eqb f.ino n) (listing c).files t in
-      let r = flat_map-In (λ m. file_listed m (file_within (bundle_core c) m)) q.0 (judged_files c) q.1 in
-      (r.0, r.1, sym (file_made r.0 r.0 (file_within (bundle_core c) r.0) q.0 r.2) ∙ eqb-true q.0.ino n q.2)
+  has_file_at n t = search (arith, list_any-In, flat_map-In, file_made, eqb-true)
 
   pub held_from : (n : ℕ) → In n (listing c).held → In n c.bundle.holds
   held_from n i = sorted_in (λ (k : ℕ). k) n c.bundle.holds i

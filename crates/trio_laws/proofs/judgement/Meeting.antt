@@ -1,5 +1,5 @@
 -- Where a bundle is accepted it meets I1, I2 and I4.
-use Rattle.std.proofs.Common.{Bool, List, Ok, Option, Some, [], ap, cond, eqb, false, inl, inr, is_ok, not, refl, subst, sym, true, ℕ, ◌&&◌, ◌||◌, ◌∙◌, ◌∷◌, ◌≡◌}
+use Rattle.std.proofs.Common.{Bool, List, Ok, Option, Some, [], ap, cond, eqb, false, inl, inr, is_ok, not, refl, subst, sym, true, ℕ, ◌&&◌, ◌||◌, ◌∙◌, ◌∷◌, ◌≡◌, arith}
 use Rattle.std.proofs.lemmas.Bool.{and_from, both_ways, cases_Bool, eq-eqb, or_left, or_right}
 use Rattle.std.proofs.lemmas.Slice.Eq.{bytes_eq-Decides}
 use Rattle.std.specs.List.{flat_map, list_all}
@@ -144,31 +144,18 @@ module _ (s : State) (lib : ℕ) (b : Bundle) (j : IsJudgeable s lib b) (acc : i
               | inr rest ↦
                   elim rest [
                     | inr new ↦ or_right (is_kept c e || is_among e.ino b.holds) (is_among e.ino b.numbers) (In-is_among e.ino b.numbers new.0)
-                    | inl live ↦
-                        let r : Row = live.1 in
-                        let f = unheld_at s lib b j acc e r m live.2 live.0 in
-                        absurd (both_ways (is_kept c e) free
-                        (place_from e.parent e.page e.slot (row_at (settled s) e.ino) r live.2 (ap (λ (x : Row). x.parent) f.2) (ap (λ (x : Row). x.page) f.2) (ap (λ (x : Row). x.slot) f.2)))
+                    | inl live ↦ search (arith, unheld_at, both_ways, place_from)
                   ]
             ]
       ]
 
   pub owning_met : meets_owning (case_of (settled s) (creds_of s lib) b) ≡ true
-  owning_met =
-      let A : Bool = list_all (λ page. is_among page (bundle_pages b)) (judged_pages c) in
-      let B : Bool = are_new [] (judged_pages c) in
-      let D : Bool = list_all (entry_is_own c) (judged_entries c) in
-      and_from (A && B && D) (are_new [] (numbers (judged_entries c)))
-      (and_from (A && B) D (and_from A B (list_all-each (λ page. is_among page (bundle_pages b)) (judged_pages c) own_page) pages_met)
-      (list_all-each (entry_is_own c) (judged_entries c) own_entry))
-      once_met
+  owning_met = search (arith, and_from, list_all-each, own_page, pages_met, own_entry, once_met)
 
   -- ---- I4
 
   rights_when : (t h k y : Bool) → (t ≡ true → k ≡ true) → (t ≡ false → h ≡ true → (k ≡ true) × (y ≡ true)) → cond t k (not h || (k && y)) ≡ true
-  rights_when true h k y p q = p refl
-  rights_when false false k y p q = refl
-  rights_when false true k y p q = let r = q refl refl in and_from k y r.0 r.1
+  rights_when t h k y p q = search (arith, and_from)
 
   entry_rights : (e : Met) → In e (judged_entries c) → entry_keeps_rights c e ≡ true
   entry_rights e i =
@@ -180,11 +167,7 @@ module _ (s : State) (lib : ℕ) (b : Bundle) (j : IsJudgeable s lib b) (acc : i
       has_kind_from e.kind (row_at (settled s) e.ino) r.0 r.1
       (sym q.kind ∙ elim (classes s lib b j acc q.met q.stands) [
         | inl held ↦ held.1.2 ∙ ap (λ (x : Row). x.kind) (some_one (row_at (settled s) q.met.ino) held.1.0 r.0 held.1.1 row)
-        | inr rest ↦
-            elim rest [
-              | inl live ↦ let f = unheld_at s lib b j acc q.met r.0 q.stands row live.0 in ap (λ (x : Row). x.kind) (sym f.2)
-              | inr new ↦ absurd (new_not_live s lib b j q.met.ino r.0 new.0 row)
-            ]
+        | inr rest ↦ search (arith, unheld_at, new_not_live)
       ]))
       (λ free h.
       let m = free_met e i free in
@@ -205,10 +188,7 @@ module _ (s : State) (lib : ℕ) (b : Bundle) (j : IsJudgeable s lib b) (acc : i
       new_unheld n i k = let r = held_row s lib b j n k in new_not_live s lib b j n r.0 i r.1
 
   has_rights_from : (o : Option Row) (r : Row) (f : Body) → o ≡ Some r → r.mode.0 ≡ f.mode.0 → r.uid ≡ f.uid → r.gid ≡ f.gid → has_rights o f ≡ true
-  has_rights_from o r f e mode uid gid =
-      ap (λ o. has_rights o f) e
-      ∙ and_from (eqb r.mode.0 f.mode.0 && eqb r.uid f.uid) (eqb r.gid f.gid)
-      (and_from (eqb r.mode.0 f.mode.0) (eqb r.uid f.uid) (eq-eqb r.mode.0 f.mode.0 mode) (eq-eqb r.uid f.uid uid)) (eq-eqb r.gid f.gid gid)
+  has_rights_from o r f e mode uid gid = search (arith, and_from, eq-eqb)
 
   file_rights_when : (w x y : Bool) → (w ≡ true → x ≡ true) → (w ≡ false → y ≡ true) → cond w x y ≡ true
   file_rights_when true x y p q = p refl
@@ -248,7 +228,4 @@ module _ (s : State) (lib : ℕ) (b : Bundle) (j : IsJudgeable s lib b) (acc : i
       ])
 
   pub rights_met : meets_rights (case_of (settled s) (creds_of s lib) b) ≡ true
-  rights_met =
-      and_from (list_all (entry_keeps_rights c) (judged_entries c)) (list_all (λ m. file_keeps_rights c m (file_within (bundle_core c) m)) (judged_files c))
-      (list_all-each (entry_keeps_rights c) (judged_entries c) entry_rights)
-      (list_all-each (λ m. file_keeps_rights c m (file_within (bundle_core c) m)) (judged_files c) file_rights)
+  rights_met = search (arith, and_from, list_all-each, entry_rights, file_rights)

@@ -1,7 +1,7 @@
 -- Where a bundle is accepted it meets I3, and so all four rules.
 use Rattle.std.proofs.Common.{Bool, List, None, Option, Some, [], ap, arith, eqb, false, get_or, inl, inr, length, not, refl, subst, suc, sym, true, zero, ℕ, ◌&&◌, ◌+◌, ◌<◌, ◌||◌, ◌∙◌, ◌∷◌, ◌≡◌, ◌≤◌, ◌⊎◌}
 use Rattle.std.proofs.lemmas.Bool.{and_from, and_parts, both_ways, cases_Bool, eq-eqb, eqb-true, false≢true, or_left, or_right}
-use Rattle.std.specs.List.{list_all, list_any}
+use Rattle.std.specs.List.{list_all}
 use Rattle.trio_rights.specs.Row.{Row, row_in}
 use Rattle.trio_rights.specs.declared.kind.Kind.TheVariants.{Directory}
 use Rattle.trio_lists.proofs.Filters.{list_any-In}
@@ -18,7 +18,7 @@ use Rattle.trio_layout.specs.JudgedFiles.{judged_files}
 use Rattle.trio_layout.specs.Listing.{ListedEntry, listing}
 use Rattle.trio_rights.specs.Bundle.{Bundle, is_written}
 use Rattle.trio_layout.specs.Proposed.{proposed, proposed_pick}
-use Rattle.trio_layout.specs.Rules.{meets_grammar, meets_owning, meets_rights, meets_rules}
+use Rattle.trio_layout.specs.Rules.{meets_rules}
 use Rattle.trio_layout.specs.Survey.{Met, Pick, children, plain, row_of, survey}
 use Rattle.trio_surveys.proofs.Images.{met_numbered, met_row, one_met}
 use Rattle.trio_lists.proofs.Tabulated.{tabulated-length}
@@ -70,21 +70,7 @@ module _ (s : State) (lib : ℕ) (b : Bundle) (j : IsJudgeable s lib b) (acc : i
         | inr free ↦
             elim (classes s lib b j acc m i) [
               | inl held ↦ record { row = held.1.0; is_row = held.1.1; kind = held.1.2; body = held.2; unwritten = free }
-              | inr rest ↦
-                  elim rest [
-                    | inr new ↦ absurd (new_not_live s lib b j m.ino r new.0 e)
-                    | inl live ↦
-                        let f = unheld_at s lib b j acc m r i e live.0 in
-                        record {
-                          row = r;
-                          is_row = e;
-                          kind = ap (λ (x : Row). x.kind) (sym f.2);
-                          body =
-                              body_kept s lib b j acc m r i e (ap (λ (x : Row). x.parent) f.2) (ap (λ (x : Row). x.page) f.2) (ap (λ (x : Row). x.slot) f.2)
-                              ∙ kept_settled s lib b j m.ino free;
-                          unwritten = free;
-                        }
-                  ]
+              | inr rest ↦ search (arith, new_not_live, unheld_at, body_kept, kept_settled)
             ]
       ]
 
@@ -163,9 +149,7 @@ module _ (s : State) (lib : ℕ) (b : Bundle) (j : IsJudgeable s lib b) (acc : i
   -- ---- no recorded child is lost
 
   stays_when : (f h k : Bool) → (f ≡ true → h ≡ false → k ≡ true) → (not f || h || k) ≡ true
-  stays_when false h k p = refl
-  stays_when true true k p = refl
-  stays_when true false k p = p refl refl
+  stays_when f h k p = search arith
 
   child_stays : (n : ℕ) (o : Option Row) → row_at (settled s) n ≡ o → stays_listed (listing c) n o ≡ true
   child_stays n None e = refl
@@ -221,17 +205,7 @@ module _ (s : State) (lib : ℕ) (b : Bundle) (j : IsJudgeable s lib b) (acc : i
       ]
 
   none_left : (h : ℕ) → In h b.holds → leaves_none (listing c) c.rows h ≡ true
-  none_left h held =
-      let A : Bool = is_listed (listing c) h in
-      let B : Bool = list_any (is_child h) c.rows in
-      elim (cases_Bool B) [
-        | inr none ↦ or_right A (not B) (ap not none)
-        | inl some' ↦
-            let o = list_any-In (is_child h) c.rows some' in
-            let r = child_row h o.0 o.2 in
-            let n = number_of c.rows r.0 (subst (λ x. In x c.rows) r.1 o.1) in
-            or_left A (not B) (listed_above h n.0 r.0 held n.1 r.2)
-      ]
+  none_left h held = search (arith, cases_Bool, or_right, list_any-In, child_row, number_of, or_left, listed_above)
 
   -- ---- each moved directory comes to the root
 
@@ -293,9 +267,4 @@ module _ (s : State) (lib : ℕ) (b : Bundle) (j : IsJudgeable s lib b) (acc : i
       (list_all-each (comes_to_root (listing c) c.rows) (listing c).entries comes)
 
   pub all_met : meets_rules c ≡ true
-  all_met =
-      let A : Bool = meets_grammar c in
-      let B : Bool = meets_owning c in
-      let D : Bool = meets_edges (listing c) c.rows in
-      and_from (A && B && D) (meets_rights c)
-      (and_from (A && B) D (and_from A B (grammar_met s lib b j acc) (owning_met s lib b j acc)) edges_met) (rights_met s lib b j acc)
+  all_met = search (arith, and_from, grammar_met, owning_met, edges_met, rights_met)

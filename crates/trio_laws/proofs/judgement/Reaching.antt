@@ -5,14 +5,14 @@ use Rattle.std.specs.List.{list_any}
 use Rattle.std.specs.Prelude.{is_some}
 use Rattle.trio_rights.specs.Row.{Row, row_in}
 use Rattle.trio_rights.specs.declared.kind.Kind.{Kind}
-use Rattle.trio_rights.specs.declared.kind.Kind.TheVariants.{Directory, Regular}
+use Rattle.trio_rights.specs.declared.kind.Kind.TheVariants.{Directory}
 use Rattle.trio_lists.proofs.Filters.{In-list_any, some_one}
 use Rattle.trio_lists.proofs.Members.{is_among-In, In-is_among}
 use Rattle.trio_lists.specs.Lists.{In, is_among}
 use Rattle.trio_layout.specs.Allowed.{has_kind}
 use Rattle.trio_layout.specs.Case.{Case, case_of}
 use Rattle.trio_layout.specs.Core.{Core}
-use Rattle.trio_layout.specs.Edges.{climbs, climbs_clear, has_file, is_listed, is_listed_kept, is_moved, proposed_parent, stays_listed}
+use Rattle.trio_layout.specs.Edges.{climbs, climbs_clear, has_file, is_listed_kept, is_moved, proposed_parent, stays_listed}
 use Rattle.trio_rights.specs.Row.{is_child}
 use Rattle.trio_layout.specs.Entries.{Listed, entries_of_kind}
 use Rattle.trio_layout.specs.Image.{row_at}
@@ -46,16 +46,10 @@ lists_directory core pick x m i =
     by_kind x.kind refl q.file.chain.blocks q.file.entries q.entry (reads_from core x q.file q.read).entries q.listed
   where
     by_kind : (k : Kind) → x.kind ≡ k → (blocks : List ℕ) (es : List Listed) (l : Listed) → entries_of_kind core x.kind blocks ≡ Ok es → In l es → x.kind ≡ Directory
-    by_kind Directory e blocks es l r j = e
-    by_kind Regular e blocks es l r j =
-        let none : Ok [] ≡ Ok es = sym (ap (λ k. entries_of_kind core k blocks) e) ∙ r in
-        let n : [] ≡ es = cc none in
-        absurd (subst (λ ls. In l ls) (sym n) j)
+    by_kind k e blocks es l r j = search arith
 
 stays_cases : (f h k : Bool) → (not f || h || k) ≡ true → f ≡ true → h ≡ false → k ≡ true
-stays_cases true true k e a d = absurd (false≢true (sym d))
-stays_cases true false k e a d = e
-stays_cases false h k e a d = absurd (false≢true a)
+stays_cases f h k e a d = search (arith, false≢true)
 
 module _ (s : State) (lib : ℕ) (b : Bundle) (j : IsJudgeable s lib b) (h : meets_rules (case_of (settled s) (creds_of s lib) b) ≡ true) where
   abbrev c : Case
@@ -137,10 +131,7 @@ module _ (s : State) (lib : ℕ) (b : Bundle) (j : IsJudgeable s lib b) (h : mee
   held_listed p n r i e is =
       let t = rule_leaves c h p (held_to c p i) in
       let some_child : list_any (is_child p) c.rows ≡ true = In-list_any (is_child p) (Some r) c.rows (row_in_list c.rows n r e) (eq-eqb r.parent p is) in
-      elim (or_cases (is_listed (listing c) p) (not (list_any (is_child p) c.rows)) t) [
-        | inl l ↦ is_listed_at c p l
-        | inr n ↦ absurd (both_ways (list_any (is_child p) c.rows) (not-true (list_any (is_child p) c.rows) n) some_child)
-      ]
+      search (arith, or_cases, is_listed_at, both_ways, not-true)
 
   judged_stays : (x : Met) → In x (judged_files c) → Stays x.ino
   judged_stays x i =
@@ -250,11 +241,7 @@ module _ (s : State) (lib : ℕ) (b : Bundle) (j : IsJudgeable s lib b) (h : mee
       and_from (is_among e.ino (listing c).held && not (is_kept c e)) (has_kind Directory (row_in c.rows e.ino))
       (and_from (is_among e.ino (listing c).held) (not (is_kept c e)) (In-is_among e.ino (listing c).held (held_to c e.ino held)) (ap not free))
       (has_kind_from Directory (row_in c.rows e.ino) r row (sym kind)) in
-      let clear : climbs_clear up e.ino (length c.rows) (up e.ino) ≡ true =
-      elim (or_cases (not (is_moved (listing c) c.rows le)) (climbs_clear up e.ino (length c.rows) (up e.ino)) t) [
-        | inl n ↦ absurd (both_ways (is_moved (listing c) c.rows le) (not-true (is_moved (listing c) c.rows le) n) moved)
-        | inr y ↦ y
-      ] in
+      let clear : climbs_clear up e.ino (length c.rows) (up e.ino) ≡ true = search (arith, or_cases, both_ways, not-true) in
       step e.ino (inl (e, i, refl)) not_one
       (λ p is q. climbs_met (length c.rows) p (ap (climbs up (length c.rows)) (sym is) ∙ clear_climbs up e.ino (length c.rows) (up e.ino) clear) q)
 

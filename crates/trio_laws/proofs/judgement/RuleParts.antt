@@ -1,12 +1,10 @@
 -- What each rule says, clause by clause.
-use Rattle.std.proofs.Common.{Bool, None, Ok, Option, Some, [], ap, cond, false, inl, inr, is_ok, length, not, refl, subst, sym, true, ℕ, ◌&&◌, ◌++◌, ◌<◌, ◌||◌, ◌∙◌, ◌≡◌, ◌≤◌, ◌⊎◌}
+use Rattle.std.proofs.Common.{Bool, None, Ok, Option, Some, [], ap, cond, false, is_ok, length, not, subst, sym, true, ℕ, ◌&&◌, ◌++◌, ◌<◌, ◌||◌, ◌∙◌, ◌≡◌, ◌≤◌, ◌⊎◌, arith}
 use Rattle.std.proofs.lemmas.Bool.{and_parts, both_ways, cases_Bool, false≢true, or_cases}
 use Rattle.std.proofs.lemmas.Slice.Eq.{bytes_eq-Decides}
 use Rattle.std.specs.List.{flat_map, list_all}
-use Rattle.std.specs.Str.{bytes_eq}
 use Rattle.trio_rights.specs.Row.{Row, row_in}
 use Rattle.trio_rights.specs.declared.kind.Kind.{Kind}
-use Rattle.trio_rights.specs.declared.kind.Kind.TheVariants.{Directory}
 use Rattle.trio_lists.proofs.Members.{is_among-In, In-flat, list_all-In, In-is_among, is_ok-Ok}
 use Rattle.trio_lists.specs.Lists.{In, are_new, is_among}
 use Rattle.trio_layout.specs.Allowed.{has_kind}
@@ -16,7 +14,7 @@ use Rattle.trio_layout.specs.Edges.{comes_to_root, keeps_children, leaves_none, 
 use Rattle.trio_layout.specs.JudgedFiles.{judged_entries, judged_files, judged_pages, pages_within}
 use Rattle.trio_layout.specs.Listing.{ListedEntry, Listing, is_kept, listing}
 use Rattle.trio_rights.specs.Bundle.{bundle_pages}
-use Rattle.trio_layout.specs.Rules.{entry_in_grammar, entry_is_own, entry_keeps_rights, file_keeps_rights, lent_body, meets_grammar, meets_owning, meets_rights, meets_rules}
+use Rattle.trio_layout.specs.Rules.{entry_is_own, entry_keeps_rights, file_keeps_rights, lent_body, meets_grammar, meets_owning, meets_rights, meets_rules}
 use Rattle.trio_layout.specs.Survey.{FileRead, Met, numbers, pages_in}
 use Rattle.trio_layout.specs.Within.{file_within}
 use Rattle.trio_surveys.proofs.Alike.{same_kind_is, up_to_at}
@@ -26,11 +24,7 @@ has_kind_is kind None r e h = absurd cc
 has_kind_is kind (Some q) r e h = (let same : q ≡ r = cc e in same_kind_is kind q.kind h ∙ ap (λ (x : Row). x.kind) same)
 
 pub same_kind_from : (a b : Kind) → a ≡ b → same_kind a b ≡ true
-same_kind_from a b e = ap (λ k. same_kind a k) (sym e) ∙ own a
-  where
-    own : (k : Kind) → same_kind k k ≡ true
-    own Directory = refl
-    own _ = refl
+same_kind_from a b e = search arith
 
 pub has_kind_from : (kind : Kind) (o : Option Row) (r : Row) → o ≡ Some r → kind ≡ r.kind → has_kind kind o ≡ true
 has_kind_from kind o r e k = ap (has_kind kind) e ∙ same_kind_from kind r.kind k
@@ -41,9 +35,7 @@ rights_kept true h k y e q = e
 rights_kept false h k y e q = absurd (false≢true q)
 
 rights_held : (t h k y : Bool) → cond t k (not h || (k && y)) ≡ true → t ≡ false → h ≡ true → (k ≡ true) × (y ≡ true)
-rights_held true h k y e q w = absurd (false≢true (sym q))
-rights_held false true k y e q w = and_parts k y e
-rights_held false false k y e q w = absurd (false≢true w)
+rights_held t h k y e q w = search (arith, false≢true, and_parts)
 
 module _ (c : Case) (h : meets_rules c ≡ true) where
   abbrev l : Listing
@@ -75,10 +67,7 @@ module _ (c : Case) (h : meets_rules c ≡ true) where
 
   -- I1
   pub rule_file : (m : Met) → In m (judged_files c) → (f : FileRead) × (file_within (bundle_core c) m ≡ Ok f)
-  rule_file m i =
-      is_ok-Ok (file_within (bundle_core c) m)
-      (list_all-In (λ m. is_ok (file_within (bundle_core c) m)) m (judged_files c)
-      (and_parts (list_all (λ m. is_ok (file_within (bundle_core c) m)) (judged_files c)) (list_all (entry_in_grammar c) (judged_entries c)) one.0).0 i)
+  rule_file m i = search (arith, is_ok-Ok, list_all-In, is_ok, and_parts, one)
 
   -- I2
   pub rule_page : (m : Met) (f : FileRead) (p : ℕ) → In m (judged_files c) → file_within (bundle_core c) m ≡ Ok f → In p (f.chain.index ++ f.chain.blocks) → In p (bundle_pages c.bundle)
@@ -93,20 +82,7 @@ module _ (c : Case) (h : meets_rules c ≡ true) where
   rule_once = owning.1
 
   pub rule_own : (e : Met) → In e (judged_entries c) → (is_kept c e ≡ true) ⊎ ((is_kept c e ≡ false) × (In e.ino c.bundle.holds ⊎ In e.ino c.bundle.numbers))
-  rule_own e i =
-      let t = list_all-In (entry_is_own c) e (judged_entries c) owning_two.1 i in
-      elim (cases_Bool (is_kept c e)) [
-        | inl k ↦ inl k
-        | inr n ↦
-            elim (or_cases (is_kept c e || is_among e.ino c.bundle.holds) (is_among e.ino c.bundle.numbers) t) [
-              | inr new ↦ inr (n, inr (is_among-In e.ino c.bundle.numbers new))
-              | inl old ↦
-                  elim (or_cases (is_kept c e) (is_among e.ino c.bundle.holds) old) [
-                    | inl k ↦ absurd (both_ways (is_kept c e) n k)
-                    | inr held ↦ inr (n, inl (is_among-In e.ino c.bundle.holds held))
-                  ]
-            ]
-      ]
+  rule_own e i = search (arith, list_all-In, owning_two, cases_Bool, or_cases, is_among-In, both_ways)
 
   -- I3
   edges_two : ((keeps_children (listing c) c.rows && list_all (leaves_none (listing c) c.rows) (listing c).held) ≡ true) × (list_all (comes_to_root (listing c) c.rows) (listing c).entries ≡ true)
@@ -129,15 +105,10 @@ module _ (c : Case) (h : meets_rules c ≡ true) where
   rights = and_parts (list_all (entry_keeps_rights c) (judged_entries c)) (list_all (λ m. file_keeps_rights c m (file_within (bundle_core c) m)) (judged_files c)) three.1
 
   pub rule_kept_kind : (e : Met) → In e (judged_entries c) → is_kept c e ≡ true → has_kind e.kind (row_in c.rows e.ino) ≡ true
-  rule_kept_kind e i k =
-      rights_kept (is_kept c e) (is_among e.ino c.bundle.holds) (has_kind e.kind (row_in c.rows e.ino)) (bytes_eq e.body (lent_body c e.ino))
-      (list_all-In (entry_keeps_rights c) e (judged_entries c) rights.0 i) k
+  rule_kept_kind e i k = search (arith, rights_kept, list_all-In, rights)
 
   pub rule_held : (e : Met) → In e (judged_entries c) → is_kept c e ≡ false → In e.ino c.bundle.holds → (has_kind e.kind (row_in c.rows e.ino) ≡ true) × (e.body ≡ lent_body c e.ino)
-  rule_held e i k held =
-      let p = rights_held (is_kept c e) (is_among e.ino c.bundle.holds) (has_kind e.kind (row_in c.rows e.ino)) (bytes_eq e.body (lent_body c e.ino))
-      (list_all-In (entry_keeps_rights c) e (judged_entries c) rights.0 i) k (In-is_among e.ino c.bundle.holds held) in
-      (p.0, (bytes_eq-Decides e.body (lent_body c e.ino)).0 p.1)
+  rule_held e i k held = search (arith, rights_held, list_all-In, rights, In-is_among, bytes_eq-Decides)
 
   pub rule_rights : (m : Met) (f : FileRead) → In m (judged_files c) → file_within (bundle_core c) m ≡ Ok f → file_keeps_rights c m (Ok f) ≡ true
   rule_rights m f i e =

@@ -1,6 +1,6 @@
 -- The files of the proposed core, on either side of the bundle: those that read as a judged file does, and those that read as in
 -- the settled image.
-use Rattle.std.proofs.Common.{Ok, Some, ap, cond, inl, inr, refl, subst, sym, true, ℕ, ◌∙◌, ◌≡◌, ◌⊎◌}
+use Rattle.std.proofs.Common.{Ok, Some, ap, cond, inl, inr, refl, subst, sym, true, ℕ, ◌∙◌, ◌≡◌, ◌⊎◌, arith}
 use Rattle.std.specs.Option.{option_map_or}
 use Rattle.trio_rights.specs.Row.{Row}
 use Rattle.trio_lists.proofs.Filters.{some_one}
@@ -12,7 +12,7 @@ use Rattle.trio_layout.specs.Image.{row_at, settled_body}
 use Rattle.trio_layout.specs.JudgedFiles.{entries_in, judged_files, pages_within, written_met}
 use Rattle.trio_rights.specs.Bundle.{Bundle, Written, bundle_pages}
 use Rattle.trio_layout.specs.Proposed.{is_place_of, kept_body, proposed, proposed_pick}
-use Rattle.trio_layout.specs.Survey.{FileRead, Met, Pick, children, children_in, file_of, met_in, numbers, pages_in, pages_of, plain, row_by, survey}
+use Rattle.trio_layout.specs.Survey.{FileRead, Met, Pick, children, file_of, met_in, numbers, pages_in, pages_of, plain, row_by, survey}
 use Rattle.trio_surveys.proofs.Images.{MetAt, read_met}
 use Rattle.trio_surveys.proofs.Tree.{child_from, child_has}
 use Rattle.trio_state.specs.State.{State, creds_of, settled}
@@ -85,9 +85,7 @@ module _ (s : State) (lib : ℕ) (b : Bundle) (j : IsJudgeable s lib b) (reads :
   pub inside_numbers : (m : Met) (k : Inside m) → numbers (children (proposed (settled s) b) (proposed_pick (settled s) b) m) ≡ numbers (entries_in (case_of (settled s) (creds_of s lib) b) k.file)
   inside_numbers m k =
       let r = reads k.file k.judged_one in
-      ap (λ o. numbers (children_in pick m.ino o)) (inside_read m k)
-      ∙ numbers_met pick plain m.ino k.file.ino r.file.entries
-      ∙ sym (ap (λ o. numbers (children_in plain k.file.ino o)) r.within)
+      search (arith, inside_read, numbers_met)
 
   -- a child inside, with the entry that it comes from
   pub record InsideChild (m : Met) (k : Inside m) (x : Met) : Type 0 where
@@ -154,11 +152,7 @@ module _ (s : State) (lib : ℕ) (b : Bundle) (j : IsJudgeable s lib b) (reads :
       unwritten_apart s j.kept lib b j.given q.met p q.stands (subst (λ n. Unwritten b n) (sym q.number) o.unwritten) (subst (λ l. In p l) (outside_pages m o) i) k
 
   pub outside_numbers : (m : Met) (o : Outside m) → numbers (children (proposed (settled s) b) (proposed_pick (settled s) b) m) ≡ numbers (children (settled s).core plain (outside_met m o).met)
-  outside_numbers m o =
-      let q = outside_met m o in
-      ap (λ r. numbers (children_in pick m.ino r)) (outside_read m o)
-      ∙ numbers_met pick plain m.ino q.met.ino q.file.entries
-      ∙ sym (ap (λ r. numbers (children_in plain q.met.ino r)) q.read)
+  outside_numbers m o = search (arith, outside_met, outside_read, numbers_met)
 
   -- a child outside is a live file, where its row says, with the body that is kept
   pub record OutsideChild (m x : Met) : Type 0 where

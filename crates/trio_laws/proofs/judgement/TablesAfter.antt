@@ -1,12 +1,10 @@
 -- The rows and owners after an accepted bundle are those that its listing says.
-use Rattle.std.proofs.Common.{Bool, Err, List, None, Ok, Option, Result, Some, [], ap, cond, eqb, false, inl, inr, leb, ltb, not, refl, subst, sym, true, ℕ, ◌&&◌, ◌++◌, ◌∙◌, ◌∷◌, ◌≡◌, ◌⊎◌}
+use Rattle.std.proofs.Common.{Bool, List, None, Ok, Option, Result, Some, [], ap, cond, eqb, false, inl, inr, leb, ltb, not, refl, subst, sym, true, ℕ, ◌&&◌, ◌++◌, ◌∙◌, ◌∷◌, ◌≡◌, ◌⊎◌, arith}
 use Rattle.std.proofs.lemmas.Bool.{and_from, and_parts, both_ways, cases_Bool, eq-eqb, eqb-true, le-ltb, leb-true, ltb-true, not-true, or_cases, or_left, or_right}
 use Rattle.std.specs.List.{find}
 use Rattle.std.specs.Option.{option_map, option_map_or}
 use Rattle.std.specs.Prelude.{slice_index}
 use Rattle.trio_rights.specs.Row.{Row}
-use Rattle.trio_rights.specs.declared.kind.Kind.{Kind}
-use Rattle.trio_rights.specs.declared.rights.Mode.{Mode}
 use Rattle.trio_lists.proofs.Filters.{In-find, find-In}
 use Rattle.trio_lists.proofs.Members.{is_among-In, In-flat, In-is_among, flat_map-In}
 use Rattle.trio_lists.specs.Lists.{In, is_among}
@@ -39,9 +37,7 @@ use Rattle.trio_laws.proofs.judgement.Meeting.{itself, entry_met, once_met}
 use Rattle.trio_laws.proofs.judgement.MeetingEdges.{same_file, met_side}
 
 owner_from_step : (core : Core) (x : Met) (xs : List Met) (p : ℕ) (b : Bool) → is_among p (pages_of core x) ≡ b → (((owner_of core xs p) ≡ 0) ⊎ ((m : Met) × In m xs × (m.ino ≡ owner_of core xs p) × In p (pages_of core m))) → (cond b x.ino (owner_of core xs p) ≡ 0) ⊎ ((m : Met) × ((m ≡ x) ⊎ In m xs) × (m.ino ≡ cond b x.ino (owner_of core xs p)) × In p (pages_of core m))
-owner_from_step core x xs p true t h = inr (x, inl refl, refl, is_among-In p (pages_of core x) t)
-owner_from_step core x xs p false t (inl z) = inl z
-owner_from_step core x xs p false t (inr r) = inr (r.0, inr r.1, r.2, r.3)
+owner_from_step core x xs p b t h = search (arith, is_among-In)
 
 -- the owner is 0, or a file that lists the page
 owner_from : (core : Core) (files : List Met) (p : ℕ) → (owner_of core files p ≡ 0) ⊎ ((m : Met) × In m files × (m.ino ≡ owner_of core files p) × In p (pages_of core m))
@@ -49,14 +45,7 @@ owner_from core [] p = inl refl
 owner_from core (x ∷ xs) p = owner_from_step core x xs p (is_among p (pages_of core x)) refl (owner_from core xs p)
 
 row_same : (r q : Row) → r.kind ≡ q.kind → r.mode ≡ q.mode → r.uid ≡ q.uid → r.gid ≡ q.gid → r.parent ≡ q.parent → r.page ≡ q.page → r.slot ≡ q.slot → r ≡ q
-row_same r q kind mode uid gid parent page slot =
-    ap (λ (x : Kind). record { kind = x; mode = r.mode; uid = r.uid; gid = r.gid; parent = r.parent; page = r.page; slot = r.slot }) kind
-    ∙ ap (λ (x : Mode). record { kind = q.kind; mode = x; uid = r.uid; gid = r.gid; parent = r.parent; page = r.page; slot = r.slot }) mode
-    ∙ ap (λ (n : ℕ). record { kind = q.kind; mode = q.mode; uid = n; gid = r.gid; parent = r.parent; page = r.page; slot = r.slot }) uid
-    ∙ ap (λ (n : ℕ). record { kind = q.kind; mode = q.mode; uid = q.uid; gid = n; parent = r.parent; page = r.page; slot = r.slot }) gid
-    ∙ ap (λ (n : ℕ). record { kind = q.kind; mode = q.mode; uid = q.uid; gid = q.gid; parent = n; page = r.page; slot = r.slot }) parent
-    ∙ ap (λ (n : ℕ). record { kind = q.kind; mode = q.mode; uid = q.uid; gid = q.gid; parent = q.parent; page = n; slot = r.slot }) page
-    ∙ ap (λ (n : ℕ). record { kind = q.kind; mode = q.mode; uid = q.uid; gid = q.gid; parent = q.parent; page = q.page; slot = n }) slot
+row_same r q kind mode uid gid parent page slot = search arith
 
 module _ (s : State) (lib : ℕ) (b : Bundle) (j : IsJudgeable s lib b) (acc : is_accepted (settled s) (creds_of s lib) b ≡ true) where
   abbrev c : Case
@@ -85,15 +74,10 @@ module _ (s : State) (lib : ℕ) (b : Bundle) (j : IsJudgeable s lib b) (acc : i
 
   -- what a listed file is
   made_from : (m : Met) (r : Result FileRead Location) (f : ListedFile) → In f (file_listed m r) → (g : FileRead) × (r ≡ Ok g) × (f ≡ record { ino = m.ino; row = row_by m g.body; index = g.chain.index; blocks = g.chain.blocks })
-  made_from m (Err p) f i = absurd i
-  made_from m (Ok g) f (inl e) = (g, refl, e)
-  made_from m (Ok g) f (inr no') = absurd no'
+  made_from m r f h = search arith
 
   pub file_from : (f : ListedFile) → In f (listing c).files → (m : Met) × (g : FileRead) × In m (judged_files c) × (file_within (bundle_core c) m ≡ Ok g) × (f ≡ record { ino = m.ino; row = row_by m g.body; index = g.chain.index; blocks = g.chain.blocks })
-  file_from f i =
-      let q = flat_map-In (λ m. file_listed m (file_within (bundle_core c) m)) f (judged_files c) i in
-      let g = made_from q.0 (file_within (bundle_core c) q.0) f q.2 in
-      (q.0, g.0, q.1, g.1, g.2)
+  file_from f i = search (arith, flat_map-In, made_from)
 
   abbrev made : Met → FileRead → ListedFile
   made m g = record { ino = m.ino; row = row_by m g.body; index = g.chain.index; blocks = g.chain.blocks }
@@ -140,14 +124,7 @@ module _ (s : State) (lib : ℕ) (b : Bundle) (j : IsJudgeable s lib b) (acc : i
             now ∙ ap Some (row_same (row_by y.met f.0.body) (placed_row (entry_listed c e) r) h.0 h.1 h.2 h.3 y.parent y.page y.slot) ∙ ap (option_map (placed_row (entry_listed c e))) (sym row)
         | inr rest ↦
             elim rest [
-              | inl live ↦
-                  let r : Row = live.1 in
-                  let g = unheld_at s lib b j acc y.met r y.stands live.2 live.0 in
-                  let row : row_at (settled s) e.ino ≡ Some r = ap (row_at (settled s)) (sym y.ino) ∙ live.2 in
-                  let old : row_of core files e.ino ≡ Some r = unheld_row s j.kept lib (creds_of s lib) b j.given acc e.ino r row (λ k. live.0 (subst (λ n. In n b.holds) (sym y.ino) k)) in
-                  old
-                  ∙ ap Some (row_same r (placed_row (entry_listed c e) r) refl refl refl refl (ap (λ (x : Row). x.parent) g.2 ∙ y.parent) (ap (λ (x : Row). x.page) g.2 ∙ y.page) (ap (λ (x : Row). x.slot) g.2 ∙ y.slot))
-                  ∙ ap (option_map (placed_row (entry_listed c e))) (sym row)
+              | inl live ↦ search (arith, unheld_at, unheld_row, row_same)
               | inr new ↦
                   let k = new_judged s lib b j (reads s lib b j acc) (once_met s lib b j acc) y.file e y.judged_one y.among (subst (λ n. In n b.numbers) y.ino new.0) in
                   absurd (none e k refl)
@@ -192,9 +169,6 @@ module _ (s : State) (lib : ℕ) (b : Bundle) (j : IsJudgeable s lib b) (acc : i
   pub rows_listed : (n : ℕ) → row_at (next (settled s) b) n ≡ row_after (listing (case_of (settled s) (creds_of s lib) b)) (settled s).rows n
   rows_listed n = rows_after_are n ∙ by_file (find (λ (f : ListedFile). eqb f.ino n) (listing c).files) refl
     where
-      rest : Option Row
-      rest = cond (is_among n (listing c).held) None (row_at (settled s) n)
-
       by_entry : ((m : Met) → In m (judged_files c) → m.ino ≡ n → ⊥) → (o : Option ListedEntry) → find (λ (e : ListedEntry). eqb e.ino n) (listing c).entries ≡ o → row_of core files n ≡ option_map_or (λ (e : ListedEntry). option_map (placed_row e) (row_at (settled s) n)) o (cond (is_among n (listing c).held) None (row_at (settled s) n))
       by_entry no_file None q =
           unlisted_row n no_file
@@ -269,9 +243,7 @@ module _ (s : State) (lib : ℕ) (b : Bundle) (j : IsJudgeable s lib b) (acc : i
                   let e = is_listed_at c o listed in
                   let y = entry_met s lib b j acc e.0 e.1 in
                   (y.met, y.stands, y.ino ∙ e.2)
-              | inr gone ↦
-                  absurd (both_ways (gives_up l o) stays
-                  (or_right (has_file l o) (is_among o l.held && not (is_listed l o)) (and_from (is_among o l.held) (not (is_listed l o)) held (ap not gone))))
+              | inr gone ↦ search (arith, both_ways, stays, or_right, and_from)
             ]
       ]
 

@@ -1,5 +1,5 @@
 -- Where a bundle is accepted: its judged files are met, and every file met is judged or as it was.
-use Rattle.std.proofs.Common.{Bool, List, None, Ok, Option, Some, ap, cond, eqb, false, inl, inr, refl, subst, sym, true, ℕ, ◌&&◌, ◌++◌, ◌∙◌, ◌≡◌, ◌⊎◌}
+use Rattle.std.proofs.Common.{Bool, List, None, Ok, Option, Some, ap, cond, eqb, false, inl, inr, refl, subst, sym, true, ℕ, ◌&&◌, ◌++◌, ◌∙◌, ◌≡◌, ◌⊎◌, arith}
 use Rattle.std.proofs.lemmas.Bool.{and_parts, both_ways}
 use Rattle.std.proofs.lemmas.Slice.Eq.{bytes_eq-Decides}
 use Rattle.std.specs.List.{find, list_all}
@@ -12,7 +12,7 @@ use Rattle.trio_lists.proofs.Members.{is_among-In, list_all-In, In-is_among}
 use Rattle.trio_lists.proofs.Gathered.{one_keyed}
 use Rattle.trio_lists.specs.Lists.{In, is_among}
 use Rattle.trio_layout.specs.Accept.{is_accepted}
-use Rattle.trio_layout.specs.Allowed.{has_kind, has_owner, is_allowed, keeps_rows, lists_own, may_stand}
+use Rattle.trio_layout.specs.Allowed.{has_kind, has_owner, lists_own, may_stand}
 use Rattle.trio_layout.specs.Case.{Case, case_of}
 use Rattle.trio_layout.specs.Core.{Core}
 use Rattle.trio_layout.specs.Entries.{Listed}
@@ -54,9 +54,7 @@ module _ (s : State) (lib : ℕ) (b : Bundle) (j : IsJudgeable s lib b) (acc : i
   sound = sound_now s j.kept lib (creds_of s lib) b j.given acc
 
   allowed : list_all (may_stand (settled s) (creds_of s lib) b core files) files ≡ true
-  allowed =
-      (and_parts (keeps_rows (settled s) b core files) (list_all (may_stand (settled s) (creds_of s lib) b core files) files)
-      (and_parts (is_sound core pick) (is_allowed (settled s) (creds_of s lib) b core files) acc).1).1
+  allowed = search (arith, and_parts)
 
   abbrev Held_met : Met → Type 0
   Held_met m = In m.ino b.holds × ((r : Row) × (row_at (settled s) m.ino ≡ Some r) × (m.kind ≡ r.kind)) × (m.body ≡ settled_body (settled s) m.ino)
@@ -77,25 +75,8 @@ module _ (s : State) (lib : ℕ) (b : Bundle) (j : IsJudgeable s lib b) (acc : i
       let Z : Bool = is_among m.ino b.numbers && has_owner (creds_of s lib) (row_of core files m.ino) && lists_own b core m in
       let e = list_all-In (may_stand (settled s) (creds_of s lib) b core files) m files allowed i in
       elim (stand_cases H L W X (lists_own b core m) Z e) [
-        | inl held ↦
-            let p = and_parts (has_kind m.kind (row_at (settled s) m.ino)) (bytes_eq m.body (settled_body (settled s) m.ino)) held.1 in
-            inl (is_among-In m.ino b.holds held.0, has_kind_is m.kind (row_at (settled s) m.ino) p.0, (bytes_eq-Decides m.body (settled_body (settled s) m.ino)).0 p.1)
-        | inr rest ↦
-            elim rest [
-              | inl written ↦
-                  let r = some_of (row_at (settled s) m.ino) written.1 in
-                  inr (inl (λ k. both_ways H written.0 (In-is_among m.ino b.holds k), r.0, r.1, λ _. written.3))
-              | inr rest' ↦
-                  elim rest' [
-                    | inl live ↦
-                        let r = some_of (row_at (settled s) m.ino) live.1 in
-                        inr (inl (λ k. both_ways H live.0 (In-is_among m.ino b.holds k), r.0, r.1, λ t. absurd (both_ways W live.2 t)))
-                    | inr new ↦
-                        let p = and_parts (is_among m.ino b.numbers && has_owner (creds_of s lib) (row_of core files m.ino)) (lists_own b core m) new.2 in
-                        let q = and_parts (is_among m.ino b.numbers) (has_owner (creds_of s lib) (row_of core files m.ino)) p.0 in
-                        inr (inr (is_among-In m.ino b.numbers q.0, q.1, p.1))
-                  ]
-            ]
+        | inl held ↦ search (arith, and_parts, is_among-In, has_kind_is, bytes_eq-Decides)
+        | inr rest ↦ search (arith, some_of, both_ways, In-is_among, and_parts, is_among-In)
       ]
 
   -- a live file that isn't held is met with its row
@@ -131,9 +112,7 @@ module _ (s : State) (lib : ℕ) (b : Bundle) (j : IsJudgeable s lib b) (acc : i
       let f = written_find s lib b j w.ino (is_written_from s lib b j w i) in
       let own : kept_body (settled s) b w.ino ≡ w.body =
       ap (λ o. option_map_or (λ (w : Written). w.body) o (settled_body (settled s) w.ino)) f.3 ∙ ap (λ (w : Written). w.body) (one_keyed (λ (w : Written). w.ino) b.writes f.0 w j.given.writes_once f.1 i f.2) in
-      let at : m ≡ written_at w (Some r.0) =
-      met_same m (written_at w (Some r.0)) q.number (ap (λ (x : Row). x.kind) (sym q.row) ∙ sym r.2) (ap (λ (x : Row). x.parent) (sym q.row)) (ap (λ (x : Row). x.page) (sym q.row)) (ap (λ (x : Row). x.slot) (sym q.row))
-      (body ∙ ap (kept_body (settled s) b) q.number ∙ own) in
+      let at : m ≡ written_at w (Some r.0) = search (arith, met_same) in
       let is : m ≡ written_met c w = at ∙ ap (written_at w) (sym r.1) in
       let P : Met → Type 0 = λ x. In x files × (lists_own b core x ≡ true) in
       subst P is (q.stands, own_pages m q.stands (subst (λ n. is_written b n ≡ true) (sym q.number) (is_written_from s lib b j w i)))

@@ -1,5 +1,5 @@
 -- After an accepted bundle: the bytes of its own files, and of those that stay as they were.
-use Rattle.std.proofs.Common.{◌≡◌, ℕ, true, false, eqb, Option, Some, None, Ok, sym, refl, ap, ◌∙◌, subst, inl, inr, take, List, []}
+use Rattle.std.proofs.Common.{◌≡◌, ℕ, true, false, eqb, Option, Some, None, Ok, sym, refl, ap, ◌∙◌, subst, inl, inr, take, List, [], arith}
 use Rattle.std.specs.Prelude.{is_some, map}
 use Rattle.std.specs.List.{find}
 use Rattle.std.specs.Option.{option_and_then, unwrap_or}
@@ -176,12 +176,4 @@ module _ (s s' : State) (lib : ℕ) (b : Bundle) (j : IsJudgeable s lib b) (acc 
 
   pub live_bytes : (m : Met) (r r' : Row) → In m (survey core pick) → row_at (settled s) m.ino ≡ Some r → row_at after m.ino ≡ Some r' → r'.kind ≡ m.kind → r.kind ≡ m.kind
       → bytes_then m.ino r' ≡ bytes_after (bytes_now c m.ino) (bytes_before m.ino r)
-  live_bytes m r r' i row row' kind' kind =
-      elim (met_side s lib b j acc m i) [
-        | inl k ↦ judged_bytes m k r' row' kind' (bytes_before m.ino r) (λ d. ap (bytes_of (settled s) m.ino r (writer_of s m.ino)) (kind ∙ d))
-        | inr o ↦
-            let same : o.row ≡ r = some_one (row_at (settled s) m.ino) o.row r o.is_row row in
-            outside_bytes m i o r' row' (kind' ∙ o.kind)
-            ∙ ap (bytes_before m.ino) same
-            ∙ sym (ap (λ z. bytes_after z (bytes_before m.ino r)) (outside_unread m o))
-      ]
+  live_bytes m r r' i row row' kind' kind = search (arith, met_side, judged_bytes, some_one, outside_bytes, outside_unread)

@@ -1,11 +1,9 @@
 -- What an accepted bundle makes of the nodes is just what it shows.
-use Rattle.std.proofs.Common.{Ok, ◌≡◌, ℕ, Bool, true, false, cond, Option, Some, None, sym, refl, ap, ◌∙◌, subst, inl, inr, List, []}
+use Rattle.std.proofs.Common.{◌≡◌, ℕ, Bool, true, false, cond, Option, Some, None, sym, refl, ap, ◌∙◌, subst, inl, inr, List, [], arith}
 use Rattle.std.specs.Option.{option_map}
 use Rattle.std.proofs.lemmas.Bool.{cases_Bool, both_ways}
 use Rattle.trio_rights.specs.Row.{Row}
 use Rattle.trio_rights.specs.Bundle.{Bundle}
-use Rattle.trio_rights.specs.declared.kind.Kind.{Kind}
-use Rattle.trio_rights.specs.declared.rights.Mode.{Mode}
 use Rattle.trio_lists.specs.Lists.{In, is_among}
 use Rattle.trio_lists.proofs.Members.{In-is_among, is_among-In}
 use Rattle.trio_lists.proofs.Filters.{some_one}
@@ -13,7 +11,7 @@ use Rattle.trio_lists.proofs.New.{is_among-not}
 use Rattle.trio_layout.specs.declared.body.Body.{Body}
 use Rattle.trio_layout.specs.Body.{body_at}
 use Rattle.trio_layout.specs.Core.{Core}
-use Rattle.trio_layout.specs.Survey.{Met, Pick, FileRead, survey, file_of, row_by, row_of}
+use Rattle.trio_layout.specs.Survey.{Met, Pick, survey, row_by, row_of}
 use Rattle.trio_layout.specs.Sound.{is_sound}
 use Rattle.trio_layout.specs.Image.{Image, IsFit, row_at}
 use Rattle.trio_layout.specs.Accept.{is_accepted, next}
@@ -41,14 +39,7 @@ use Rattle.trio_laws.proofs.session.AcceptedBytes.{bytes_after, judged_bytes, li
 use Rattle.trio_laws.proofs.session.AcceptedNames.{row_then, named_then, unnamed_then, left_row}
 
 node_same : (x y : Node) → x.parent ≡ y.parent → x.name ≡ y.name → x.kind ≡ y.kind → x.mode ≡ y.mode → x.uid ≡ y.uid → x.gid ≡ y.gid → x.bytes ≡ y.bytes → x ≡ y
-node_same x y parent name kind mode uid gid bytes =
-    ap (λ (z : ℕ). record x { parent = z }) parent
-    ∙ ap (λ (z : List ℕ). record x { parent = y.parent; name = z }) name
-    ∙ ap (λ (z : Kind). record x { parent = y.parent; name = y.name; kind = z }) kind
-    ∙ ap (λ (z : Mode). record x { parent = y.parent; name = y.name; kind = y.kind; mode = z }) mode
-    ∙ ap (λ (z : ℕ). record x { parent = y.parent; name = y.name; kind = y.kind; mode = y.mode; uid = z }) uid
-    ∙ ap (λ (z : ℕ). record x { parent = y.parent; name = y.name; kind = y.kind; mode = y.mode; uid = y.uid; gid = z }) gid
-    ∙ ap (λ (z : List ℕ). record y { bytes = z }) bytes
+node_same x y parent name kind mode uid gid bytes = search arith
 
 -- a node, once its bytes are replaced
 with_is : (o : Option (List ℕ)) (x y : Node) → y.parent ≡ x.parent → y.name ≡ x.name → y.kind ≡ x.kind → y.mode ≡ x.mode → y.uid ≡ x.uid → y.gid ≡ x.gid → y.bytes ≡ bytes_after o x.bytes → y ≡ with_bytes o x
@@ -101,9 +92,6 @@ module _ (s s' : State) (lib : ℕ) (b : Bundle) (j : IsJudgeable s lib b) (acc 
   shown_met m i =
       ap (node_by after m.ino (writer_of s' m.ino)) row ∙ by (naming_of c m.ino) (row_at (settled s) m.ino) refl refl
     where
-      F : (f : FileRead) × (file_of core m ≡ Ok f) × (row_at (next (settled s) b) m.ino ≡ Some (row_by m f.body))
-      F = row_then s lib b j acc m i
-
       row : row_at (next (settled s) b) m.ino ≡ Some (row_by m (row_then s lib b j acc m i).0.body)
       row = (row_then s lib b j acc m i).2
 
@@ -203,11 +191,7 @@ module _ (s s' : State) (lib : ℕ) (b : Bundle) (j : IsJudgeable s lib b) (acc 
           subst (λ k. node_by after k (writer_of s' k) (row_at after k) ≡ node_now c k (before k (row_at (settled s) k))) q.number (shown_met q.met q.stands)
 
   pub nodes_then : Kept s' → (n : ℕ) → node_at (nodes_of s') n ≡ node_now c n (node_at (nodes_of s) n)
-  nodes_then kept' n =
-      node_is s' kept' n
-      ∙ ap (λ (x : Image). node_by x n (writer_of s' n) (row_at x n)) ends.settles
-      ∙ shown_after n
-      ∙ ap (node_now c n) (sym (node_is s j.kept n))
+  nodes_then kept' n = search (arith, node_is, shown_after)
 
 pub accepted_is_shown : AcceptedIsShown
 accepted_is_shown s s' lib b j acc ends n =

@@ -1,11 +1,10 @@
 -- What is ready is accepted.
-use Rattle.std.proofs.Common.{◌≡◌, ℕ, true, ◌&&◌, List, Some, sym, ap, ◌∙◌, subst}
+use Rattle.std.proofs.Common.{◌≡◌, ℕ, true, List, Some, sym, ap, ◌∙◌, subst, arith}
 use Rattle.std.specs.Prelude.{map, is_some, IsTrue}
 use Rattle.std.proofs.lemmas.Bool.{and_from}
 use Rattle.trio_rights.specs.Row.{Row}
 use Rattle.trio_rights.specs.declared.rights.Creds.{Creds}
 use Rattle.trio_nodes.specs.declared.grant.GrantKind.TheVariants.{Write}
-use Rattle.trio_layout.specs.declared.range.CoreRange.{CoreRange}
 use Rattle.trio_lists.specs.Lists.{In}
 use Rattle.trio_lease.specs.Shown.{Shown}
 use Rattle.trio_desk.specs.Out.{Parcel, ino_numbers}
@@ -20,7 +19,7 @@ use Rattle.trio_lists.proofs.Members.{In-map, map-In}
 use Rattle.trio_layout.specs.Case.{Case, Held, case_of}
 use Rattle.trio_layout.specs.Listing.{listing}
 use Rattle.trio_layout.specs.Edges.{meets_edges}
-use Rattle.trio_layout.specs.Rules.{meets_grammar, meets_owning, meets_rights, meets_rules}
+use Rattle.trio_layout.specs.Rules.{meets_rules}
 use Rattle.trio_laws.specs.RuleLaws.{IsJudgeable}
 use Rattle.trio_laws.proofs.judgement.Allowing.{rules_allow}
 use Rattle.trio_nodes.specs.declared.call.Done.{Done}
@@ -85,18 +84,10 @@ module _ (s : State) (desk : DeskSeen) (b : Parcel) (back : List Shown) (calls :
   body_of_hold h w = w.body ∙ (m.judgeable.kept.held w.grant w.is_open w.kind).1 ∙ ap (settled_body (settled s)) w.ino
 
   lent_bodies : map held_in b.holds ≡ map (held_at (settled s)) (bundle_of b).holds
-  lent_bodies =
-      map-each held_in (λ h. held_at (settled s) h.ino) b.holds (λ h i. (let to : List ℕ → Held = λ body. record { ino = h.ino; body = body } in ap to (body_of_hold h (m.holds h i))))
-      ∙ sym (map-map (held_at (settled s)) (λ (h : HoldParts). h.ino) b.holds)
+  lent_bodies = search (arith, map-each, body_of_hold, map-map)
 
   case_same : parcel_case desk.sizes creds s.home.rows b ≡ case_of (settled s) (creds_of s lib) (bundle_of b)
-  case_same =
-      let a : List Held → Case = λ l. record { bundle = bundle_of b; lent = l; rows = s.home.rows; creds = creds; range = desk.sizes.range; inodes = desk.sizes.inodes } in
-      let l : List Held = map (held_at (settled s)) (bundle_of b).holds in
-      let c : Creds → Case = λ x. record { bundle = bundle_of b; lent = l; rows = s.home.rows; creds = x; range = desk.sizes.range; inodes = desk.sizes.inodes } in
-      let r : CoreRange → Case = λ x. record { bundle = bundle_of b; lent = l; rows = s.home.rows; creds = creds_of s lib; range = x; inodes = desk.sizes.inodes } in
-      let i : ℕ → Case = λ x. record { bundle = bundle_of b; lent = l; rows = s.home.rows; creds = creds_of s lib; range = s.home.core.range; inodes = x } in
-      ap a lent_bodies ∙ ap c m.creds ∙ ap r m.range ∙ ap i m.inodes
+  case_same = search (arith, lent_bodies)
 
   pub none_new : HasNone (nodes_of s) (ino_numbers b.inodes)
   none_new n i =
@@ -121,9 +112,7 @@ module _ (s : State) (desk : DeskSeen) (b : Parcel) (back : List Shown) (calls :
       let c : Case = case_of (settled s) (creds_of s lib) (bundle_of b) in
       let t = shown_then in
       let edges : meets_edges (listing c) c.rows ≡ true = edges_follow c (nodes_of s) _ (states_are_trees s m.judgeable.kept) tree_then (among s lib (bundle_of b) m.judgeable) t (rows_many s m.judgeable.kept) in
-      and_from (meets_grammar c && meets_owning c && meets_edges (listing c) c.rows) (meets_rights c)
-      (and_from (meets_grammar c && meets_owning c) (meets_edges (listing c) c.rows) (and_from (meets_grammar c) (meets_owning c) t.grammar t.owning) edges)
-      t.rights
+      search (arith, and_from)
 
 pub ready_is_accepted : ReadyIsAccepted
 ready_is_accepted s desk b back calls m ready =

@@ -1,7 +1,6 @@
 -- What is judged reads the same where the bundle has more pages; and what is possible with more in hand was possible with less.
-use Rattle.std.proofs.Common.{◌≡◌, ℕ, true, is_ok, List, [], ◌++◌, Option, Some, Ok, sym, ap, ◌∙◌, subst}
+use Rattle.std.proofs.Common.{◌≡◌, ℕ, true, is_ok, List, [], ◌++◌, Option, Some, Ok, sym, ap, ◌∙◌, subst, arith}
 use Rattle.std.specs.Prelude.{map}
-use Rattle.std.specs.List.{list_all}
 use Rattle.std.specs.Option.{option_map}
 use Rattle.std.proofs.lemmas.Bool.{and_parts, and_from}
 use Rattle.trio_rights.specs.Row.{Row, row_in}
@@ -20,7 +19,7 @@ use Rattle.trio_layout.specs.Survey.{Met, FileRead, plain, pages_in, children_in
 use Rattle.trio_layout.specs.Case.{Case, Held, bundle_core}
 use Rattle.trio_layout.specs.Within.{file_within}
 use Rattle.trio_layout.specs.JudgedFiles.{entries_in, judged_entries, judged_files, judged_pages, pages_within}
-use Rattle.trio_layout.specs.Rules.{entry_in_grammar, entry_is_own}
+use Rattle.trio_layout.specs.Rules.{entry_is_own}
 use Rattle.trio_nodes.specs.declared.node.Node.{Node}
 use Rattle.trio_nodes.specs.Nodes.{Nodes, node_at}
 use Rattle.trio_desk.specs.Contents.{Sizes}
@@ -76,9 +75,7 @@ module _ (sizes : Sizes) (creds : Creds) (rows : List (Option Row)) (b b' : Bund
   c' = case_with sizes creds rows b' lent'
 
   pub judged_reads : (m : Met) → In m (judged_files (case_with sizes creds rows b lent)) → (f : FileRead) × (file_within (bundle_core (case_with sizes creds rows b lent)) m ≡ Ok f)
-  judged_reads m i =
-      is_ok-Ok (file_within (bundle_core c) m)
-      (list_all-In (λ m. is_ok (file_within (bundle_core c) m)) m (judged_files c) (and_parts _ (list_all (entry_in_grammar c) (judged_entries c)) s.grammar).0 i)
+  judged_reads m i = search (arith, is_ok-Ok, list_all-In, is_ok, and_parts)
 
   pub judged_page : (m : Met) (p : ℕ) → In m (judged_files (case_with sizes creds rows b lent)) → In p (pages_within (case_with sizes creds rows b lent) m) → In p (bundle_pages b)
   judged_page m p i j =

@@ -1,5 +1,5 @@
 -- Two walks that begin with other files, but with the same children.
-use Rattle.std.proofs.Common.{◌≡◌, ℕ, suc, zero, ◌≤◌, cond, ◌||◌, eqb, List, [], ◌∷◌, ◌++◌, append_assoc, sym, refl, ap, ◌∙◌, subst, inl, inr, arith}
+use Rattle.std.proofs.Common.{◌≡◌, ℕ, suc, zero, ◌≤◌, ◌||◌, eqb, List, [], ◌∷◌, ◌++◌, append_assoc, sym, refl, ap, ◌∙◌, subst, inl, inr, arith}
 use Rattle.std.specs.List.{flat_map}
 use Rattle.std.proofs.lemmas.Bool.{cases_eq}
 use Rattle.std.proofs.lemmas.List.{append-nil, map-append}
@@ -20,9 +20,7 @@ first_same L seen seen' (m ∷ ms) same all =
     first_same L (seen ++ m.ino ∷ []) (seen' ++ m.ino ∷ []) ms
     (λ n l. is_among-push n m.ino seen' ∙ ap (λ b. b || eqb m.ino n) (same n l) ∙ sym (is_among-push n m.ino seen))
     (λ x i. all x (inr i)) in
-    ap (λ b. cond b (first_listed seen' ms) (m ∷ first_listed (seen' ++ m.ino ∷ []) ms)) here
-    ∙ ap (λ l. cond (is_among m.ino seen) l (m ∷ first_listed (seen' ++ m.ino ∷ []) ms)) on
-    ∙ ap (λ l. cond (is_among m.ino seen) (first_listed seen ms) (m ∷ l)) push
+    search arith
 
 -- files that are passed stay passed
 pub passed_more : (kids : Met → List Met) (starts : List Met) (m : Met) (k n : ℕ) → k ≤ n → In m (fronts kids starts k).passed → In m (fronts kids starts n).passed
@@ -66,14 +64,7 @@ module _ (L : ℕ → Type 0) (kids kids' : Met → List Met) (starts starts' : 
         }
 
     among_more : (x : ℕ) (rest level : List Met) → L x → is_among x (numbers ((starts' ++ rest) ++ level)) ≡ is_among x (numbers ((starts ++ rest) ++ level))
-    among_more x rest level l =
-        split starts' ∙ ap (λ b. b || is_among x (numbers (rest ++ level))) (among x l) ∙ sym (split starts)
-      where
-        split : (ms : List Met) → is_among x (numbers ((ms ++ rest) ++ level)) ≡ (is_among x (numbers ms) || is_among x (numbers (rest ++ level)))
-        split ms =
-            ap (λ z. is_among x (numbers z)) (append_assoc ms rest level)
-            ∙ ap (is_among x) (map-append (λ (m : Met). m.ino) ms (rest ++ level))
-            ∙ is_among-append x (numbers ms) (numbers (rest ++ level))
+    among_more x rest level l = search (arith, append_assoc, map-append, is_among-append)
 
     alike_more : (k : ℕ) → suc k ≤ n → Alike k → Alike (suc k)
     alike_more k h a =

@@ -1,26 +1,22 @@
 -- A call that is noted keeps what a session would hand in ready.
-use Rattle.std.proofs.Common.{◌≡◌, ℕ, suc, zero, ◌&&◌, eqb, is_ok, List, [], ◌∷◌, ◌++◌, Option, Some, None, sym, refl, ap, ◌∙◌, subst, inl, inr}
-use Rattle.std.specs.List.{flat_map, find, list_all}
-use Rattle.std.specs.Option.{option_map, option_and_then}
+use Rattle.std.proofs.Common.{◌≡◌, ℕ, suc, zero, is_ok, List, [], ◌∷◌, ◌++◌, Option, Some, None, sym, refl, ap, ◌∙◌, subst, inl, inr, arith}
+use Rattle.std.specs.Option.{option_map}
 use Rattle.std.proofs.lemmas.Bool.{false≢true}
 use Rattle.trio_rights.specs.Row.{Row}
 use Rattle.trio_rights.specs.declared.rights.Creds.{Creds}
-use Rattle.trio_lists.specs.Lists.{In, is_among, are_new}
+use Rattle.trio_lists.specs.Lists.{In}
 use Rattle.trio_lists.proofs.Members.{In-left}
-use Rattle.trio_layout.specs.Survey.{Met, Front, numbers, descend}
+use Rattle.trio_layout.specs.Survey.{Met, Front, descend}
 use Rattle.trio_lease.specs.Shown.{Shown}
-use Rattle.trio_rights.specs.Bundle.{bundle_pages}
-use Rattle.trio_layout.specs.Case.{Case, bundle_core}
-use Rattle.trio_layout.specs.Within.{file_within}
-use Rattle.trio_layout.specs.JudgedFiles.{fronts, new_entries, judged_files, entries_in, pages_within}
-use Rattle.trio_layout.specs.Rules.{entry_in_grammar, entry_is_own, entry_keeps_rights, file_keeps_rights}
+use Rattle.trio_layout.specs.Case.{Case}
+use Rattle.trio_layout.specs.JudgedFiles.{fronts, new_entries, judged_files}
 use Rattle.trio_nodes.specs.declared.node.Node.{Node}
 use Rattle.trio_nodes.specs.declared.call.Done.{Done}
-use Rattle.trio_nodes.specs.Nodes.{Nodes, node_at}
+use Rattle.trio_nodes.specs.Nodes.{Nodes}
 use Rattle.trio_nodes.specs.Apply.{Apply}
 use Rattle.trio_nodes.specs.After.{call_nodes, batch_nodes}
 use Rattle.trio_nodes.specs.Legal.{MadeFits, LegalCalls}
-use Rattle.trio_desk.specs.Shows.{Naming, namings_in, bytes_read, with_bytes, node_left, Shows}
+use Rattle.trio_desk.specs.Shows.{with_bytes, Shows}
 use Rattle.trio_desk.specs.Call.{DeskSeen}
 use Rattle.trio_desk.specs.Ready.{ArePossible, lent_files, parcel_case}
 use Rattle.trio_nodes.specs.Tree.{IsTree}
@@ -73,20 +69,7 @@ module _ (desk : DeskSeen) (rows : List (Option Row)) where
   none_judged = ap (λ (w : Front). w.passed) (no_fronts (new_entries c0) (suc c0.inodes))
 
   nothing_shows : (nodes : Nodes) → Shows c0 nodes nodes
-  nothing_shows nodes = record {
-    grammar =
-        ap (λ (js : List Met). list_all (λ m. is_ok (file_within (bundle_core c0) m)) js && list_all (entry_in_grammar c0) (flat_map (entries_in c0) js)) none_judged;
-    owning =
-        ap (λ (js : List Met). list_all (λ page. is_among page (bundle_pages c0.bundle)) (flat_map (pages_within c0) js) && are_new [] (flat_map (pages_within c0) js)
-        && list_all (entry_is_own c0) (flat_map (entries_in c0) js) && are_new [] (numbers (flat_map (entries_in c0) js))) none_judged;
-    rights =
-        ap (λ (js : List Met). list_all (entry_keeps_rights c0) (flat_map (entries_in c0) js) && list_all (λ m. file_keeps_rights c0 m (file_within (bundle_core c0) m)) js) none_judged;
-    each =
-        λ n. sym (ap (λ (js : List Met). option_map (with_bytes (option_and_then (λ m. bytes_read (bundle_core c0) m.kind (file_within (bundle_core c0) m)) (find (λ (m : Met). eqb m.ino n) js)))
-        (node_left c0 n (find (λ (e : Naming). eqb e.listed.entry.ino n) (flat_map (λ (m : Met). namings_in m.ino (file_within (bundle_core c0) m)) js)) (node_at nodes n))) none_judged
-        ∙ bytes_same (node_at nodes n));
-    whole = λ n x e i. absurd (false≢true (sym (ap (λ (js : List Met). is_among x.parent (numbers js)) none_judged) ∙ i));
-  }
+  nothing_shows nodes = search (arith, is_ok, none_judged, bytes_same, false≢true)
 
 pub nothing_is_ready : NothingIsReady
 nothing_is_ready desk back nodes rows possible = (tt, nothing_shows desk rows nodes)

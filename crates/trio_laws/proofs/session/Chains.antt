@@ -1,9 +1,7 @@
 -- What a file reads, by its index pages and its blocks.
-use Rattle.std.proofs.Common.{◌≡◌, ℕ, suc, zero, ◌+◌, ◌-◌, ◌*◌, ◌<◌, ◌≤◌, Bool, true, ◌&&◌, cond, eqb, min, List, [], ◌∷◌, ◌++◌, length, take, drop, append_assoc, Option, Some, None, Ok, sym, refl, ap, ◌∙◌, subst, inl, inr, ◌⊎◌, arith, take-append-drop}
+use Rattle.std.proofs.Common.{◌≡◌, ℕ, suc, zero, ◌+◌, ◌-◌, ◌*◌, ◌<◌, ◌≤◌, Bool, true, eqb, min, List, [], ◌∷◌, ◌++◌, length, take, drop, append_assoc, Option, Some, None, Ok, sym, refl, ap, ◌∙◌, subst, inl, inr, ◌⊎◌, arith, take-append-drop}
 use Rattle.std.specs.Prelude.{slice_index_or, is_some}
-use Rattle.std.specs.List.{list_all}
 use Rattle.std.specs.Option.{unwrap_or}
-use Rattle.std.specs.Str.{bytes_eq}
 use Rattle.std.proofs.lemmas.Bool.{and_parts, cases_lt, eqb-true, eq-eqb, false≢true}
 use Rattle.std.proofs.lemmas.Bool.Decides.{nat_tests}
 use Rattle.std.proofs.lemmas.List.{append-nil, drop-drop, drop-take, drop_all, length-append, length-drop, nil_from_length, take_all}
@@ -17,11 +15,10 @@ use Rattle.trio_lists.proofs.New.{are_new-first}
 use Rattle.trio_lists.proofs.Filters.{get_or-In}
 use Rattle.trio_layout.specs.declared.body.Body.{Body}
 use Rattle.trio_layout.specs.declared.range.CoreRange.{CoreRange}
-use Rattle.trio_layout.specs.Body.{block_count, body_at, body_bytes, body_fits, body_of, head_fits}
+use Rattle.trio_layout.specs.Body.{block_count, body_of}
 use Rattle.trio_layout.specs.Chain.{Chain, index_count, with_index}
 use Rattle.trio_layout.specs.Core.{Core, at_page, page_of}
-use Rattle.trio_layout.specs.Range.{is_core}
-use Rattle.trio_layout.specs.Index.{Index, index_at, index_bytes, index_fits, index_of, link_fits}
+use Rattle.trio_layout.specs.Index.{Index, index_of, link_fits}
 use Rattle.trio_layout.specs.Within.{chain_within, entries_within, index_within}
 use Rattle.trio_layout.proofs.WithinCore.{rest_of, within_from, within_to}
 use Rattle.trio_desk.specs.Shows.{pages_bytes}
@@ -41,11 +38,7 @@ share_behind core page index blocks k s =
     record {
       bytes = s.bytes;
       there = s.there;
-      names =
-          ap (λ u. index_of u (eqb (suc k) (length index)) core.range s.bytes) used
-          ∙ ap (λ t. index_of (min (length blocks - 511 * suc k) 511) t core.range s.bytes) last
-          ∙ s.names
-          ∙ ap of (sym numbers);
+      names = search (arith, min);
     }
 
 pub named_chain : (core : Core) (index blocks : List ℕ) → length blocks ≤ 511 * length index → ((k : ℕ) → k < length index → NamesShare core index blocks k)
@@ -76,11 +69,7 @@ reads_named core m body index blocks kind reads count head named =
     let pages : index_count (block_count body.size) ≡ length index = ap index_count count ∙ sym many in
     within_to core m (record { body = body; chain = record { index = index; blocks = blocks }; entries = [] }) (record {
       body = ap (λ k. body_of k core.range m.body) kind ∙ reads;
-      chain =
-          ap (λ n. chain_within core n (block_count body.size) body.head) pages
-          ∙ ap (λ n. chain_within core (length index) n body.head) count
-          ∙ ap (chain_within core (length index) (length blocks)) head
-          ∙ chain;
+      chain = search arith;
       entries = ap (λ k. entries_within core k blocks) kind;
     })
 
@@ -101,11 +90,7 @@ bytes_many core (page ∷ pages) there =
     ap length (page_bytes core page pages t.0 t.1) ∙ length-append t.0 (pages_bytes core pages) ∙ omega (arith, one, ih)
 
 pub bytes_cut : BytesCut
-bytes_cut core [] n there = by n
-  where
-    by : (n : ℕ) → pages_bytes core (take n []) ≡ take (4096 * n) []
-    by zero = refl
-    by (suc n) = sym (take_all (4096 * suc n) [] (omega arith))
+bytes_cut core [] n there = search (arith, take_all, page_bytes, take-append-add)
 bytes_cut core (page ∷ pages) zero there = refl
 bytes_cut core (page ∷ pages) (suc n) there =
     let t = there page (inl refl) in
@@ -141,13 +126,7 @@ bytes_put core core' (page ∷ pages) (suc k) bytes once there l now same =
     ap (take (4096 * suc k)) (page_bytes core page pages t.0 t.1) ∙ ap (λ n. take n (t.0 ++ old)) a ∙ take-append-add t.0 old (4096 * k) in
     let back : drop (4096 * suc (suc k)) (pages_bytes core (page ∷ pages)) ≡ drop (4096 * suc k) old =
     ap (drop (4096 * suc (suc k))) (page_bytes core page pages t.0 t.1) ∙ ap (λ n. drop n (t.0 ++ old)) b ∙ drop-append-add t.0 old (4096 * suc k) in
-    page_bytes core' page pages t.0 (same page (inl refl) other ∙ t.1)
-    ∙ ap (λ r. t.0 ++ r) ih
-    ∙ ap (λ r. t.0 ++ r) (append_assoc (take (4096 * k) old) bytes (drop (4096 * suc k) old))
-    ∙ sym (append_assoc t.0 (take (4096 * k) old) (bytes ++ drop (4096 * suc k) old))
-    ∙ ap (λ r. r ++ (bytes ++ drop (4096 * suc k) old)) (sym front)
-    ∙ ap (λ r. take (4096 * suc k) (pages_bytes core (page ∷ pages)) ++ (bytes ++ r)) (sym back)
-    ∙ sym (append_assoc (take (4096 * suc k) (pages_bytes core (page ∷ pages))) bytes (drop (4096 * suc (suc k)) (pages_bytes core (page ∷ pages))))
+    search (arith, page_bytes, append_assoc)
 
 -- ---- shares that stay
 
@@ -160,21 +139,7 @@ share_front blocks k =
     sym (ap (λ n. drop (511 * k) (take n blocks)) (sym at) ∙ drop-take (511 * k) 511 blocks)
 
 pub shares_stay : SharesStay
-shares_stay core core' index index' blocks blocks' k range page last next l l' same s =
-    let of : List ℕ → ℕ → Option Index = λ n x. Some (record { numbers = n; next = x }) in
-    let used : min (length blocks' - 511 * k) 511 ≡ min (length blocks - 511 * k) 511 = full_share blocks' k l' ∙ sym (full_share blocks k l) in
-    let numbers : take 511 (drop (511 * k) blocks) ≡ take 511 (drop (511 * k) blocks') = share_front blocks k ∙ ap (drop (511 * k)) (sym same) ∙ sym (share_front blocks' k) in
-    record {
-      bytes = s.bytes;
-      there = page ∙ s.there;
-      names =
-          ap (λ u. index_of u (eqb (suc k) (length index')) core'.range s.bytes) used
-          ∙ ap (λ t. index_of (min (length blocks - 511 * k) 511) t core'.range s.bytes) last
-          ∙ ap (λ r. index_of (min (length blocks - 511 * k) 511) (eqb (suc k) (length index)) r s.bytes) range
-          ∙ s.names
-          ∙ ap (λ n. of n (slice_index_or index (suc k) 0)) numbers
-          ∙ ap (of (take 511 (drop (511 * k) blocks'))) (sym next);
-    }
+shares_stay core core' index index' blocks blocks' k range page last next l l' same s = search (arith, min, full_share, share_front)
 
 -- ---- from what is read to index pages
 
@@ -198,26 +163,12 @@ parts count xs ys a b =
 -- an index page has as many numbers as are wanted, and the last one no link
 index_has : (range : CoreRange) (used : ℕ) (last : Bool) (bytes : List ℕ) (i : Index) → index_of used last range bytes ≡ Some i → (length i.numbers ≡ used) × (link_fits last range i.next ≡ true)
 unfolding index_of
-index_has range used last bytes i e =
-    let x : Index = index_at used bytes in
-    let k = cond_some (bytes_eq bytes (index_bytes x) && index_fits used last range x) x i e in
-    let fits = (and_parts (bytes_eq bytes (index_bytes x)) (index_fits used last range x) k.0).1 in
-    let p = and_parts (eqb (length x.numbers) used && list_all (is_core range) x.numbers) (link_fits last range x.next) fits in
-    let q = and_parts (eqb (length x.numbers) used) (list_all (is_core range) x.numbers) p.0 in
-    let P : Index → Type 0 = λ y. (length y.numbers ≡ used) × (link_fits last range y.next ≡ true) in
-    subst P k.1 (eqb-true (length x.numbers) used q.0, p.1)
+index_has range used last bytes i e = search (arith, cond_some, and_parts, eqb-true)
 
 -- a file without blocks has no head
 no_head : (kind : Kind) (range : CoreRange) (bytes : List ℕ) (b : Body) → body_of kind range bytes ≡ Some b → block_count b.size ≡ 0 → b.head ≡ 0
 unfolding body_of
-no_head kind range bytes b e none =
-    let x : Body = body_at bytes in
-    let k = cond_some (bytes_eq bytes (body_bytes x) && body_fits kind range x) x b e in
-    let fits = (and_parts (bytes_eq bytes (body_bytes x)) (body_fits kind range x) k.0).1 in
-    let head : head_fits range (block_count x.size) x.head ≡ true = (and_parts _ (head_fits range (block_count x.size) x.head) fits).1 in
-    let P : Body → Type 0 = λ y. head_fits range (block_count y.size) y.head ≡ true in
-    let now : head_fits range (block_count b.size) b.head ≡ true = subst P k.1 head in
-    eqb-true b.head 0 (sym (ap (λ t. cond t (eqb b.head 0) (is_core range b.head)) (eq-eqb (block_count b.size) 0 none)) ∙ now)
+no_head kind range bytes b e none = search (arith, cond_some, and_parts, eqb-true, eq-eqb)
 
 -- the share of an index page, with one index page more in front
 share_ahead : (core : Core) (page : ℕ) (index blocks : List ℕ) (k : ℕ) → NamesShare core index (drop 511 blocks) k → NamesShare core (page ∷ index) blocks (suc k)
@@ -231,11 +182,7 @@ share_ahead core page index blocks k s =
     record {
       bytes = s.bytes;
       there = s.there;
-      names =
-          ap (λ u. index_of u (eqb (suc (suc k)) (length (page ∷ index))) core.range s.bytes) used
-          ∙ ap (λ t. index_of (min (length (drop 511 blocks) - 511 * k) 511) t core.range s.bytes) last
-          ∙ s.names
-          ∙ ap of numbers;
+      names = search (arith, min);
     }
 
 -- what a chain that reads says of its pages
@@ -256,26 +203,9 @@ says_step core n count at bytes i r fits there reads s =
     let all : length (i.numbers ++ r.blocks) ≡ count = omega (arith, length-append i.numbers r.blocks, many, left) in
     let used : min (length (i.numbers ++ r.blocks) - 511 * 0) 511 ≡ min count 511 = omega (arith, all) in
     let last : eqb 1 (length (at ∷ r.index)) ≡ eqb n 0 = grind (arith, nat_tests) in
-    let next : i.next ≡ slice_index_or r.index 0 0 =
-    elim s.head [
-      | inr same ↦ sym same
-      | inl none ↦
-          let end : i.next ≡ 0 = eqb-true i.next 0 (sym (ap (λ t. cond t (eqb i.next 0) (is_core core.range i.next)) (eq-eqb n 0 none)) ∙ has.1) in
-          let empty : r.index ≡ [] = nil_from_length r.index (omega (arith, deep, none)) in
-          end ∙ sym (ap (λ l. slice_index_or l 0 0) empty)
-    ] in
+    let next : i.next ≡ slice_index_or r.index 0 0 = search (arith, eqb-true, eq-eqb, nil_from_length) in
     let of : List ℕ → ℕ → Option Index = λ l x. Some (record { numbers = l; next = x }) in
-    let first : NamesShare core (at ∷ r.index) (i.numbers ++ r.blocks) 0 =
-    record {
-      bytes = bytes;
-      there = there;
-      names =
-          ap (λ u. index_of u (eqb 1 (length (at ∷ r.index))) core.range bytes) used
-          ∙ ap (λ t. index_of (min count 511) t core.range bytes) last
-          ∙ reads
-          ∙ ap (λ l. of l i.next) (sym p.0)
-          ∙ ap (of (take 511 (i.numbers ++ r.blocks))) next;
-    } in
+    let first : NamesShare core (at ∷ r.index) (i.numbers ++ r.blocks) 0 = search (arith, min) in
     let later : (k : ℕ) → k < length r.index → NamesShare core (at ∷ r.index) (i.numbers ++ r.blocks) (suc k) =
     λ k h. share_ahead core at r.index (i.numbers ++ r.blocks) k (subst (λ l. NamesShare core r.index l k) (sym p.1) (s.each k h)) in
     record { pages = omega (arith, deep); blocks = all; head = inr refl; each = shares first later }
@@ -286,11 +216,7 @@ says_step core n count at bytes i r fits there reads s =
     shares f l (suc k) h = l k (omega arith)
 
 chain_says : (core : Core) (n count at : ℕ) (c : Chain) → count ≤ 511 * n → chain_within core n count at ≡ Ok c → ((page : ℕ) → In page c.index → is_some (page_of core page) ≡ true) → Says core n count at c
-chain_says core zero count at c fits e there =
-    let none : Ok (record { index = []; blocks = [] }) ≡ Ok c = e in
-    let same : record { index = []; blocks = [] } ≡ c = cc none in
-    let zero' : 0 ≡ count = omega arith in
-    subst (λ x. Says core 0 count at x) same (record { pages = refl; blocks = zero'; head = inl refl; each = λ k h. absurd (omega arith) })
+chain_says core zero count at c fits e there = search (arith, Says, min, false≢true, result_then-Ok, result_map-Ok, says_step, there_or-Ok)
 chain_says core (suc n) count at c fits e there = by (page_of core at) refl (λ i r fits' k t. chain_says core n (count - 511) i.next r fits' k t) e
   where
     by : (o : Option (List ℕ)) → page_of core at ≡ o → ((i : Index) (r : Chain) → count - 511 ≤ 511 * n → rest_of core n count i ≡ Ok r → ((page : ℕ) → In page r.index → is_some (page_of core page) ≡ true) → Says core n (count - 511) i.next r)
@@ -317,12 +243,5 @@ named_reads core m f e there =
     let fits : count ≤ 511 * index_count count = omega arith in
     let s = chain_says core (index_count count) count f.body.head f.chain fits r.chain there in
     let pages = s.pages in
-    let head : f.body.head ≡ slice_index_or f.chain.index 0 0 =
-    elim s.head [
-      | inr same ↦ sym same
-      | inl none ↦
-          let no_blocks : count ≡ 0 = omega (arith, none) in
-          let empty : f.chain.index ≡ [] = nil_from_length f.chain.index (omega (arith, pages, none)) in
-          no_head m.kind core.range m.body f.body r.body no_blocks ∙ sym (ap (λ l. slice_index_or l 0 0) empty)
-    ] in
+    let head : f.body.head ≡ slice_index_or f.chain.index 0 0 = search (arith, nil_from_length, no_head) in
     (record { many = s.pages ∙ ap index_count (sym s.blocks); each = s.each }, sym s.blocks, head)

@@ -1,6 +1,6 @@
 -- A chmod whose walk comes to a file is done for the owner or uid 0, and denied to all others; so it is replied as a change of mode is
 -- answered.
-use Rattle.std.proofs.Common.{◌≡◌, ◌≢◌, ℕ, Bool, true, false, not, ◌==◌, ◌&&◌, ◌||◌, List, [], Option, Some, None, Result, Ok, Err, sym, refl, ap, ◌∙◌, subst, inl, inr}
+use Rattle.std.proofs.Common.{◌≡◌, ◌≢◌, ℕ, Bool, true, false, not, ◌==◌, ◌&&◌, ◌||◌, List, [], Option, Some, None, Result, Ok, Err, sym, refl, ap, ◌∙◌, subst, inl, inr, arith}
 use Rattle.std.specs.Prelude.{if◌then◌else◌}
 use Rattle.std.specs.Option.{ok_or, option_map}
 use Rattle.std.proofs.lemmas.Bool.{ne_eqb, false≢true}
@@ -11,14 +11,13 @@ use Rattle.trio_rights.specs.declared.rights.Need.{Need}
 use Rattle.trio_nodes.specs.declared.node.Node.{Node}
 use Rattle.trio_nodes.specs.declared.call.Answer.TheVariants.{Done}
 use Rattle.trio_nodes.specs.declared.call.Call.{Call}
-use Rattle.trio_nodes.specs.declared.call.Call.TheVariants.{Mkdir, Create, Write, Read, Truncate, Unlink, Rmdir, Rename, List as ListNames, Stat, Chmod}
 use Rattle.trio_nodes.specs.declared.call.Reply.{Reply}
 use Rattle.trio_nodes.specs.declared.call.Reply.TheVariants.{Ok as Replied, NotFound, NotDir, Denied}
 use Rattle.trio_nodes.specs.Apply.{Applied, Apply, applied, done, listed_in, of_node, reached, refused}
-use Rattle.trio_nodes.specs.After.{moded_nodes, moded_node}
+use Rattle.trio_nodes.specs.After.{moded_nodes}
 use Rattle.trio_nodes.specs.Nodes.{Nodes, find_named, node_at, with_node}
 use Rattle.trio_nodes.specs.Tree.{IsTree}
-use Rattle.trio_nodes.specs.Walk.{Path, and_then, dir_of, enter, enter_node, is_root, is_directory, lacks, name_of, need_at, walk, walk_into}
+use Rattle.trio_nodes.specs.Walk.{Path, and_then, dir_of, enter, enter_node, is_directory, lacks, name_of, need_at, walk, walk_into}
 use Rattle.trio_onetree.proofs.Children.{find_named-Child}
 use Rattle.trio_nodes.specs.Legal.{LegalChmod, is_owner}
 use Rattle.trio_nodes.specs.declared.answers.ModeFault.{ModeFault}
@@ -72,36 +71,15 @@ module _ (nodes : Nodes) (creds : Creds) (ino mode : ℕ) where
 
   listed : (path : Path) (m : Mode) (dir : ℕ) (o : Option ℕ) (x : Node) → node_at nodes ino ≡ Some x → option_map (as_moded m) o ≡ Some (record { ino = ino; mode = mode })
       → reached nodes (ok_or o NotFound) (λ n. of_node nodes (node_at nodes n) (on_node m n)) ≡ outcome (owns x) x
-  listed path m dir None x at e = absurd cc
-  listed path m dir (Some n) x at e =
-      let got : Moded = as_moded m n in
-      let is : Some got ≡ Some (record { ino = ino; mode = mode }) = e in
-      let both : got ≡ record { ino = ino; mode = mode } = cc is in
-      let number : n ≡ ino = ap (λ (w : Moded). w.ino) both in
-      let bits : m.0 ≡ mode = ap (λ (w : Moded). w.mode) both in
-      ap (λ k. of_node nodes (node_at nodes k) (on_node m k)) number
-      ∙ ap (λ o. of_node nodes o (on_node m ino)) at
-      ∙ ap (λ k. on_node (record { 0 = k }) ino x) bits
+  listed path m dir o x at e = search arith
 
   walked : (path : Path) (m : Mode) (root : Bool) (w : Result ℕ Reply) (x : Node) → node_at nodes ino ≡ Some x
       → (if root then None else moded_in nodes (name_of path) m w) ≡ Some (record { ino = ino; mode = mode })
       → (if root then refused nodes Denied else reached nodes w (λ dir. listed_in nodes dir path (on_node m))) ≡ outcome (owns x) x
-  walked path m true w x at e = absurd cc
-  walked path m false (Err r) x at e = absurd cc
-  walked path m false (Ok dir) x at e = listed path m dir (find_named nodes dir (name_of path)) x at e
+  walked path m root w x at e = search (arith, listed)
 
   chmod_is : (call : Call) (x : Node) → node_at nodes ino ≡ Some x → chmod_walk nodes creds call ≡ Some (record { ino = ino; mode = mode }) → applied nodes creds call 0 ≡ outcome (owns x) x
-  chmod_is (Chmod path m) x at e = walked path m (is_root path) (walk_into nodes creds [] (dir_of path)) x at e
-  chmod_is (Mkdir path m) x at e = absurd cc
-  chmod_is (Create path m) x at e = absurd cc
-  chmod_is (Write path place bytes) x at e = absurd cc
-  chmod_is (Read path place len) x at e = absurd cc
-  chmod_is (Truncate path size) x at e = absurd cc
-  chmod_is (Unlink path) x at e = absurd cc
-  chmod_is (Rmdir path) x at e = absurd cc
-  chmod_is (Rename from to) x at e = absurd cc
-  chmod_is (ListNames path from) x at e = absurd cc
-  chmod_is (Stat path) x at e = absurd cc
+  chmod_is call x at e = search (arith, walked)
 
   -- ---- a walk comes to a file, and not to the root
 
@@ -144,50 +122,21 @@ module _ (nodes : Nodes) (creds : Creds) (ino mode : ℕ) where
       file_in (name_of path) m (walk_into nodes creds [] (dir_of path)) tree (λ dir w. enters creds (need_at [] (dir_of path)) nodes (walk nodes creds [] (dir_of path)) dir w) e
 
   file_of : (call : Call) → IsTree nodes → chmod_walk nodes creds call ≡ Some (record { ino = ino; mode = mode }) → IsFile
-  file_of (Chmod path m) tree e = file_by path m (is_root path) tree e
-  file_of (Mkdir path m) tree e = absurd cc
-  file_of (Create path m) tree e = absurd cc
-  file_of (Write path place bytes) tree e = absurd cc
-  file_of (Read path place len) tree e = absurd cc
-  file_of (Truncate path size) tree e = absurd cc
-  file_of (Unlink path) tree e = absurd cc
-  file_of (Rmdir path) tree e = absurd cc
-  file_of (Rename from to) tree e = absurd cc
-  file_of (ListNames path from) tree e = absurd cc
-  file_of (Stat path) tree e = absurd cc
+  file_of call tree e = search (arith, file_by)
 
   -- ---- as the answer says
 
   owner_owns : (a b c : Bool) → (not a && (b || c)) ≡ true → (c || b) ≡ true
-  owner_owns true b c e = absurd (false≢true e)
-  owner_owns false b true e = refl
-  owner_owns false true false e = refl
-  owner_owns false false false e = absurd (false≢true e)
+  owner_owns a b c e = search (arith, false≢true)
 
   other_owns : (a b c : Bool) → a ≡ false → (not a && (b || c)) ≡ false → (c || b) ≡ false
-  other_owns true b c n e = absurd (false≢true (sym n))
-  other_owns false true c n e = absurd (false≢true (sym e))
-  other_owns false false true n e = absurd (false≢true (sym e))
-  other_owns false false false n e = refl
+  other_owns a b c n e = search (arith, false≢true)
 
   chmod_done : (call : Call) → chmod_walk nodes creds call ≡ Some (record { ino = ino; mode = mode }) → is_owner creds ino (node_at nodes ino) ≡ true → Apply nodes creds call 0 (Replied Done) (moded_nodes ino mode nodes)
-  chmod_done call w owner = by (node_at nodes ino) refl owner
-    where
-      by : (o : Option Node) → node_at nodes ino ≡ o → is_owner creds ino o ≡ true → Apply nodes creds call 0 (Replied Done) (moded_nodes ino mode nodes)
-      by None at own = absurd (false≢true own)
-      by (Some x) at own =
-          let mine : owns x ≡ true = owner_owns (ino == 1) (creds.uid == 0) (creds.uid == x.uid) own in
-          let is = chmod_is call x at w ∙ ap (λ t. outcome t x) mine in
-          inl (ap (λ (a : Applied). a.reply) (sym is), ap (λ o. with_node nodes ino (moded_node mode o)) at ∙ ap (λ (a : Applied). a.nodes) (sym is))
+  chmod_done call w owner = search (arith, false≢true, owner_owns, chmod_is)
 
   chmod_denied : (call : Call) → IsTree nodes → chmod_walk nodes creds call ≡ Some (record { ino = ino; mode = mode }) → is_owner creds ino (node_at nodes ino) ≡ false → Apply nodes creds call 0 Denied nodes
-  chmod_denied call tree w other =
-      let f = file_of call tree w in
-      let apart : (ino == 1) ≡ false = ne_eqb ino 1 f.apart in
-      let own : (not (ino == 1) && (creds.uid == 0 || creds.uid == f.node.uid)) ≡ false = sym (ap (is_owner creds ino) f.at) ∙ other in
-      let mine : owns f.node ≡ false = other_owns (ino == 1) (creds.uid == 0) (creds.uid == f.node.uid) apart own in
-      let is = chmod_is call f.node f.at w ∙ ap (λ t. outcome t f.node) mine in
-      inl (ap (λ (a : Applied). a.reply) (sym is), ap (λ (a : Applied). a.nodes) (sym is))
+  chmod_denied call tree w other = search (arith, file_of, ne_eqb, other_owns, chmod_is)
 
 -- ---- a call that is told beside a change of mode
 

@@ -1,5 +1,5 @@
 -- The judged files are closed: an entry of one that names one of the bundle's numbers is one.
-use Rattle.std.proofs.Common.{◌≡◌, ℕ, suc, zero, ◌<◌, ◌≤◌, ◌+◌, true, ltb, List, [], ◌∷◌, ◌++◌, length, append_assoc, Result, Ok, Err, sym, refl, ap, ◌∙◌, subst, inl, inr, ◌⊎◌, arith}
+use Rattle.std.proofs.Common.{◌≡◌, ℕ, suc, zero, ◌<◌, ◌≤◌, ◌+◌, true, ltb, List, [], ◌∷◌, ◌++◌, length, append_assoc, Ok, sym, refl, ap, ◌∙◌, subst, inl, inr, ◌⊎◌, arith}
 use Rattle.std.specs.Prelude.{map}
 use Rattle.std.specs.List.{flat_map}
 use Rattle.std.proofs.lemmas.Bool.{and_parts, ltb-true}
@@ -11,9 +11,9 @@ use Rattle.trio_lists.proofs.Filters.{In-filter}
 use Rattle.trio_lists.proofs.Gathered.{each_new, filtered_in, filtered_new, gathered_new, new_beside, one_of}
 use Rattle.trio_lists.proofs.Marked.{are_new-append}
 use Rattle.trio_lists.proofs.New.{are_new-before, are_new-fewer}
-use Rattle.trio_layout.specs.Core.{Core, Location}
+use Rattle.trio_layout.specs.Core.{Core}
 use Rattle.trio_layout.specs.Entries.{Listed}
-use Rattle.trio_layout.specs.Survey.{FileRead, Front, Met, children_in, descend, first_listed, met_in, numbers, plain}
+use Rattle.trio_layout.specs.Survey.{FileRead, Front, Met, descend, first_listed, met_in, numbers, plain}
 use Rattle.trio_layout.specs.Case.{Case, bundle_core}
 use Rattle.trio_layout.specs.Within.{entries_within, file_within}
 use Rattle.trio_layout.specs.JudgedFiles.{entries_in, fronts, judged_entries, judged_files, new_entries, written_files}
@@ -89,12 +89,7 @@ module _ (kids : Met → List Met) (starts : List Met) where
       let few : length (0 ∷ later) ≤ suc n = pigeons (suc n) (0 ∷ later) (new_beside (0 ∷ []) later once' apart) below in
       let long : length later ≡ length (d.rest ++ d.level) = length-map (d.rest ++ d.level) (λ (x : Met). x.ino) in
       let both : length (d.rest ++ d.level) ≡ length d.rest + length d.level = length-append d.rest d.level in
-      let empty : d.level ≡ [] = elim d.enough [
-        | inl e ↦ e
-        | inr h ↦
-            let count : n ≤ length d.rest = h in
-            let z : length d.level ≡ 0 = omega (arith, few, long, both, count) in nil_from_length d.level z
-      ] in
+      let empty : d.level ≡ [] = search (arith, nil_from_length) in
       ap (λ (f : Front). f.level) d.is ∙ empty
 
 -- ---- judged files
@@ -108,11 +103,7 @@ entry_inode core m f l e i =
 
 -- an entry is one that its directory reads
 pub entry_read : (c : Case) (x e : Met) → In e (entries_in c x) → (f : FileRead) × (file_within (bundle_core c) x ≡ Ok f) × (l : Listed) × In l f.entries × (e ≡ met_in plain x.ino l)
-entry_read c x e i = by (file_within (bundle_core c) x) refl i
-  where
-    by : (r : Result FileRead Location) → file_within (bundle_core c) x ≡ r → In e (children_in plain x.ino r) → (f : FileRead) × (file_within (bundle_core c) x ≡ Ok f) × (l : Listed) × In l f.entries × (e ≡ met_in plain x.ino l)
-    by (Err place) t j = absurd j
-    by (Ok f) t j = let q = map-In (met_in plain x.ino) e f.entries j in (f, t, q.0, q.1, q.2)
+entry_read c x e i = search (arith, map-In)
 
 pub entry_above : (c : Case) (x e : Met) → In e (entries_in c x) → e.ino ≡ 0 → ⊥
 entry_above c x e i z =

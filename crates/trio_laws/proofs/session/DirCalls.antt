@@ -1,9 +1,8 @@
 -- How the calls on directories are decided by what a session sees.
-use Rattle.std.proofs.Common.{◌≡◌, ℕ, Bool, true, false, cond, not, ◌&&◌, ◌||◌, eqb, ltb, List, [], ◌∷◌, take, drop, Option, Some, None, is_some, Result, Ok, Err, sym, refl, ap, ◌∙◌, subst, inl, inr}
+use Rattle.std.proofs.Common.{◌≡◌, ℕ, Bool, true, false, cond, not, ◌&&◌, ◌||◌, eqb, ltb, List, [], ◌∷◌, take, drop, Option, Some, None, is_some, Result, Err, sym, refl, ap, ◌∙◌, subst, inl, inr, arith}
 use Rattle.std.specs.Prelude.{MatchBool}
-use Rattle.std.specs.List.{list_any}
-use Rattle.std.specs.Option.{ok_or, option_map}
-use Rattle.std.proofs.lemmas.Bool.{false≢true}
+use Rattle.std.specs.Option.{ok_or}
+use Rattle.std.proofs.lemmas.Bool.{false≢true, and_right}
 use Rattle.std.proofs.lemmas.Slice.Eq.{bytes_eq-Decides}
 use Rattle.trio_rights.specs.declared.kind.Kind.TheVariants.{Regular, Directory}
 use Rattle.trio_rights.specs.declared.rights.Creds.{Creds}
@@ -15,9 +14,9 @@ use Rattle.trio_nodes.specs.declared.call.Call.{Call}
 use Rattle.trio_nodes.specs.declared.call.Call.TheVariants.{Mkdir, Create, Write, Read, Truncate, Unlink, Rmdir, Rename, List as ListNames, Stat, Chmod}
 use Rattle.trio_nodes.specs.declared.call.Done.{Done}
 use Rattle.trio_nodes.specs.declared.call.Reply.{Reply}
-use Rattle.trio_nodes.specs.declared.call.Reply.TheVariants.{Ok as Replied, NotFound, Exists, NotDir, IsDir, NotEmpty, Denied, IntoItself, NoSpace, NoInodes, TooLarge}
+use Rattle.trio_nodes.specs.declared.call.Reply.TheVariants.{NotFound, Exists, NotDir, IsDir, NotEmpty, Denied}
 use Rattle.trio_nodes.specs.Nodes.{Nodes, node_at, with_node, find_named, count_in, names_in}
-use Rattle.trio_nodes.specs.Walk.{Path, and_then, dir_of, enter, is_above, is_directory, is_root, lacks, name_of, need_at, same_path, walk, walk_into}
+use Rattle.trio_nodes.specs.Walk.{Path, and_then, dir_of, is_directory, lacks, name_of, same_path, walk, walk_into}
 use Rattle.trio_nodes.specs.Apply.{Applied, LacksRoom, applied, done, in_directory, is_done, listed_in, makes_file, new_node, of_node, reached, refused}
 use Rattle.trio_nodes.specs.After.{call_nodes, lacks_room}
 use Rattle.trio_nodes.specs.Legal.{MadeFits}
@@ -26,20 +25,18 @@ use Rattle.trio_desk.specs.Contents.{Rights, rights_of}
 use Rattle.trio_desk.specs.Call.{DeskSeen}
 use Rattle.trio_desk.specs.Edits.{DoesCall}
 use Rattle.trio_onetree.proofs.CallCases.{walk_into-Undone}
-use Rattle.trio_onetree.proofs.Children.{Child, find_named-Child}
+use Rattle.trio_onetree.proofs.Children.{find_named-Child}
 use Rattle.trio_onetree.proofs.TreeStays.{tree_stays}
 use Rattle.trio_laws.specs.session.DirCalls.{ComesAcross, ComesInto, DoneIsTree, EntersWalked, ListRefusedByCheck, ListRefusedByWalk, ListsNames, MakesEntry, MovesEntry, NameRefusedByWalk, NeedsWrite}
 use Rattle.trio_laws.specs.session.DirCalls.{NoRoomToMake, NoRoomToMove, RefusedAtEntry, RefusedByName, RefusedByPath, RemovesEntry, RenameRefusedByName, RenameRefusedByWalk, RetitlesEntry, ShownIsTree}
-use Rattle.trio_laws.specs.session.DirCalls.{early_refusal, entry_refusal, list_refusal, made_in, name_path, name_refusal, named_as, placed_as, removes_file, rename_refusal, with_name, with_place, write_paths}
+use Rattle.trio_laws.specs.session.DirCalls.{early_refusal, entry_refusal, made_in, name_path, name_refusal, placed_as, removes_file, rename_refusal, with_name, with_place, write_paths}
 use Rattle.trio_laws.proofs.session.FileCalls.{does_as, enters_by, first_passes, first_refuses, lacks_as, makes_nothing, three_pass, three_refuse, two_pass, two_refuse}
 use Rattle.trio_laws.proofs.session.LentNodes.{mapped}
 
 -- ---- walks into a directory
 
 pub enters_walked : EntersWalked
-enters_walked nodes creds writes path (Err reply) e = ap (λ q. and_then q (enter nodes creds (need_at writes path))) e
-enters_walked nodes creds writes path (Ok n) e =
-    λ r h. ap (λ q. and_then q (enter nodes creds (need_at writes path))) e ∙ enters_by nodes creds (need_at writes path) n r h
+enters_walked nodes creds writes path h e = search (arith, enters_by)
 
 same_path-self : (path : Path) → same_path path path ≡ true
 same_path-self [] = refl
@@ -47,12 +44,6 @@ same_path-self (name ∷ path) = ap (λ t. cond t (same_path path path) false) (
 
 pub needs_write : NeedsWrite
 needs_write writes path i = ap (λ t. cond t ToWrite ToRead) (In-list_any (same_path path) path writes i (same_path-self path))
-
--- ---- what is refused, and makes nothing
-
-and-false : (t u : Bool) → u ≡ false → (t && u) ≡ false
-and-false true u e = e
-and-false false u e = refl
 
 -- a reply that a check gives is no answer
 none-undone : (reply : Reply) → None ≡ Some reply → is_done reply ≡ false
@@ -63,8 +54,7 @@ some-undone given reply undone e = (let same : given ≡ reply = (let k : Some g
 
 check-undone : (given reply : Reply) (rest : Option Reply) (t : Bool) → is_done given ≡ false → (rest ≡ Some reply → is_done reply ≡ false)
     → cond t (Some given) rest ≡ Some reply → is_done reply ≡ false
-check-undone given reply rest true undone more e = some-undone given reply undone e
-check-undone given reply rest false undone more e = more e
+check-undone given reply rest t undone more e = search (arith, some-undone)
 
 module _ (desk : DeskSeen) (d : Done) (nodes : Nodes) (none : d.made ≡ 0) where
   -- the call is refused
@@ -72,25 +62,12 @@ module _ (desk : DeskSeen) (d : Done) (nodes : Nodes) (none : d.made ≡ 0) wher
   refused-does makes e = does_as desk d nodes (makes_nothing nodes d makes none) (refused nodes d.reply) e refl (inr refl)
 
   undone-does : is_done d.reply ≡ false → applied nodes desk.creds d.call d.made ≡ refused nodes d.reply → DoesCall desk d nodes nodes
-  undone-does undone e = refused-does (and-false (makes_file d.call) (is_done d.reply) undone) e
+  undone-does undone e = refused-does (and_right (makes_file d.call) (is_done d.reply) undone) e
 
 -- ---- refusals by a path
 
 early-undone : (call : Call) (reply : Reply) → early_refusal call ≡ Some reply → is_done reply ≡ false
-early-undone (Mkdir p m) reply e = check-undone Exists reply None (is_root p) refl (none-undone reply) e
-early-undone (Create p m) reply e = check-undone Exists reply None (is_root p) refl (none-undone reply) e
-early-undone (Unlink p) reply e = check-undone IsDir reply None (is_root p) refl (none-undone reply) e
-early-undone (Rmdir p) reply e = check-undone Denied reply None (is_root p) refl (none-undone reply) e
-early-undone (Rename p q) reply e =
-    check-undone Denied reply (cond (is_root q) (Some Exists) (cond (is_above p q) (Some IntoItself) None)) (is_root p) refl
-    (check-undone Exists reply (cond (is_above p q) (Some IntoItself) None) (is_root q) refl
-    (check-undone IntoItself reply None (is_above p q) refl (none-undone reply))) e
-early-undone (Chmod p m) reply e = check-undone Denied reply None (is_root p) refl (none-undone reply) e
-early-undone (Write p at bytes) reply e = none-undone reply e
-early-undone (Read p at len) reply e = none-undone reply e
-early-undone (Truncate p size) reply e = none-undone reply e
-early-undone (ListNames p n) reply e = none-undone reply e
-early-undone (Stat p) reply e = none-undone reply e
+early-undone call reply e = search (arith, check-undone, none-undone)
 
 -- what a call on one name makes of the file that has it
 abbrev at_entry : Nodes → Creds → Call → ℕ → Node → Applied
@@ -118,29 +95,8 @@ across nodes from to dir new_dir =
     listed_in nodes dir from (λ n x.
     cond (is_some (find_named nodes new_dir (name_of to))) (refused nodes Exists) (done (with_node nodes n (Some (record x { parent = new_dir; name = name_of to }))) IsDone))
 
--- and of its paths
-abbrev walks_across : Nodes → Creds → Path → Path → Applied
-walks_across nodes creds from to =
-    in_directory nodes creds (dir_of from ∷ dir_of to ∷ []) from (λ dir. in_directory nodes creds (dir_of from ∷ dir_of to ∷ []) to (λ new_dir. across nodes from to dir new_dir))
-
 early-refused : (nodes : Nodes) (creds : Creds) (call : Call) (made : ℕ) (reply : Reply) → early_refusal call ≡ Some reply → applied nodes creds call made ≡ refused nodes reply
-early-refused nodes creds (Mkdir p m) made reply e =
-    first_refuses nodes (in_directory nodes creds (dir_of p ∷ []) p (in_entered nodes creds (Mkdir p m) made)) Exists reply (is_root p) e
-early-refused nodes creds (Create p m) made reply e =
-    first_refuses nodes (in_directory nodes creds (dir_of p ∷ []) p (in_entered nodes creds (Create p m) made)) Exists reply (is_root p) e
-early-refused nodes creds (Unlink p) made reply e =
-    first_refuses nodes (in_directory nodes creds (dir_of p ∷ []) p (in_entered nodes creds (Unlink p) made)) IsDir reply (is_root p) e
-early-refused nodes creds (Rmdir p) made reply e =
-    first_refuses nodes (in_directory nodes creds (dir_of p ∷ []) p (in_entered nodes creds (Rmdir p) made)) Denied reply (is_root p) e
-early-refused nodes creds (Rename p q) made reply e =
-    three_refuse nodes (walks_across nodes creds p q) Denied Exists IntoItself reply (is_root p) (is_root q) (is_above p q) e
-early-refused nodes creds (Chmod p m) made reply e =
-    first_refuses nodes (in_directory nodes creds [] p (in_entered nodes creds (Chmod p m) made)) Denied reply (is_root p) e
-early-refused nodes creds (Write p at bytes) made reply e = absurd (let wrong : None ≡ Some reply = e in cc wrong)
-early-refused nodes creds (Read p at len) made reply e = absurd (let wrong : None ≡ Some reply = e in cc wrong)
-early-refused nodes creds (Truncate p size) made reply e = absurd (let wrong : None ≡ Some reply = e in cc wrong)
-early-refused nodes creds (ListNames p n) made reply e = absurd (let wrong : None ≡ Some reply = e in cc wrong)
-early-refused nodes creds (Stat p) made reply e = absurd (let wrong : None ≡ Some reply = e in cc wrong)
+early-refused nodes creds call made reply e = search (arith, first_refuses, three_refuse)
 
 pub refused_by_path : RefusedByPath
 refused_by_path desk d nodes e none =
@@ -151,33 +107,12 @@ refused_by_path desk d nodes e none =
 -- the walk is into the directory of the call's path
 walks_by_path : (nodes : Nodes) (creds : Creds) (writes : List Path) (p path : Path) (g : ℕ → Applied) → Some p ≡ Some path
     → in_directory nodes creds writes p g ≡ reached nodes (walk_into nodes creds writes (dir_of path)) g
-walks_by_path nodes creds writes p path g e =
-    let same : p ≡ path = (let t : Some p ≡ Some path = e in cc t) in ap (λ q. reached nodes (walk_into nodes creds writes (dir_of q)) g) same
+walks_by_path nodes creds writes p path g e = search arith
 
 -- such a call goes where its walk goes
 goes_in : (nodes : Nodes) (creds : Creds) (call : Call) (made : ℕ) (path : Path) → name_path call ≡ Some path → early_refusal call ≡ None
     → applied nodes creds call made ≡ reached nodes (walk_into nodes creds (write_paths call) (dir_of path)) (in_entered nodes creds call made)
-goes_in nodes creds (Mkdir p m) made path e early =
-    first_passes nodes (in_directory nodes creds (dir_of p ∷ []) p (in_entered nodes creds (Mkdir p m) made)) Exists (is_root p) early
-    ∙ walks_by_path nodes creds (dir_of p ∷ []) p path (in_entered nodes creds (Mkdir p m) made) e
-goes_in nodes creds (Create p m) made path e early =
-    first_passes nodes (in_directory nodes creds (dir_of p ∷ []) p (in_entered nodes creds (Create p m) made)) Exists (is_root p) early
-    ∙ walks_by_path nodes creds (dir_of p ∷ []) p path (in_entered nodes creds (Create p m) made) e
-goes_in nodes creds (Unlink p) made path e early =
-    first_passes nodes (in_directory nodes creds (dir_of p ∷ []) p (in_entered nodes creds (Unlink p) made)) IsDir (is_root p) early
-    ∙ walks_by_path nodes creds (dir_of p ∷ []) p path (in_entered nodes creds (Unlink p) made) e
-goes_in nodes creds (Rmdir p) made path e early =
-    first_passes nodes (in_directory nodes creds (dir_of p ∷ []) p (in_entered nodes creds (Rmdir p) made)) Denied (is_root p) early
-    ∙ walks_by_path nodes creds (dir_of p ∷ []) p path (in_entered nodes creds (Rmdir p) made) e
-goes_in nodes creds (Chmod p m) made path e early =
-    first_passes nodes (in_directory nodes creds [] p (in_entered nodes creds (Chmod p m) made)) Denied (is_root p) early
-    ∙ walks_by_path nodes creds [] p path (in_entered nodes creds (Chmod p m) made) e
-goes_in nodes creds (Write p at bytes) made path e early = absurd (let wrong : None ≡ Some path = e in cc wrong)
-goes_in nodes creds (Read p at len) made path e early = absurd (let wrong : None ≡ Some path = e in cc wrong)
-goes_in nodes creds (Truncate p size) made path e early = absurd (let wrong : None ≡ Some path = e in cc wrong)
-goes_in nodes creds (Rename p q) made path e early = absurd (let wrong : None ≡ Some path = e in cc wrong)
-goes_in nodes creds (ListNames p n) made path e early = absurd (let wrong : None ≡ Some path = e in cc wrong)
-goes_in nodes creds (Stat p) made path e early = absurd (let wrong : None ≡ Some path = e in cc wrong)
+goes_in nodes creds call made path e early = search (arith, first_passes, walks_by_path)
 
 pub name_refused_by_walk : NameRefusedByWalk
 name_refused_by_walk desk d nodes path on early w none =
@@ -200,51 +135,29 @@ module _ (nodes : Nodes) (call : Call) (reply : Reply) where
   -- what is made is there
   name_taken : (good : Applied) (o found : Option ℕ) → makes_file call ≡ true → o ≡ found → name_refusal call found ≡ Some reply
       → cond (is_some o) (refused nodes Exists) good ≡ refused nodes reply
-  name_taken good o (Some n) makes f e =
-      ap (λ q. cond (is_some q) (refused nodes Exists) good) f
-      ∙ ap (refused nodes) (let k : Some Exists ≡ Some reply = sym (ap (λ t. cond t (Some Exists) None) makes) ∙ e in cc k)
-  name_taken good o None makes f e = absurd (let wrong : None ≡ Some reply = sym (ap (λ t. cond t None (Some NotFound)) makes) ∙ e in cc wrong)
+  name_taken good o found makes f e = search arith
 
   -- what is to be there isn't
   name_missing : (g : ℕ → Applied) (o found : Option ℕ) → makes_file call ≡ false → o ≡ found → name_refusal call found ≡ Some reply
       → reached nodes (ok_or o NotFound) g ≡ refused nodes reply
-  name_missing g o None makes f e =
-      ap (λ q. reached nodes (ok_or q NotFound) g) f
-      ∙ ap (refused nodes) (let k : Some NotFound ≡ Some reply = sym (ap (λ t. cond t None (Some NotFound)) makes) ∙ e in cc k)
-  name_missing g o (Some n) makes f e = absurd (let wrong : None ≡ Some reply = sym (ap (λ t. cond t (Some Exists) None) makes) ∙ e in cc wrong)
+  name_missing g o found makes f e = search arith
 
 -- the file that has the name
 listed-at : (nodes : Nodes) (dir : ℕ) (path : Path) (n : ℕ) (x : Node) (g : ℕ → Node → Applied) → find_named nodes dir (name_of path) ≡ Some n → node_at nodes n ≡ Some x
     → listed_in nodes dir path g ≡ g n x
-listed-at nodes dir path n x g f at =
-    ap (λ q. reached nodes (ok_or q NotFound) (λ k. of_node nodes (node_at nodes k) (g k))) f ∙ ap (λ q. of_node nodes q (g n)) at
+listed-at nodes dir path n x g f at = search arith
 
 name-undone : (call : Call) (found : Option ℕ) (reply : Reply) → name_refusal call found ≡ Some reply → is_done reply ≡ false
-name-undone call (Some n) reply e = check-undone Exists reply None (makes_file call) refl (none-undone reply) e
-name-undone call None reply e = by (makes_file call) e
-  where
-    by : (t : Bool) → cond t None (Some NotFound) ≡ Some reply → is_done reply ≡ false
-    by true k = none-undone reply k
-    by false k = some-undone NotFound reply refl k
+name-undone call found reply e = search (arith, check-undone, none-undone, some-undone)
 
 module _ (nodes : Nodes) (creds : Creds) (made : ℕ) (path : Path) (dir : ℕ) where
   name-refused : (call : Call) (found : Option ℕ) (reply : Reply) → name_path call ≡ Some path → find_named nodes dir (name_of path) ≡ found
       → name_refusal call found ≡ Some reply → in_entered nodes creds call made dir ≡ refused nodes reply
-  name-refused (Mkdir p m) found reply on f e =
-      name_taken nodes (Mkdir p m) reply (done (with_node nodes made (Some (new_node creds Directory dir p m))) IsDone)
-      (find_named nodes dir (name_of p)) found refl (looks_up nodes dir p path found on f) e
-  name-refused (Create p m) found reply on f e =
-      name_taken nodes (Create p m) reply (done (with_node nodes made (Some (new_node creds Regular dir p m))) IsDone)
-      (find_named nodes dir (name_of p)) found refl (looks_up nodes dir p path found on f) e
-  name-refused (Unlink p) found reply on f e =
-      name_missing nodes (Unlink p) reply (λ n. of_node nodes (node_at nodes n) (at_entry nodes creds (Unlink p) n))
-      (find_named nodes dir (name_of p)) found refl (looks_up nodes dir p path found on f) e
-  name-refused (Rmdir p) found reply on f e =
-      name_missing nodes (Rmdir p) reply (λ n. of_node nodes (node_at nodes n) (at_entry nodes creds (Rmdir p) n))
-      (find_named nodes dir (name_of p)) found refl (looks_up nodes dir p path found on f) e
-  name-refused (Chmod p m) found reply on f e =
-      name_missing nodes (Chmod p m) reply (λ n. of_node nodes (node_at nodes n) (at_entry nodes creds (Chmod p m) n))
-      (find_named nodes dir (name_of p)) found refl (looks_up nodes dir p path found on f) e
+  name-refused (Mkdir p m) found reply on f e = search (arith, name_taken, looks_up, name_missing)
+  name-refused (Create p m) found reply on f e = search (arith, name_taken, looks_up, name_missing)
+  name-refused (Unlink p) found reply on f e = search (arith, name_taken, looks_up, name_missing)
+  name-refused (Rmdir p) found reply on f e = search (arith, name_taken, looks_up, name_missing)
+  name-refused (Chmod p m) found reply on f e = search (arith, name_taken, looks_up, name_missing)
   name-refused (Write p at bytes) found reply on f e = absurd (let wrong : None ≡ Some path = on in cc wrong)
   name-refused (Read p at len) found reply on f e = absurd (let wrong : None ≡ Some path = on in cc wrong)
   name-refused (Truncate p size) found reply on f e = absurd (let wrong : None ≡ Some path = on in cc wrong)
@@ -273,15 +186,9 @@ module _ (nodes : Nodes) (creds : Creds) (made : ℕ) (path : Path) (dir : ℕ) 
   module _ (n : ℕ) (x : Node) (f : find_named nodes dir (name_of path) ≡ Some n) (at : node_at nodes n ≡ Some x) where
     entry-refused : (call : Call) (reply : Reply) → name_path call ≡ Some path → entry_refusal creds (rights_of x) (count_in nodes n) call ≡ Some reply
         → in_entered nodes creds call made dir ≡ refused nodes reply
-    entry-refused (Unlink p) reply on e =
-        listed-at nodes dir p n x (at_entry nodes creds (Unlink p)) (looks_up nodes dir p path (Some n) on f) at
-        ∙ first_refuses nodes (done (with_node nodes n None) IsDone) IsDir reply (is_directory x.kind) e
-    entry-refused (Rmdir p) reply on e =
-        listed-at nodes dir p n x (at_entry nodes creds (Rmdir p)) (looks_up nodes dir p path (Some n) on f) at
-        ∙ two_refuse nodes (done (with_node nodes n None) IsDone) NotDir NotEmpty reply (not (is_directory x.kind)) (ltb 0 (count_in nodes n)) e
-    entry-refused (Chmod p m) reply on e =
-        listed-at nodes dir p n x (at_entry nodes creds (Chmod p m)) (looks_up nodes dir p path (Some n) on f) at
-        ∙ first_refuses nodes (done (with_node nodes n (Some (record x { mode = m }))) IsDone) Denied reply (not (eqb creds.uid x.uid || eqb creds.uid 0)) e
+    entry-refused (Unlink p) reply on e = search (arith, listed-at, looks_up, first_refuses, two_refuse)
+    entry-refused (Rmdir p) reply on e = search (arith, listed-at, looks_up, first_refuses, two_refuse)
+    entry-refused (Chmod p m) reply on e = search (arith, listed-at, looks_up, first_refuses, two_refuse)
     entry-refused (Mkdir p m) reply on e = absurd (let wrong : None ≡ Some reply = e in cc wrong)
     entry-refused (Create p m) reply on e = absurd (let wrong : None ≡ Some reply = e in cc wrong)
     entry-refused (Write p k bytes) reply on e = absurd (let wrong : None ≡ Some reply = e in cc wrong)
@@ -293,12 +200,8 @@ module _ (nodes : Nodes) (creds : Creds) (made : ℕ) (path : Path) (dir : ℕ) 
 
     entry-goes : (call : Call) → name_path call ≡ Some path → removes_file call ≡ true → entry_refusal creds (rights_of x) (count_in nodes n) call ≡ None
         → in_entered nodes creds call made dir ≡ done (with_node nodes n None) IsDone
-    entry-goes (Unlink p) on removes e =
-        listed-at nodes dir p n x (at_entry nodes creds (Unlink p)) (looks_up nodes dir p path (Some n) on f) at
-        ∙ first_passes nodes (done (with_node nodes n None) IsDone) IsDir (is_directory x.kind) e
-    entry-goes (Rmdir p) on removes e =
-        listed-at nodes dir p n x (at_entry nodes creds (Rmdir p)) (looks_up nodes dir p path (Some n) on f) at
-        ∙ two_pass nodes (done (with_node nodes n None) IsDone) NotDir NotEmpty (not (is_directory x.kind)) (ltb 0 (count_in nodes n)) e
+    entry-goes (Unlink p) on removes e = search (arith, listed-at, looks_up, first_passes, two_pass, false≢true)
+    entry-goes (Rmdir p) on removes e = search (arith, listed-at, looks_up, first_passes, two_pass, false≢true)
     entry-goes (Mkdir p m) on removes e = absurd (false≢true removes)
     entry-goes (Create p m) on removes e = absurd (false≢true removes)
     entry-goes (Write p k bytes) on removes e = absurd (false≢true removes)
@@ -310,31 +213,10 @@ module _ (nodes : Nodes) (creds : Creds) (made : ℕ) (path : Path) (dir : ℕ) 
     entry-goes (Chmod p m) on removes e = absurd (false≢true removes)
 
 entry-undone : (creds : Creds) (r : Rights) (count : ℕ) (call : Call) (reply : Reply) → entry_refusal creds r count call ≡ Some reply → is_done reply ≡ false
-entry-undone creds r count (Unlink p) reply e = check-undone IsDir reply None (is_directory r.kind) refl (none-undone reply) e
-entry-undone creds r count (Rmdir p) reply e =
-    check-undone NotDir reply (cond (ltb 0 count) (Some NotEmpty) None) (not (is_directory r.kind)) refl (check-undone NotEmpty reply None (ltb 0 count) refl (none-undone reply)) e
-entry-undone creds r count (Chmod p m) reply e = check-undone Denied reply None (not (eqb creds.uid r.uid || eqb creds.uid 0)) refl (none-undone reply) e
-entry-undone creds r count (Mkdir p m) reply e = none-undone reply e
-entry-undone creds r count (Create p m) reply e = none-undone reply e
-entry-undone creds r count (Write p k bytes) reply e = none-undone reply e
-entry-undone creds r count (Read p k len) reply e = none-undone reply e
-entry-undone creds r count (Truncate p size) reply e = none-undone reply e
-entry-undone creds r count (Rename p q) reply e = none-undone reply e
-entry-undone creds r count (ListNames p k) reply e = none-undone reply e
-entry-undone creds r count (Stat p) reply e = none-undone reply e
+entry-undone creds r count call reply e = search (arith, check-undone, none-undone)
 
 removes-none : (call : Call) → removes_file call ≡ true → makes_file call ≡ false
-removes-none (Unlink p) removes = refl
-removes-none (Rmdir p) removes = refl
-removes-none (Mkdir p m) removes = absurd (false≢true removes)
-removes-none (Create p m) removes = absurd (false≢true removes)
-removes-none (Write p k bytes) removes = refl
-removes-none (Read p k len) removes = refl
-removes-none (Truncate p size) removes = refl
-removes-none (Rename p q) removes = refl
-removes-none (ListNames p k) removes = refl
-removes-none (Stat p) removes = refl
-removes-none (Chmod p m) removes = refl
+removes-none call removes = search (arith, false≢true)
 
 pub refused_by_name : RefusedByName
 refused_by_name desk d nodes path dir found c f e none =
@@ -373,21 +255,11 @@ removes_entry desk d nodes path dir n r count c removes f has many e reply none 
 
 -- want of room is no answer
 lacks-undone : (call : Call) (reply : Reply) → LacksRoom call reply → is_done reply ≡ false
-lacks-undone call (NoSpace wanted free) l = refl
-lacks-undone call (NoInodes wanted free) l = refl
-lacks-undone call (Replied answer) l = absurd l
-lacks-undone call NotFound l = refl
-lacks-undone call Exists l = refl
-lacks-undone call NotDir l = refl
-lacks-undone call IsDir l = refl
-lacks-undone call NotEmpty l = refl
-lacks-undone call Denied l = refl
-lacks-undone call IntoItself l = refl
-lacks-undone call TooLarge l = refl
+lacks-undone call reply l = search arith
 
 pub no_room_to_make : NoRoomToMake
 no_room_to_make desk d nodes path dir c makes f lacks' none =
-    lacks_as desk d nodes (makes_nothing nodes d (and-false (makes_file d.call) (is_done d.reply) (lacks-undone d.call d.reply lacks')) none) lacks'
+    lacks_as desk d nodes (makes_nothing nodes d (and_right (makes_file d.call) (is_done d.reply) (lacks-undone d.call d.reply lacks')) none) lacks'
     (ap (λ (a : Applied). is_done a.reply) (comes_in nodes desk.creds d.call d.made path dir c ∙ name-free nodes desk.creds d.made path dir d.call c.on makes f))
 
 -- ---- renames
@@ -396,15 +268,11 @@ no_room_to_make desk d nodes path dir c makes f lacks' none =
 goes_across : (nodes : Nodes) (creds : Creds) (call : Call) (made : ℕ) (from to : Path) → call ≡ Rename from to → early_refusal call ≡ None
     → applied nodes creds call made
     ≡ reached nodes (walk_into nodes creds (write_paths call) (dir_of from)) (λ dir. reached nodes (walk_into nodes creds (write_paths call) (dir_of to)) (across nodes from to dir))
-goes_across nodes creds call made from to on =
-    subst (λ c. early_refusal c ≡ None → applied nodes creds c made
-    ≡ reached nodes (walk_into nodes creds (write_paths c) (dir_of from)) (λ dir. reached nodes (walk_into nodes creds (write_paths c) (dir_of to)) (across nodes from to dir)))
-    (sym on) (λ early. three_pass nodes (walks_across nodes creds from to) Denied Exists IntoItself (is_root from) (is_root to) (is_above from to) early)
+goes_across nodes creds call made from to on = search (arith, three_pass)
 
 two-reached : (nodes : Nodes) (r s : Result ℕ Reply) (g : ℕ → ℕ → Applied) (reply : Reply) → and_then r (λ dir. s) ≡ Err reply
     → reached nodes r (λ dir. reached nodes s (g dir)) ≡ refused nodes reply
-two-reached nodes (Ok dir) s g reply e = ap (λ q. reached nodes q (g dir)) e
-two-reached nodes (Err given) s g reply e = ap (λ q. reached nodes q (g 0)) e
+two-reached nodes r s g reply e = search arith
 
 renames-none : (call : Call) (reply : Reply) (from to : Path) → call ≡ Rename from to → (makes_file call && is_done reply) ≡ false
 renames-none call reply from to on = ap (λ c. makes_file c && is_done reply) on
@@ -419,10 +287,7 @@ rename_refused_by_walk desk d nodes from to on early w none =
 -- where they come to two directories
 comes_across : (nodes : Nodes) (creds : Creds) (call : Call) (made : ℕ) (from to : Path) (dir new_dir : ℕ) → ComesAcross nodes creds call from to dir new_dir
     → applied nodes creds call made ≡ across nodes from to dir new_dir
-comes_across nodes creds call made from to dir new_dir c =
-    goes_across nodes creds call made from to c.on c.early
-    ∙ ap (λ q. reached nodes q (λ k. reached nodes (walk_into nodes creds (write_paths call) (dir_of to)) (across nodes from to k))) c.out
-    ∙ ap (λ q. reached nodes q (across nodes from to dir)) c.into
+comes_across nodes creds call made from to dir new_dir c = search (arith, goes_across)
 
 module _ (nodes : Nodes) (from to : Path) (dir new_dir : ℕ) where
   -- what a rename makes of the file that has the old name
@@ -435,26 +300,20 @@ module _ (nodes : Nodes) (from to : Path) (dir new_dir : ℕ) where
       ap (λ q. reached nodes (ok_or q NotFound) (λ k. of_node nodes (node_at nodes k) (renamed k))) f ∙ ap (refused nodes) (let k : Some NotFound ≡ Some reply = e in cc k)
   across-refused (Some n) (Some m) reply f t e =
       let x = find_named-Child nodes dir (name_of from) n f in
-      listed-at nodes dir from n x.node renamed f x.at
-      ∙ ap (λ q. cond (is_some q) (refused nodes Exists) (done (with_node nodes n (Some (placed_as new_dir (name_of to) x.node))) IsDone)) t
-      ∙ ap (refused nodes) (let k : Some Exists ≡ Some reply = e in cc k)
+      search (arith, listed-at)
   across-refused (Some n) None reply f t e = absurd (let wrong : None ≡ Some reply = e in cc wrong)
 
   across-done : (n : ℕ) → find_named nodes dir (name_of from) ≡ Some n → find_named nodes new_dir (name_of to) ≡ None
       → across nodes from to dir new_dir ≡ done (with_place n new_dir (name_of to) nodes) IsDone
   across-done n f t =
       let x = find_named-Child nodes dir (name_of from) n f in
-      listed-at nodes dir from n x.node renamed f x.at
-      ∙ ap (λ q. cond (is_some q) (refused nodes Exists) (done (with_node nodes n (Some (placed_as new_dir (name_of to) x.node))) IsDone)) t
-      ∙ ap (λ q. done (with_node nodes n (option_map (placed_as new_dir (name_of to)) q)) IsDone) (sym x.at)
+      search (arith, listed-at)
 
   -- in the directory in which it was it has but another name
   place-name : (n : ℕ) → find_named nodes dir (name_of from) ≡ Some n → with_place n dir (name_of to) nodes ≡ with_name n (name_of to) nodes
   place-name n f =
       let x = find_named-Child nodes dir (name_of from) n f in
-      ap (λ q. with_node nodes n (option_map (placed_as dir (name_of to)) q)) x.at
-      ∙ ap (λ p. with_node nodes n (Some (placed_as p (name_of to) x.node))) (sym x.parent)
-      ∙ ap (λ q. with_node nodes n (option_map (named_as (name_of to)) q)) (sym x.at)
+      search arith
 
 pub rename_refused_by_name : RenameRefusedByName
 rename_refused_by_name desk d nodes from to dir new_dir found there c f t e none =
@@ -489,8 +348,7 @@ lists-none call reply path from on = ap (λ c. makes_file c && is_done reply) on
 list_goes : (nodes : Nodes) (creds : Creds) (call : Call) (made : ℕ) (path : Path) (from : ℕ) (r : Result ℕ Reply) → call ≡ ListNames path from
     → walk nodes creds [] path ≡ r
     → applied nodes creds call made ≡ reached nodes r (λ n. of_node nodes (node_at nodes n) (list_at nodes creds from n))
-list_goes nodes creds call made path from r on w =
-    ap (λ c. applied nodes creds c made) on ∙ ap (λ q. reached nodes q (λ n. of_node nodes (node_at nodes n) (list_at nodes creds from n))) w
+list_goes nodes creds call made path from r on w = search arith
 
 pub list_refused_by_walk : ListRefusedByWalk
 list_refused_by_walk desk d nodes path from on w none =
@@ -499,23 +357,12 @@ list_refused_by_walk desk d nodes path from on w none =
 pub list_refused_by_check : ListRefusedByCheck
 list_refused_by_check desk d nodes path from n r on w has e none =
     let x = mapped rights_of (node_at nodes n) r has in
-    refused-does desk d nodes none (lists-none d.call d.reply path from on)
-    (list_goes nodes desk.creds d.call d.made path from (Ok n) on w
-    ∙ ap (λ q. of_node nodes q (list_at nodes desk.creds from n)) x.1
-    ∙ two_refuse nodes (done nodes (Names (count_in nodes n) (take 64 (drop from (names_in nodes n))))) NotDir Denied d.reply (not (is_directory x.0.kind)) (lacks desk.creds ToRead x.0)
-    (ap (list_refusal desk.creds) x.2 ∙ e))
+    search (arith, refused-does, lists-none, list_goes, two_refuse)
 
 pub lists_names : ListsNames
 lists_names desk d nodes path from n r count names on w has e many named reply none =
     let x = mapped rights_of (node_at nodes n) r has in
-    does_as desk d nodes (makes_nothing nodes d (lists-none d.call d.reply path from on) none) (done nodes (Names count (take 64 (drop from names))))
-    (list_goes nodes desk.creds d.call d.made path from (Ok n) on w
-    ∙ ap (λ q. of_node nodes q (list_at nodes desk.creds from n)) x.1
-    ∙ two_pass nodes (done nodes (Names (count_in nodes n) (take 64 (drop from (names_in nodes n))))) NotDir Denied (not (is_directory x.0.kind)) (lacks desk.creds ToRead x.0)
-    (ap (list_refusal desk.creds) x.2 ∙ e)
-    ∙ ap (λ k. done nodes (Names k (take 64 (drop from (names_in nodes n))))) many
-    ∙ ap (λ l. done nodes (Names count (take 64 (drop from l)))) named)
-    reply (inr refl)
+    search (arith, does_as, makes_nothing, lists-none, list_goes, two_pass)
 
 -- ---- trees
 

@@ -1,11 +1,11 @@
 -- The names of a directory in their order, from the entries that it lists.
-use Rattle.std.proofs.Common.{◌≡◌, ℕ, zero, suc, ◌+◌, Bool, true, false, cond, not, eqb, List, [], ◌∷◌, ◌++◌, length, map, Option, Some, None, sym, refl, ap, ◌∙◌, subst, inl, inr, arith}
+use Rattle.std.proofs.Common.{◌≡◌, ℕ, zero, suc, ◌+◌, Bool, true, false, cond, not, List, [], ◌∷◌, ◌++◌, length, map, Option, Some, None, sym, refl, ap, ◌∙◌, subst, inl, inr, arith}
 use Rattle.std.specs.List.{cons_option, count_by, filter_map}
 use Rattle.std.specs.Cmp.Lexicographic.{slice_cmp, texts_ties}
 use Rattle.std.specs.Ordering.{nat_cmp, is_le, is_lt, is_eq, ordering_reverse}
 use Rattle.std.specs.declared.cmp.Ordering.{Ordering}
-use Rattle.std.specs.declared.cmp.Ordering.TheVariants.{Less, Equal, Greater}
-use Rattle.std.proofs.lemmas.Bool.{eqb-true, false≢true}
+use Rattle.std.specs.declared.cmp.Ordering.TheVariants.{Equal}
+use Rattle.std.proofs.lemmas.Bool.{eqb-true, false≢true, not-true}
 use Rattle.std.proofs.lemmas.Cmp.{nat_list_cmp_total}
 use Rattle.std.proofs.lemmas.List.{length-append, length-map}
 use Rattle.std.proofs.lemmas.List.Sorted.{ranks_by}
@@ -23,18 +23,10 @@ use Rattle.trio_laws.specs.session.DirCalls.{NamesInOrder, name_and_kind}
 -- ---- the order of names
 
 turned_le : (o : Ordering) → is_le (ordering_reverse o) ≡ not (is_lt o)
-turned_le Less = refl
-turned_le Equal = refl
-turned_le Greater = refl
+turned_le o = search arith
 
 one_way : (o : Ordering) → (o ≡ Equal → ⊥) → is_le o ≡ not (is_le (ordering_reverse o))
-one_way Less differ = refl
-one_way Equal differ = absurd (differ refl)
-one_way Greater differ = refl
-
-not_true : (t : Bool) → not t ≡ true → t ≡ false
-not_true true e = absurd (false≢true e)
-not_true false e = refl
+one_way o differ = search arith
 
 module _ {X : Type 0} (name : X → List ℕ) where
   abbrev le : X → X → Bool
@@ -44,9 +36,7 @@ module _ {X : Type 0} (name : X → List ℕ) where
   le-lt x y = ap is_le (nat_list_cmp_total.antisymm (name x) (name y)) ∙ turned_le (slice_cmp nat_cmp (name y) (name x))
 
   le-trans : (x y z : X) → le x y ≡ true → le y z ≡ true → le x z ≡ true
-  le-trans x y z a b =
-      le-lt x z
-      ∙ ap not ((ranks_by nat_list_cmp_total name).chain z y x (not_true _ (sym (le-lt y z) ∙ b)) (not_true _ (sym (le-lt x y) ∙ a)))
+  le-trans x y z a b = search (arith, le-lt, ranks_by, nat_list_cmp_total, not-true)
 
   le-one : (x y : X) → (name x ≡ name y → ⊥) → le y x ≡ not (le x y)
   le-one x y differ =
@@ -65,32 +55,10 @@ module _ {X : Type 0} (name : X → List ℕ) where
     where
       by : (a b : Bool) → le x z ≡ a → le y z ≡ b → inserted_by_name name x (inserted_by_name name y zs) ≡ inserted_by_name name y (inserted_by_name name x zs)
           → inserted_by_name name x (inserted_by_name name y (z ∷ zs)) ≡ inserted_by_name name y (inserted_by_name name x (z ∷ zs))
-      by true true p q again =
-          ap (λ t. inserted_by_name name x (cond t (y ∷ (z ∷ zs)) (z ∷ inserted_by_name name y zs))) q
-          ∙ ap (λ t. cond t (x ∷ (y ∷ (z ∷ zs))) (y ∷ inserted_by_name name x (z ∷ zs))) xy
-          ∙ sym (ap (λ t. inserted_by_name name y (cond t (x ∷ (z ∷ zs)) (z ∷ inserted_by_name name x zs))) p
-          ∙ ap (λ t. cond t (y ∷ (x ∷ (z ∷ zs))) (x ∷ inserted_by_name name y (z ∷ zs))) yx
-          ∙ ap (λ t. x ∷ cond t (y ∷ (z ∷ zs)) (z ∷ inserted_by_name name y zs)) q)
-      by true false p q again =
-          ap (λ t. inserted_by_name name x (cond t (y ∷ (z ∷ zs)) (z ∷ inserted_by_name name y zs))) q
-          ∙ ap (λ t. cond t (x ∷ (z ∷ inserted_by_name name y zs)) (z ∷ inserted_by_name name x (inserted_by_name name y zs))) p
-          ∙ sym (ap (λ t. inserted_by_name name y (cond t (x ∷ (z ∷ zs)) (z ∷ inserted_by_name name x zs))) p
-          ∙ ap (λ t. cond t (y ∷ (x ∷ (z ∷ zs))) (x ∷ inserted_by_name name y (z ∷ zs))) yx
-          ∙ ap (λ t. x ∷ cond t (y ∷ (z ∷ zs)) (z ∷ inserted_by_name name y zs)) q)
-      by false true p q again = absurd (false≢true (sym p ∙ le-trans x y z xy q))
-      by false false p q again =
-          ap (λ t. inserted_by_name name x (cond t (y ∷ (z ∷ zs)) (z ∷ inserted_by_name name y zs))) q
-          ∙ ap (λ t. cond t (x ∷ (z ∷ inserted_by_name name y zs)) (z ∷ inserted_by_name name x (inserted_by_name name y zs))) p
-          ∙ ap (λ l. z ∷ l) again
-          ∙ sym (ap (λ t. inserted_by_name name y (cond t (x ∷ (z ∷ zs)) (z ∷ inserted_by_name name x zs))) p
-          ∙ ap (λ t. cond t (y ∷ (z ∷ inserted_by_name name x zs)) (z ∷ inserted_by_name name y (inserted_by_name name x zs))) q)
+      by a b p q again = search (arith, false≢true, le-trans)
 
   inserted-inserted : (x y : X) → (name x ≡ name y → ⊥) → (l : List X) → inserted_by_name name x (inserted_by_name name y l) ≡ inserted_by_name name y (inserted_by_name name x l)
-  inserted-inserted x y differ l = by (le x y) refl
-    where
-      by : (t : Bool) → le x y ≡ t → inserted_by_name name x (inserted_by_name name y l) ≡ inserted_by_name name y (inserted_by_name name x l)
-      by true is = below x y is (le-one x y differ ∙ ap not is) l
-      by false is = sym (below y x (le-one x y differ ∙ ap not is) is l)
+  inserted-inserted x y differ l = search (arith, below, le-one)
 
   sorted-past : (x : X) (front back : List X) → ((z : X) → In z front → name x ≡ name z → ⊥)
       → sorted_by_name name (front ++ x ∷ back) ≡ inserted_by_name name x (sorted_by_name name (front ++ back))
@@ -144,12 +112,7 @@ module _ {X : Type 0} (name : X → List ℕ) where
 
 -- an entry is that of a node in the directory
 entry_in-Some : (dir : ℕ) (o : Option Node) (e : List ℕ × Kind) → entry_in dir o ≡ Some e → (x : Node) × (o ≡ Some x) × (x.parent ≡ dir) × ((x.name, x.kind) ≡ e)
-entry_in-Some dir None e t = absurd (let wrong : None ≡ Some e = t in cc wrong)
-entry_in-Some dir (Some x) e t = by (eqb x.parent dir) refl t
-  where
-    by : (v : Bool) → eqb x.parent dir ≡ v → cond v (Some (x.name, x.kind)) None ≡ Some e → (y : Node) × (Some x ≡ Some y) × (y.parent ≡ dir) × ((y.name, y.kind) ≡ e)
-    by true is k = (x, refl, eqb-true x.parent dir is, (let same : Some (x.name, x.kind) ≡ Some e = k in cc same))
-    by false is k = absurd (let wrong : None ≡ Some e = k in cc wrong)
+entry_in-Some dir o e t = search (arith, eqb-true)
 
 entries_are : (dir : ℕ) (nodes : Nodes) (e : List ℕ × Kind) → In e (filter_map (entry_in dir) nodes)
     → (n : ℕ) × (x : Node) × (node_at nodes n ≡ Some x) × (x.parent ≡ dir) × ((x.name, x.kind) ≡ e)
@@ -188,12 +151,7 @@ entries_count dir (o ∷ nodes) = by o (entries_count dir nodes) ∙ sym (sum_by
   where
     by : (p : Option Node) → length (filter_map (entry_in dir) nodes) ≡ count_by (is_in dir) nodes
         → length (cons_option (entry_in dir p) (filter_map (entry_in dir) nodes)) ≡ cond (is_in dir p) 1 0 + count_by (is_in dir) nodes
-    by None ih = omega (arith, ih)
-    by (Some x) ih = on (eqb x.parent dir)
-      where
-        on : (v : Bool) → length (cons_option (cond v (Some (x.name, x.kind)) None) (filter_map (entry_in dir) nodes)) ≡ cond v 1 0 + count_by (is_in dir) nodes
-        on true = omega (arith, ih)
-        on false = omega (arith, ih)
+    by p ih = search arith
 
 pub names_in_order : NamesInOrder
 names_in_order nodes dir entries tree lists =

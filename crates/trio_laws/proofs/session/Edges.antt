@@ -1,8 +1,8 @@
 -- Where a bundle shows a tree in the place of a tree, it meets rule I3.
-use Rattle.std.proofs.Common.{◌≡◌, ℕ, suc, ◌<◌, ◌≤◌, Bool, true, false, cond, not, ◌&&◌, ◌||◌, ltb, ltb-true, ◌+◌, List, [], ◌∷◌, length, Option, Some, None, Ok, sym, refl, ap, ◌∙◌, subst, inl, inr, ◌⊎◌, arith}
+use Rattle.std.proofs.Common.{◌≡◌, ℕ, suc, ◌<◌, ◌≤◌, Bool, true, false, cond, not, ◌&&◌, ltb, ltb-true, ◌+◌, List, [], ◌∷◌, length, Option, Some, None, Ok, sym, refl, ap, ◌∙◌, subst, inl, inr, ◌⊎◌, arith}
 use Rattle.std.specs.Prelude.{is_some}
-use Rattle.std.specs.List.{list_any, list_all}
-use Rattle.std.specs.Option.{option_map, option_map_or}
+use Rattle.std.specs.List.{list_all}
+use Rattle.std.specs.Option.{option_map}
 use Rattle.std.proofs.lemmas.Bool.{cases_Bool, cases_eq, and_parts, and_from, or_cases, or_left, or_right, eqb-true, false≢true, not_from_false, false_from_ne_true}
 use Rattle.trio_rights.specs.Row.{Row, row_in, is_child}
 use Rattle.trio_lists.specs.Lists.{In, is_among}
@@ -18,8 +18,8 @@ use Rattle.trio_layout.specs.Rules.{entry_is_own}
 use Rattle.trio_layout.specs.Edges.{climbs, climbs_clear, proposed_parent, is_listed, is_listed_kept, has_file, stays_listed, keeps_children, leaves_none, is_moved, comes_to_root, meets_edges}
 use Rattle.trio_nodes.specs.declared.node.Node.{Node}
 use Rattle.trio_nodes.specs.Nodes.{Nodes, node_at}
-use Rattle.trio_nodes.specs.Tree.{IsDirectory, IsTree}
-use Rattle.trio_desk.specs.Agrees.{Said, row_says, node_says}
+use Rattle.trio_nodes.specs.Tree.{IsTree}
+use Rattle.trio_desk.specs.Agrees.{row_says, node_says}
 use Rattle.trio_desk.specs.Shows.{Naming, naming_of, bytes_now, with_bytes, placed, made_by, node_listed, node_left, Shows}
 use Rattle.trio_desk.specs.Among.{written_numbers, IsAmong}
 use Rattle.trio_laws.specs.session.Bundles.{EdgesFollow}
@@ -53,24 +53,14 @@ module _ (c : Case) (nodes nodes' : Nodes) (tree : IsTree nodes) (tree' : IsTree
   -- ---- rows and nodes
 
   said_node : (o : Option Row) (p : Option Node) (r : Row) → option_map row_says o ≡ option_map node_says p → o ≡ Some r → (x : Node) × (p ≡ Some x) × (r.parent ≡ x.parent)
-  said_node None p r e t = absurd (let wrong : None ≡ Some r = t in cc)
-  said_node (Some q) None r e t = absurd (let wrong : Some (row_says q) ≡ None = e in cc)
-  said_node (Some q) (Some x) r e t =
-      let same : q ≡ r = (let t' : Some q ≡ Some r = t in cc t') in
-      let says : row_says q ≡ node_says x = (let e' : Some (row_says q) ≡ Some (node_says x) = e in cc e') in
-      (x, refl, sym (ap (λ (z : Row). z.parent) same) ∙ ap (λ (z : Said). z.parent) says)
+  said_node o p r e t = search arith
 
   -- a live number has a node, with the row's parent
   pub row_node : (n : ℕ) (r : Row) → row_in c.rows n ≡ Some r → (x : Node) × (node_at nodes n ≡ Some x) × (r.parent ≡ x.parent)
   row_node n r e = said_node (row_in c.rows n) (node_at nodes n) r (a.same n) e
 
   said_row : (o : Option Row) (p : Option Node) (x : Node) → option_map row_says o ≡ option_map node_says p → p ≡ Some x → (r : Row) × (o ≡ Some r) × (r.parent ≡ x.parent)
-  said_row o None x e t = absurd (let wrong : None ≡ Some x = t in cc)
-  said_row None (Some y) x e t = absurd (let wrong : None ≡ Some (node_says y) = e in cc)
-  said_row (Some q) (Some y) x e t =
-      let same : y ≡ x = (let t' : Some y ≡ Some x = t in cc t') in
-      let says : row_says q ≡ node_says y = (let e' : Some (row_says q) ≡ Some (node_says y) = e in cc e') in
-      (q, refl, ap (λ (z : Said). z.parent) says ∙ ap (λ (z : Node). z.parent) same)
+  said_row o p x e t = search arith
 
   pub node_row : (n : ℕ) (x : Node) → node_at nodes n ≡ Some x → (r : Row) × (row_in c.rows n ≡ Some r) × (r.parent ≡ x.parent)
   node_row n x e = said_row (row_in c.rows n) (node_at nodes n) x (a.same n) e
@@ -79,9 +69,7 @@ module _ (c : Case) (nodes nodes' : Nodes) (tree : IsTree nodes) (tree' : IsTree
   no_zero o e x t = let wrong : None ≡ Some x = sym tree.none ∙ e ∙ t in cc
 
   pub live_above : (n : ℕ) → is_some (row_in c.rows n) ≡ true → n ≡ 0 → ⊥
-  live_above n y e =
-      let r = some_of (row_in c.rows n) y in
-      let x = row_node n r.0 r.1 in no_zero (Some x.0) (ap (node_at nodes) (sym e) ∙ x.1) x.0 refl
+  live_above n y e = search (arith, some_of, row_node, no_zero)
 
   -- ---- what becomes of a number
 
@@ -95,11 +83,7 @@ module _ (c : Case) (nodes nodes' : Nodes) (tree : IsTree nodes) (tree' : IsTree
   listed_left e (Some x) = (placed e x, refl, refl)
 
   pub listed_now : (n : ℕ) (e : Naming) → naming_of c n ≡ Some e → (x : Node) × (node_at nodes' n ≡ Some x) × (x.parent ≡ e.directory)
-  listed_now n e h =
-      let l = listed_left e (node_at nodes n) in
-      let is : node_at nodes' n ≡ Some (with_bytes (bytes_now c n) l.0) =
-      s.each n ∙ ap (λ o. option_map (with_bytes (bytes_now c n)) (node_left c n o (node_at nodes n))) h ∙ ap (option_map (with_bytes (bytes_now c n))) l.1 in
-      (with_bytes (bytes_now c n) l.0, is, parent_with (bytes_now c n) l.0 ∙ l.2)
+  listed_now n e h = search (arith, listed_left, parent_with)
 
   pub unlisted_now : (n : ℕ) → naming_of c n ≡ None → node_at nodes' n ≡ option_map (with_bytes (bytes_now c n)) (cond (is_among n c.bundle.holds) None (node_at nodes n))
   unlisted_now n h = s.each n ∙ ap (λ o. option_map (with_bytes (bytes_now c n)) (node_left c n o (node_at nodes n))) h
@@ -109,44 +93,23 @@ module _ (c : Case) (nodes nodes' : Nodes) (tree : IsTree nodes) (tree' : IsTree
       unlisted_now n h ∙ ap (λ b. option_map (with_bytes (bytes_now c n)) (cond b None (node_at nodes n))) (In-is_among n c.bundle.holds i)
 
   pub left_now : (n : ℕ) (x : Node) → naming_of c n ≡ None → is_among n c.bundle.holds ≡ false → node_at nodes n ≡ Some x → (y : Node) × (node_at nodes' n ≡ Some y) × (y.parent ≡ x.parent)
-  left_now n x h free t = (
-    with_bytes (bytes_now c n) x,
-    unlisted_now n h ∙ ap (λ b. option_map (with_bytes (bytes_now c n)) (cond b None (node_at nodes n))) free ∙ ap (option_map (with_bytes (bytes_now c n))) t,
-    parent_with (bytes_now c n) x,
-  )
+  left_now n x h free t = search (arith, unlisted_now, parent_with)
 
   -- where nothing lists it and it is there, it was
   pub was_there : (n : ℕ) (y : Node) → naming_of c n ≡ None → node_at nodes' n ≡ Some y → (x : Node) × (node_at nodes n ≡ Some x) × (y.parent ≡ x.parent)
-  was_there n y h t = by (is_among n c.bundle.holds) (node_at nodes n) refl (sym (unlisted_now n h) ∙ t)
-    where
-      by : (b : Bool) (o : Option Node) → node_at nodes n ≡ o → option_map (with_bytes (bytes_now c n)) (cond b None o) ≡ Some y → (x : Node) × (node_at nodes n ≡ Some x) × (y.parent ≡ x.parent)
-      by true o e w = absurd (let wrong : None ≡ Some y = w in cc)
-      by false None e w = absurd (let wrong : None ≡ Some y = w in cc)
-      by false (Some x) e w =
-          let w' : Some (with_bytes (bytes_now c n) x) ≡ Some y = w in
-          let same : with_bytes (bytes_now c n) x ≡ y = cc w' in
-          (x, e, sym (ap (λ (z : Node). z.parent) same) ∙ parent_with (bytes_now c n) x)
+  was_there n y h t = search (arith, unlisted_now, parent_with)
 
   -- ---- whose an entry is
 
   owning_parts : (list_all (entry_is_own c) (judged_entries c)) ≡ true
-  owning_parts =
-      let p = and_parts _ _ s.owning in
-      let q = and_parts _ (list_all (entry_is_own c) (judged_entries c)) p.0 in q.1
+  owning_parts = search (arith, and_parts)
 
   pub own : (n : ℕ) (e : Naming) → naming_of c n ≡ Some e → (is_kept c (met_of e) ≡ true) ⊎ (In n c.bundle.holds ⊎ In n c.bundle.numbers)
   unfolding met_of
   own n e h =
       let i = naming_is c n e h in
       let o : entry_is_own c (met_of e) ≡ true = list_all-In (entry_is_own c) (met_of e) (judged_entries c) owning_parts i.met in
-      elim (or_cases (is_kept c (met_of e) || is_among e.listed.entry.ino c.bundle.holds) (is_among e.listed.entry.ino c.bundle.numbers) o) [
-        | inl p ↦
-            elim (or_cases (is_kept c (met_of e)) (is_among e.listed.entry.ino c.bundle.holds) p) [
-              | inl k ↦ inl k
-              | inr q ↦ inr (inl (subst (λ m. In m c.bundle.holds) i.number (is_among-In e.listed.entry.ino c.bundle.holds q)))
-            ]
-        | inr q ↦ inr (inr (subst (λ m. In m c.bundle.numbers) i.number (is_among-In e.listed.entry.ino c.bundle.numbers q)))
-      ]
+      search (arith, or_cases, met_of, is_among-In)
 
   pub new_dead : (n : ℕ) (r : Row) → row_in c.rows n ≡ Some r → In n c.bundle.numbers → ⊥
   new_dead n r e i = let wrong : None ≡ Some r = sym (a.new n i) ∙ e in cc
@@ -161,9 +124,7 @@ module _ (c : Case) (nodes nodes' : Nodes) (tree : IsTree nodes) (tree' : IsTree
       kept_by c (met_of e) n i.met i.number k
 
   file_judged : (p : ℕ) → has_file (listing c) p ≡ true → is_among p (numbers (judged_files c)) ≡ true
-  file_judged p y =
-      let m = has_file_at c p y in
-      In-is_among p (numbers (judged_files c)) (subst (λ k. In k (numbers (judged_files c))) m.2 (In-map (λ (x : Met). x.ino) m.0 (judged_files c) m.1))
+  file_judged p y = search (arith, has_file_at, In-is_among, In-map)
 
   child_stays : (n : ℕ) (r : Row) → row_in c.rows n ≡ Some r → has_file (listing c) r.parent ≡ true → (is_among n (listing c).held ≡ false) → is_listed_kept (listing c) n ≡ true
   child_stays n r e f free = by (naming_of c n) refl
@@ -186,16 +147,7 @@ module _ (c : Case) (nodes nodes' : Nodes) (tree : IsTree nodes) (tree' : IsTree
           absurd (false≢true (ap is_some (sym h) ∙ there))
 
   stays : (n : ℕ) (o : Option Row) → row_in c.rows n ≡ o → stays_listed (listing c) n o ≡ true
-  stays n None e = refl
-  stays n (Some r) e =
-      elim (cases_Bool (has_file (listing c) r.parent)) [
-        | inr no' ↦ or_left (not (has_file (listing c) r.parent) || is_among n (listing c).held) (is_listed_kept (listing c) n) (or_left (not (has_file (listing c) r.parent)) (is_among n (listing c).held) (not_from_false (has_file (listing c) r.parent) no'))
-        | inl yes' ↦
-            elim (cases_Bool (is_among n (listing c).held)) [
-              | inl held ↦ or_left (not (has_file (listing c) r.parent) || is_among n (listing c).held) (is_listed_kept (listing c) n) (or_right (not (has_file (listing c) r.parent)) (is_among n (listing c).held) held)
-              | inr free ↦ or_right (not (has_file (listing c) r.parent) || is_among n (listing c).held) (is_listed_kept (listing c) n) (child_stays n r e yes' free)
-            ]
-      ]
+  stays n o e = search (arith, cases_Bool, or_left, not_from_false, or_right, child_stays)
 
   children_kept : keeps_children (listing c) c.rows ≡ true
   children_kept = up_to_from (λ n. stays_listed (listing c) n (row_in c.rows n)) (length c.rows) (λ n low high. stays n (row_in c.rows n) refl)
@@ -218,14 +170,7 @@ module _ (c : Case) (nodes nodes' : Nodes) (tree : IsTree nodes) (tree' : IsTree
 
   -- whatever lies in a directory that is gone
   lies_nowhere : (n m : ℕ) (y : Node) → (n ≡ 0 → ⊥) → node_at nodes' n ≡ None → node_at nodes' m ≡ Some y → y.parent ≡ n → ⊥
-  lies_nowhere n m y high gone there p =
-      elim (cases_eq m 1) [
-        | inl one ↦
-            let same : y ≡ tree'.root.0 = (let w : Some y ≡ Some tree'.root.0 = sym there ∙ ap (node_at nodes') one ∙ tree'.root.1 in cc w) in
-            high (sym p ∙ ap (λ (z : Node). z.parent) same ∙ tree'.root.3)
-        | inr d ↦
-            subst IsDirectory (ap (node_at nodes') p ∙ gone) (tree'.parents m y there d)
-      ]
+  lies_nowhere n m y high gone there p = search (arith, cases_eq)
 
   no_child : (n m : ℕ) (r : Row) → In n c.bundle.holds → naming_of c n ≡ None → row_in c.rows m ≡ Some r → r.parent ≡ n → ⊥
   no_child n m r i h t p = by (naming_of c m) refl
@@ -260,16 +205,7 @@ module _ (c : Case) (nodes nodes' : Nodes) (tree : IsTree nodes) (tree' : IsTree
   held_left n i = by (naming_of c n) refl
     where
       by : (o : Option Naming) → naming_of c n ≡ o → leaves_none (listing c) c.rows n ≡ true
-      by (Some e) h = or_left (is_listed (listing c) n) (not (list_any (is_child n) c.rows)) (is_there n e h)
-      by None h =
-          or_right (is_listed (listing c) n) (not (list_any (is_child n) c.rows))
-          (not_from_false (list_any (is_child n) c.rows)
-          (false_from_ne_true (list_any (is_child n) c.rows)
-          (λ y.
-          let o = list_any-In (is_child n) c.rows y in
-          let r = child_row n o.0 o.2 in
-          let m = in_rows c.rows r.0 (subst (λ z. In z c.rows) r.1 o.1) in
-          no_child n m.0 r.0 i h m.1 r.2)))
+      by o h = search (arith, or_left, is_there, or_right, not_from_false, false_from_ne_true, list_any-In, child_row, in_rows, no_child)
 
   none_dropped : list_all (leaves_none (listing c) c.rows) (listing c).held ≡ true
   none_dropped = list_all-each (leaves_none (listing c) c.rows) (listing c).held (λ n i. held_left n (held_from c n i))
@@ -277,17 +213,7 @@ module _ (c : Case) (nodes nodes' : Nodes) (tree : IsTree nodes) (tree' : IsTree
   -- ---- no directory is moved below itself
 
   parent_now : (n : ℕ) (y : Node) → node_at nodes' n ≡ Some y → (n ≡ 1 → ⊥) → proposed_parent (listing c) c.rows n ≡ y.parent
-  parent_now n y t d = by (naming_of c n) refl
-    where
-      by : (o : Option Naming) → naming_of c n ≡ o → proposed_parent (listing c) c.rows n ≡ y.parent
-      by (Some e) h =
-          let l = listed_now n e h in
-          let same : l.0 ≡ y = (let w : Some l.0 ≡ Some y = sym l.1 ∙ t in cc w) in
-          parent_listed c n e h ∙ sym l.2 ∙ ap (λ (z : Node). z.parent) same
-      by None h =
-          let x = was_there n y h t in
-          let r = node_row n x.0 x.1 in
-          parent_unlisted c n h ∙ ap (λ o. option_map_or (λ (q : Row). q.parent) o 0) r.1 ∙ r.2 ∙ sym x.2
+  parent_now n y t d = search (arith, listed_now, parent_listed, was_there, node_row, parent_unlisted)
 
   inside_now : length c.rows ≡ c.inodes + 1 → (n : ℕ) (y : Node) → node_at nodes' n ≡ Some y → n < length c.rows
   inside_now many n y t = by (naming_of c n) refl
@@ -303,12 +229,7 @@ module _ (c : Case) (nodes nodes' : Nodes) (tree : IsTree nodes) (tree' : IsTree
           let r = node_row n x.0 x.1 in row_there c.rows n (ap is_some r.1)
 
   held_below_root : (n : ℕ) → In n c.bundle.holds → n ≡ 1 → ⊥
-  held_below_root n i e =
-      let r = some_of (row_in c.rows n) (a.held n i) in
-      let x = row_node n r.0 r.1 in
-      let same : x.0 ≡ tree.root.0 = (let w : Some x.0 ≡ Some tree.root.0 = sym x.1 ∙ ap (node_at nodes) e ∙ tree.root.1 in cc w) in
-      let top : r.0.parent ≡ 0 = x.2 ∙ ap (λ (z : Node). z.parent) same ∙ tree.root.3 in
-      live_above 0 (a.written 0 (subst (λ k. In k (written_numbers c)) top (a.closed n r.0 i r.1))) refl
+  held_below_root n i e = search (arith, some_of, row_node, live_above)
 
   moved_climbs : length c.rows ≡ c.inodes + 1 → (e : ListedEntry) → In e (listing c).entries → In e.ino c.bundle.holds
       → climbs_clear (proposed_parent (listing c) c.rows) e.ino (length c.rows) (proposed_parent (listing c) c.rows e.ino) ≡ true
@@ -334,10 +255,7 @@ module _ (c : Case) (nodes nodes' : Nodes) (tree : IsTree nodes) (tree' : IsTree
           (moved_climbs many e i (held_from c e.ino (is_among-In e.ino (listing c).held q.0)))
 
   pub edges_met : length c.rows ≡ c.inodes + 1 → meets_edges (listing c) c.rows ≡ true
-  edges_met many =
-      and_from (keeps_children (listing c) c.rows && list_all (leaves_none (listing c) c.rows) (listing c).held) (list_all (comes_to_root (listing c) c.rows) (listing c).entries)
-      (and_from (keeps_children (listing c) c.rows) (list_all (leaves_none (listing c) c.rows) (listing c).held) children_kept none_dropped)
-      (all_come many)
+  edges_met many = search (arith, and_from, children_kept, none_dropped, all_come)
 
 pub edges_follow : EdgesFollow
 edges_follow c nodes nodes' tree tree' a s many = edges_met c nodes nodes' tree tree' a s many

@@ -1,5 +1,5 @@
 -- What is in hand stays in order where bodies and bytes alone are exchanged: its files, holds and numbers are those that it had.
-use Rattle.std.proofs.Common.{◌≡◌, List, [], ◌++◌, Option, sym, ap, ◌∙◌, subst}
+use Rattle.std.proofs.Common.{◌≡◌, List, [], Option, sym, ap, ◌∙◌, subst, arith}
 use Rattle.std.specs.Prelude.{map}
 use Rattle.std.proofs.lemmas.Simd.{map-map}
 use Rattle.trio_rights.specs.Row.{Row}
@@ -8,8 +8,6 @@ use Rattle.trio_lists.specs.Lists.{In, are_new}
 use Rattle.trio_layout.specs.Case.{Case}
 use Rattle.trio_lease.specs.Shown.{LentFile}
 use Rattle.trio_lease.specs.Views.{written_in}
-use Rattle.trio_lease.specs.declared.parts.HoldParts.{HoldParts}
-use Rattle.trio_lease.specs.declared.parts.InoParts.{InoParts}
 use Rattle.trio_nodes.specs.Nodes.{Nodes}
 use Rattle.trio_desk.specs.Call.{DeskSeen}
 use Rattle.trio_desk.specs.Among.{IsAmong}
@@ -26,18 +24,12 @@ bundle_then h h' = record { writes = (bundle_of h'.parcel).writes; holds = (bund
 
 module _ (desk : DeskSeen) (h h' : InHand) (holds : h'.parcel.holds ≡ h.parcel.holds) (inodes : h'.parcel.inodes ≡ h.parcel.inodes) where
   pub case_is : (rows : List (Option Row)) → case_in_hand desk rows h' ≡ case_with desk.sizes desk.creds rows (bundle_then h h') (map held_by h.parcel.holds)
-  case_is rows =
-      let by : List HoldParts → List InoParts → Case =
-      λ k n. case_with desk.sizes desk.creds rows (record { writes = (bundle_of h'.parcel).writes; holds = map (λ (x : HoldParts). x.ino) k; pages = (bundle_of h'.parcel).pages; numbers = map (λ (x : InoParts). x.no) n }) (map held_by k) in
-      ap (λ k. by k h'.parcel.inodes) holds ∙ ap (by h.parcel.holds) inodes
+  case_is rows = search arith
 
   module _ (lent : lent_files h'.parcel.writes ≡ lent_files h.parcel.writes) (back : h'.back ≡ h.back) where
     -- what is possible then was possible
     pub possible_before : (nodes : Nodes) (rows : List (Option Row)) → ArePossible desk h'.parcel h'.back nodes rows → ArePossible desk h.parcel h.back nodes rows
-    possible_before =
-        possible_with_less desk h.parcel h'.parcel h.back h'.back
-        (λ x i. subst (λ l. In x (l ++ h'.back)) (sym lent) (subst (λ l. In x (lent_files h.parcel.writes ++ l)) (sym back) i))
-        (λ k i. subst (λ l. In k l) (sym holds) i) (λ n i. subst (λ (l : List InoParts). In n (map (λ (x : InoParts). x.no) l)) (sym inodes) i)
+    possible_before = search (arith, possible_with_less)
 
     pub order_stays :
         map (λ (w : Written). w.ino) (bundle_of h'.parcel).writes ≡ map (λ (w : Written). w.ino) (bundle_of h.parcel).writes

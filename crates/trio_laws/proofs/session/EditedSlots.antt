@@ -1,5 +1,5 @@
 -- What a directory reads where the body in one slot of its pages is exchanged: the entry in this slot has the new body, and all else is as it was.
-use Rattle.std.proofs.Common.{◌≡◌, ℕ, suc, zero, ◌<◌, Bool, true, false, cond, ◌&&◌, ◌||◌, eqb, List, [], ◌∷◌, ◌++◌, length, Option, Some, None, Result, Ok, Err, sym, refl, ap, ◌∙◌, subst, inl, inr}
+use Rattle.std.proofs.Common.{◌≡◌, ℕ, suc, zero, ◌<◌, Bool, true, false, cond, ◌&&◌, ◌||◌, eqb, List, [], ◌∷◌, ◌++◌, length, Option, Some, None, Result, Ok, Err, sym, refl, ap, ◌∙◌, subst, inl, inr, arith}
 use Rattle.std.specs.Prelude.{map}
 use Rattle.std.specs.Str.{bytes_eq}
 use Rattle.std.proofs.lemmas.Bool.{and_parts, and_from, cases_eq, eq-eqb, eqb-true, false≢true}
@@ -8,7 +8,6 @@ use Rattle.trio_rights.specs.declared.kind.Kind.{Kind}
 use Rattle.trio_rights.specs.declared.kind.Kind.TheVariants.{Regular, Directory}
 use Rattle.trio_lists.specs.Lists.{In, both, gathered, gathered_below, result_map, result_then}
 use Rattle.trio_lists.proofs.Members.{In-left, In-right, result_then-Ok}
-use Rattle.trio_layout.specs.declared.slot.EntryPart.{EntryPart}
 use Rattle.trio_layout.specs.declared.slot.SlotRead.{SlotRead}
 use Rattle.trio_layout.specs.declared.slot.SlotRead.TheVariants.{Empty, Entry, Bad}
 use Rattle.trio_layout.specs.Accept.{with_body_in}
@@ -29,9 +28,7 @@ use Rattle.trio_laws.proofs.session.Reading.{chain_same}
 -- ---- what is gathered, each element changed
 
 both-map : {X Y E : Type 0} (g : X → Y) (q r : Result (List X) E) → both (result_map (map g) q) (result_map (map g) r) ≡ result_map (map g) (both q r)
-both-map g (Err e) r = refl
-both-map g (Ok xs) (Err e) = refl
-both-map g (Ok xs) (Ok ys) = ap Ok (sym (map-append g xs ys))
+both-map g q r = search (arith, map-append)
 
 gathered-map : {X Y E : Type 0} (g : Y → Y) (f f' : X → Result (List Y) E) (xs : List X) → ((x : X) → In x xs → f' x ≡ result_map (map g) (f x)) → gathered f' xs ≡ result_map (map g) (gathered f xs)
 gathered-map g f f' [] h = refl
@@ -105,28 +102,11 @@ stands-entry core m f l kind e p =
 abbrev pub placed_with : ℕ → ℕ → List ℕ → Listed → Listed
 placed_with page slot body l = cond (eqb l.page page && eqb l.slot slot) (record l { body = body }) l
 
--- this entry alone
-abbrev only_one : Listed → Result (List Listed) Location
-only_one l = Ok (l ∷ [])
-
 module _ (q s : ℕ) (body : List ℕ) where
   slot-map : (inodes p : ℕ) (bytes bytes' : List ℕ) (t : ℕ) → slot_of inodes (slot_bytes t bytes') ≡ slot_of inodes (slot_bytes t bytes)
       → (p ≡ q → t ≡ s → body_in_slot t bytes' ≡ body) → ((p ≡ q → t ≡ s → ⊥) → body_in_slot t bytes' ≡ body_in_slot t bytes)
       → slot_entries inodes p bytes' t ≡ result_map (map (placed_with q s body)) (slot_entries inodes p bytes t)
-  slot-map inodes p bytes bytes' t front here other =
-      ap (listed_at p t (body_in_slot t bytes')) front ∙ by (slot_of inodes (slot_bytes t bytes))
-    where
-      choose : (e : EntryPart) (b : Bool) → (eqb p q && eqb t s) ≡ b → only_one (at_place e p t (body_in_slot t bytes')) ≡ only_one (cond b (at_place e p t body) (at_place e p t (body_in_slot t bytes)))
-      choose e true k =
-          let both' = and_parts (eqb p q) (eqb t s) k in
-          ap (λ z. only_one (at_place e p t z)) (here (eqb-true p q both'.0) (eqb-true t s both'.1))
-      choose e false k =
-          ap (λ z. only_one (at_place e p t z)) (other (λ on at. false≢true (sym k ∙ and_from (eqb p q) (eqb t s) (eq-eqb p q on) (eq-eqb t s at))))
-
-      by : (r : SlotRead) → listed_at p t (body_in_slot t bytes') r ≡ result_map (map (placed_with q s body)) (listed_at p t (body_in_slot t bytes) r)
-      by Empty = refl
-      by Bad = refl
-      by (Entry e) = choose e (eqb p q && eqb t s) refl
+  slot-map inodes p bytes bytes' t front here other = search (arith, and_parts, eqb-true, false≢true, and_from, eq-eqb)
 
   -- ---- names
 
@@ -153,11 +133,7 @@ module _ (q s : ℕ) (body : List ℕ) where
       by false e = rw e refl
 
   apart-map : (ls : List Listed) → with_names_apart (map (placed_with q s body) ls) ≡ result_map (map (placed_with q s body)) (with_names_apart ls)
-  apart-map ls = ap (unless_repeated (map (placed_with q s body) ls)) (repeated-map [] ls) ∙ by (repeated_name [] ls)
-    where
-      by : (o : Option Location) → unless_repeated (map (placed_with q s body) ls) o ≡ result_map (map (placed_with q s body)) (unless_repeated ls o)
-      by None = refl
-      by (Some place) = refl
+  apart-map ls = search (arith, repeated-map)
 
   then-map : (r : Result (List Listed) Location) → result_then with_names_apart (result_map (map (placed_with q s body)) r) ≡ result_map (map (placed_with q s body)) (result_then with_names_apart r)
   then-map (Err place) = refl
@@ -187,16 +163,7 @@ module _ (q s : ℕ) (body : List ℕ) where
 
     entries-on : (p : ℕ) → ((p ≡ q → ⊥) → page_of other p ≡ page_of core p)
         → entries_where core.inodes p (page_of other p) ≡ result_map (map (placed_with q s body)) (entries_where core.inodes p (page_of core p))
-    entries-on p else' =
-        elim (cases_eq p q) [
-          | inl on ↦
-              ap (λ k. entries_where core.inodes k (page_of other k)) on
-              ∙ ap (entries_where core.inodes q) after
-              ∙ on-page core.inodes
-              ∙ ap (λ o. result_map (map (placed_with q s body)) (entries_where core.inodes q o)) (sym before)
-              ∙ ap (λ k. result_map (map (placed_with q s body)) (entries_where core.inodes k (page_of core k))) (sym on)
-          | inr off ↦ ap (entries_where core.inodes p) (else' off) ∙ off-page core.inodes p (page_of core p) off
-        ]
+    entries-on p else' = search (arith, cases_eq, on-page, off-page)
 
     entries-now : (kind : Kind) (blocks : List ℕ) (es : List Listed) → ((p : ℕ) → In p blocks → (p ≡ q → ⊥) → page_of other p ≡ page_of core p)
         → entries_within core kind blocks ≡ Ok es → entries_within other kind blocks ≡ Ok (map (placed_with q s body) es)

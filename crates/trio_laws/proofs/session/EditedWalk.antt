@@ -1,5 +1,5 @@
 -- A walk over files whose bodies are changed, but not their numbers: it meets the same files, so changed.
-use Rattle.std.proofs.Common.{◌≡◌, ℕ, suc, zero, ◌≤◌, Bool, true, false, cond, List, [], ◌∷◌, ◌++◌, Some, sym, refl, ap, ◌∙◌, inl, inr, arith}
+use Rattle.std.proofs.Common.{◌≡◌, ℕ, suc, zero, ◌≤◌, Bool, true, false, cond, List, [], ◌∷◌, ◌++◌, sym, refl, ap, ◌∙◌, inl, inr, arith}
 use Rattle.std.specs.Prelude.{map}
 use Rattle.std.specs.List.{filter, find, flat_map}
 use Rattle.std.proofs.lemmas.List.{map-append}
@@ -13,9 +13,7 @@ use Rattle.trio_laws.proofs.session.Beside.{passed_more}
 
 -- tests that agree on each element find the same
 pub find-same : {X : Type 0} (p q : X → Bool) (xs : List X) → ((x : X) → p x ≡ q x) → find p xs ≡ find q xs
-find-same p q [] same = refl
-find-same p q (x ∷ xs) same =
-    ap (λ b. cond b (Some x) (find p xs)) (same x) ∙ ap (cond (q x) (Some x)) (find-same p q xs same)
+find-same p q xs same = search arith
 
 -- what is listed of changed elements, where it is what was listed, changed
 pub flat_map-changed : {X Y : Type 0} (E : X → X) (K : Y → Y) (f f' : X → List Y) (xs : List X) → ((x : X) → In x xs → f' (E x) ≡ map K (f x)) → flat_map f' (map E xs) ≡ map K (flat_map f xs)
@@ -68,8 +66,4 @@ module _ (E : Met → Met) (number : (m : Met) → (E m).ino ≡ m.ino) where
       let all : map E f.passed ++ map E f.level ≡ map E (f.passed ++ f.level) = sym (map-append E f.passed f.level) in
       let more : flat_map kids' (map E f.level) ≡ map E (flat_map kids f.level) =
       flat_map-changed E E kids kids' f.level (λ m i. same m (passed_more kids starts m (suc k) n h (In-right m f.passed f.level i))) in
-      ap (λ (z : Front). record { passed = z.passed ++ z.level; level = first_listed (numbers (z.passed ++ z.level)) (flat_map kids' z.level) }) before
-      ∙ ap (λ p. record { passed = p; level = first_listed (numbers p) (flat_map kids' (map E f.level)) }) all
-      ∙ ap (λ s. record { passed = map E (f.passed ++ f.level); level = first_listed s (flat_map kids' (map E f.level)) }) (numbers-changed (f.passed ++ f.level))
-      ∙ ap (λ l. record { passed = map E (f.passed ++ f.level); level = first_listed (numbers (f.passed ++ f.level)) l }) more
-      ∙ ap (λ l. record { passed = map E (f.passed ++ f.level); level = l }) (first-changed (numbers (f.passed ++ f.level)) (flat_map kids f.level))
+      search (arith, numbers-changed, first-changed)

@@ -1,7 +1,6 @@
 -- How a walk and the calls on a regular file are decided by what a session sees.
-use Rattle.std.proofs.Common.{◌≡◌, ℕ, Bool, true, false, cond, not, ◌&&◌, ◌+◌, [], ◌∷◌, ◌++◌, length, take, drop, Some, None, Result, Ok, Err, sym, refl, ap, ◌∙◌, subst, inl, inr, ◌⊎◌}
+use Rattle.std.proofs.Common.{◌≡◌, ℕ, Bool, true, false, cond, ◌&&◌, ◌+◌, [], length, take, drop, Some, None, Ok, Err, sym, refl, ap, ◌∙◌, subst, inr, ◌⊎◌, arith}
 use Rattle.std.specs.Prelude.{MatchBool, nat_lt}
-use Rattle.std.specs.Option.{ok_or, option_map}
 use Rattle.std.proofs.lemmas.Bool.{false≢true}
 use Rattle.trio_rights.specs.declared.kind.Kind.TheVariants.{Regular}
 use Rattle.trio_rights.specs.declared.rights.Creds.{Creds}
@@ -9,44 +8,29 @@ use Rattle.trio_rights.specs.declared.rights.Need.TheVariants.{Read as ToRead, W
 use Rattle.trio_nodes.specs.declared.node.Node.{Node}
 use Rattle.trio_nodes.specs.declared.call.Answer.TheVariants.{Done as IsDone, Count, Bytes, Stat as IsStat}
 use Rattle.trio_nodes.specs.declared.call.Call.{Call}
-use Rattle.trio_nodes.specs.declared.call.Call.TheVariants.{Mkdir, Create, Write, Read, Truncate, Unlink, Rmdir, Rename, List as ListNames, Stat, Chmod}
+use Rattle.trio_nodes.specs.declared.call.Call.TheVariants.{Write, Read, Truncate, Stat}
 use Rattle.trio_nodes.specs.declared.call.Done.{Done}
 use Rattle.trio_nodes.specs.declared.call.Reply.{Reply}
-use Rattle.trio_nodes.specs.declared.call.Reply.TheVariants.{Ok as Replied, NotFound, Exists, NotDir, IsDir, NotEmpty, Denied, IntoItself, NoSpace, NoInodes, TooLarge}
-use Rattle.trio_nodes.specs.Nodes.{Nodes, node_at, count_in, find_named, with_node}
-use Rattle.trio_nodes.specs.Walk.{Path, and_then, enter_node, is_directory, lacks, need_at, walk, walk_from}
-use Rattle.trio_nodes.specs.Apply.{Applied, LacksRoom, applied, at_file, done, is_done, largest_size, makes_file, of_node, put_at, reached, refused, resized, size_of, wants_pages}
-use Rattle.trio_nodes.specs.After.{call_nodes, lacks_room}
+use Rattle.trio_nodes.specs.declared.call.Reply.TheVariants.{NotFound, IsDir, Denied, TooLarge}
+use Rattle.trio_nodes.specs.Nodes.{Nodes, node_at, with_node}
+use Rattle.trio_nodes.specs.Walk.{Path, is_directory, lacks, walk}
+use Rattle.trio_nodes.specs.Apply.{Applied, LacksRoom, applied, at_file, done, is_done, largest_size, makes_file, put_at, refused, resized, size_of, wants_pages}
+use Rattle.trio_nodes.specs.After.{lacks_room}
 use Rattle.trio_nodes.specs.Legal.{MadeFits}
 use Rattle.trio_desk.specs.Contents.{Rights, rights_of}
 use Rattle.trio_desk.specs.Call.{DeskSeen}
 use Rattle.trio_desk.specs.Edits.{DoesCall}
-use Rattle.trio_laws.specs.session.FileEdits.{node_with}
-use Rattle.trio_laws.specs.session.FileCalls.{DoneByBytes, EntersBy, RefusedByCheck, RefusedByWalk, RefusedForRoom, StatsDirectory, WalksBy, answer_of, changed_by, enters, file_path, gives, refusal}
+use Rattle.trio_laws.specs.session.FileCalls.{DoneByBytes, EntersBy, RefusedByCheck, RefusedByWalk, RefusedForRoom, StatsDirectory, WalksBy, answer_of, changed_by, file_path, refusal}
 use Rattle.trio_lists.proofs.Filters.{some_one}
 use Rattle.trio_laws.proofs.session.LentNodes.{mapped}
 
 -- ---- walks
 
 pub enters_by : EntersBy
-enters_by nodes creds need n r e =
-    let x = mapped rights_of (node_at nodes n) r e in
-    ap (enter_node creds need n) x.1 ∙ ap (enters creds need n) x.2
+enters_by nodes creds need n r e = search (arith, mapped)
 
 pub walks_by : WalksBy
-walks_by nodes creds writes passed at name names r found e f =
-    ap (λ q. and_then q next) (enters_by nodes creds (need_at writes passed) at r e) ∙ by (not (is_directory r.kind)) (not (gives creds (need_at writes passed) r))
-  where
-    on : ℕ → Result ℕ Reply
-    on child = walk_from nodes creds writes (passed ++ name ∷ []) child names
-
-    next : ℕ → Result ℕ Reply
-    next dir = and_then (ok_or (find_named nodes dir name) NotFound) (λ child. walk_from nodes creds writes (passed ++ name ∷ []) child names)
-
-    by : (t v : Bool) → and_then (cond t (Err NotDir) (cond v (Err Denied) (Ok at))) next ≡ and_then (cond t (Err NotDir) (cond v (Err Denied) (Ok at))) (λ dir. and_then (ok_or found NotFound) (λ child. walk_from nodes creds writes (passed ++ name ∷ []) child names))
-    by true v = refl
-    by false true = refl
-    by false false = ap (λ q. and_then (ok_or q NotFound) (λ child. walk_from nodes creds writes (passed ++ name ∷ []) child names)) f
+walks_by nodes creds writes passed at name names r found e f = search (arith, enters_by)
 
 -- ---- calls
 
@@ -68,30 +52,10 @@ step nodes creds _ n x = refused nodes NotFound
 
 -- a call on a file goes where its walk goes
 goes : (nodes : Nodes) (creds : Creds) (call : Call) (made : ℕ) (path : Path) → file_path call ≡ Some path → applied nodes creds call made ≡ at_file nodes creds path (step nodes creds call)
-goes nodes creds (Write p at bytes) made path e = (let same : p ≡ path = (let t : Some p ≡ Some path = e in cc t) in ap (λ q. at_file nodes creds q (step nodes creds (Write p at bytes))) same)
-goes nodes creds (Read p at len) made path e = (let same : p ≡ path = (let t : Some p ≡ Some path = e in cc t) in ap (λ q. at_file nodes creds q (step nodes creds (Read p at len))) same)
-goes nodes creds (Truncate p size) made path e = (let same : p ≡ path = (let t : Some p ≡ Some path = e in cc t) in ap (λ q. at_file nodes creds q (step nodes creds (Truncate p size))) same)
-goes nodes creds (Stat p) made path e = (let same : p ≡ path = (let t : Some p ≡ Some path = e in cc t) in ap (λ q. at_file nodes creds q (step nodes creds (Stat p))) same)
-goes nodes creds (Mkdir p m) made path e = absurd (let wrong : None ≡ Some path = e in cc wrong)
-goes nodes creds (Create p m) made path e = absurd (let wrong : None ≡ Some path = e in cc wrong)
-goes nodes creds (Unlink p) made path e = absurd (let wrong : None ≡ Some path = e in cc wrong)
-goes nodes creds (Rmdir p) made path e = absurd (let wrong : None ≡ Some path = e in cc wrong)
-goes nodes creds (Rename p q) made path e = absurd (let wrong : None ≡ Some path = e in cc wrong)
-goes nodes creds (ListNames p n) made path e = absurd (let wrong : None ≡ Some path = e in cc wrong)
-goes nodes creds (Chmod p m) made path e = absurd (let wrong : None ≡ Some path = e in cc wrong)
+goes nodes creds call made path e = search arith
 
 makes_none : (call : Call) (path : Path) → file_path call ≡ Some path → makes_file call ≡ false
-makes_none (Write p at bytes) path e = refl
-makes_none (Read p at len) path e = refl
-makes_none (Truncate p size) path e = refl
-makes_none (Stat p) path e = refl
-makes_none (Unlink p) path e = refl
-makes_none (Rmdir p) path e = refl
-makes_none (Rename p q) path e = refl
-makes_none (ListNames p n) path e = refl
-makes_none (Chmod p m) path e = refl
-makes_none (Mkdir p m) path e = absurd (let wrong : None ≡ Some path = e in cc wrong)
-makes_none (Create p m) path e = absurd (let wrong : None ≡ Some path = e in cc wrong)
+makes_none call path e = search arith
 
 -- a call that makes no file, by what it is or by its reply, has no number
 pub makes_nothing : (nodes : Nodes) (d : Done) → (makes_file d.call && is_done d.reply) ≡ false → d.made ≡ 0 → MadeFits nodes d
@@ -101,34 +65,11 @@ makes_nothing nodes d e none =
 module _ (desk : DeskSeen) (d : Done) (nodes : Nodes) (made : MadeFits nodes d) where
   -- the call makes this of the nodes, with this reply
   pub does_as : (a : Applied) → applied nodes desk.creds d.call d.made ≡ a → d.reply ≡ a.reply → (lacks_room d.reply ≡ false) ⊎ (a.nodes ≡ nodes) → DoesCall desk d nodes a.nodes
-  does_as a e r room =
-      let after : call_nodes desk.creds nodes d ≡ a.nodes =
-      ap (λ (z : Applied). cond (lacks_room d.reply) nodes z.nodes) e
-      ∙ elim room [ inl t ↦ ap (λ t. cond t nodes a.nodes) t | inr same ↦ by (lacks_room d.reply) same ] in
-      (inl (r ∙ sym (ap (λ (z : Applied). z.reply) e), after ∙ sym (ap (λ (z : Applied). z.nodes) e)), made, after)
-    where
-      by : (t : Bool) → a.nodes ≡ nodes → cond t nodes a.nodes ≡ a.nodes
-      by true s = sym s
-      by false s = refl
+  does_as a e r room = search arith
 
   -- it would be done, but there is no room for it
   pub lacks_as : LacksRoom d.call d.reply → is_done (applied nodes desk.creds d.call d.made).reply ≡ true → DoesCall desk d nodes nodes
-  lacks_as lacks' could =
-      let stays : call_nodes desk.creds nodes d ≡ nodes = ap (λ t. cond t nodes (applied nodes desk.creds d.call d.made).nodes) (room d.reply lacks') in
-      (inr (lacks', could, stays), made, stays)
-    where
-      room : (reply : Reply) → LacksRoom d.call reply → lacks_room reply ≡ true
-      room (NoSpace wanted free) l = refl
-      room (NoInodes wanted free) l = refl
-      room (Replied answer) l = absurd l
-      room NotFound l = absurd l
-      room Exists l = absurd l
-      room NotDir l = absurd l
-      room IsDir l = absurd l
-      room NotEmpty l = absurd l
-      room Denied l = absurd l
-      room IntoItself l = absurd l
-      room TooLarge l = absurd l
+  lacks_as lacks' could = search arith
 
 module _ (desk : DeskSeen) (d : Done) (nodes : Nodes) (path : Path) (is : file_path d.call ≡ Some path) (none : d.made ≡ 0) where
   made_fits : MadeFits nodes d
@@ -138,17 +79,11 @@ module _ (desk : DeskSeen) (d : Done) (nodes : Nodes) (path : Path) (is : file_p
   does_by = does_as desk d nodes made_fits
 
   by_walk : walk nodes desk.creds [] path ≡ Err d.reply → DoesCall desk d nodes nodes
-  by_walk w =
-      does_by (refused nodes d.reply)
-      (goes nodes desk.creds d.call d.made path is ∙ ap (λ q. reached nodes q (λ n. of_node nodes (node_at nodes n) (step nodes desk.creds d.call n))) w)
-      refl (inr refl)
+  by_walk w = search (arith, does_by, goes)
 
   module _ (n : ℕ) (w : walk nodes desk.creds [] path ≡ Ok n) (x : Node) (at : node_at nodes n ≡ Some x) where
     comes : applied nodes desk.creds d.call d.made ≡ step nodes desk.creds d.call n x
-    comes =
-        goes nodes desk.creds d.call d.made path is
-        ∙ ap (λ q. reached nodes q (λ n. of_node nodes (node_at nodes n) (step nodes desk.creds d.call n))) w
-        ∙ ap (λ q. of_node nodes q (step nodes desk.creds d.call n)) at
+    comes = search (arith, goes)
 
 -- ---- checks, one after another
 
@@ -179,61 +114,16 @@ module _ (nodes : Nodes) (good : Applied) where
 
 -- what refuses at the file, refuses the step
 step_refused : (nodes : Nodes) (creds : Creds) (call : Call) (n : ℕ) (x : Node) (reply : Reply) → refusal creds (rights_of x) call ≡ Some reply → step nodes creds call n x ≡ refused nodes reply
-step_refused nodes creds (Write p at bytes) n x reply e =
-    three_refuse nodes (done (with_node nodes n (Some (record x { bytes = put_at at bytes x.bytes }))) (Count (length bytes))) IsDir Denied TooLarge reply (is_directory x.kind) (lacks creds ToWrite x) (nat_lt largest_size (at + length bytes)) e
-step_refused nodes creds (Read p at len) n x reply e =
-    two_refuse nodes (done nodes (Bytes (take len (drop at x.bytes)))) IsDir Denied reply (is_directory x.kind) (lacks creds ToRead x) e
-step_refused nodes creds (Truncate p size) n x reply e =
-    three_refuse nodes (done (with_node nodes n (Some (record x { bytes = resized size x.bytes }))) IsDone) IsDir Denied TooLarge reply (is_directory x.kind) (lacks creds ToWrite x) (nat_lt largest_size size) e
-step_refused nodes creds (Stat p) n x reply e =
-    first_refuses nodes (done nodes (IsStat x.kind x.mode x.uid x.gid (size_of nodes n x))) Denied reply (lacks creds ToRead x) e
-step_refused nodes creds (Mkdir p m) n x reply e = absurd (let wrong : None ≡ Some reply = e in cc wrong)
-step_refused nodes creds (Create p m) n x reply e = absurd (let wrong : None ≡ Some reply = e in cc wrong)
-step_refused nodes creds (Unlink p) n x reply e = absurd (let wrong : None ≡ Some reply = e in cc wrong)
-step_refused nodes creds (Rmdir p) n x reply e = absurd (let wrong : None ≡ Some reply = e in cc wrong)
-step_refused nodes creds (Rename p q) n x reply e = absurd (let wrong : None ≡ Some reply = e in cc wrong)
-step_refused nodes creds (ListNames p m) n x reply e = absurd (let wrong : None ≡ Some reply = e in cc wrong)
-step_refused nodes creds (Chmod p m) n x reply e = absurd (let wrong : None ≡ Some reply = e in cc wrong)
+step_refused nodes creds call n x reply e = search (arith, three_refuse, two_refuse, first_refuses)
 
 -- where nothing refuses, it is done
 step_done : (nodes : Nodes) (creds : Creds) (call : Call) (n : ℕ) (x : Node) (path : Path) → file_path call ≡ Some path → node_at nodes n ≡ Some x → x.kind ≡ Regular → refusal creds (rights_of x) call ≡ None
     → step nodes creds call n x ≡ done (changed_by call n x.bytes nodes) (answer_of (rights_of x) x.bytes (length x.bytes) call)
-step_done nodes creds (Write p at bytes) n x path is there kind e =
-    three_pass nodes (done (with_node nodes n (Some (record x { bytes = put_at at bytes x.bytes }))) (Count (length bytes))) IsDir Denied TooLarge (is_directory x.kind) (lacks creds ToWrite x) (nat_lt largest_size (at + length bytes)) e
-    ∙ ap (λ q. done (with_node nodes n (option_map (node_with (put_at at bytes x.bytes)) q)) (Count (length bytes))) (sym there)
-step_done nodes creds (Read p at len) n x path is there kind e =
-    two_pass nodes (done nodes (Bytes (take len (drop at x.bytes)))) IsDir Denied (is_directory x.kind) (lacks creds ToRead x) e
-step_done nodes creds (Truncate p size) n x path is there kind e =
-    three_pass nodes (done (with_node nodes n (Some (record x { bytes = resized size x.bytes }))) IsDone) IsDir Denied TooLarge (is_directory x.kind) (lacks creds ToWrite x) (nat_lt largest_size size) e
-    ∙ ap (λ q. done (with_node nodes n (option_map (node_with (resized size x.bytes)) q)) IsDone) (sym there)
-step_done nodes creds (Stat p) n x path is there kind e =
-    first_passes nodes (done nodes (IsStat x.kind x.mode x.uid x.gid (size_of nodes n x))) Denied (lacks creds ToRead x) e
-    ∙ ap (λ k. done nodes (IsStat x.kind x.mode x.uid x.gid (cond (is_directory k) (count_in nodes n) (length x.bytes)))) kind
-step_done nodes creds (Mkdir p m) n x path is there kind e = absurd (let wrong : None ≡ Some path = is in cc wrong)
-step_done nodes creds (Create p m) n x path is there kind e = absurd (let wrong : None ≡ Some path = is in cc wrong)
-step_done nodes creds (Unlink p) n x path is there kind e = absurd (let wrong : None ≡ Some path = is in cc wrong)
-step_done nodes creds (Rmdir p) n x path is there kind e = absurd (let wrong : None ≡ Some path = is in cc wrong)
-step_done nodes creds (Rename p q) n x path is there kind e = absurd (let wrong : None ≡ Some path = is in cc wrong)
-step_done nodes creds (ListNames p m) n x path is there kind e = absurd (let wrong : None ≡ Some path = is in cc wrong)
-step_done nodes creds (Chmod p m) n x path is there kind e = absurd (let wrong : None ≡ Some path = is in cc wrong)
+step_done nodes creds call n x path is there kind e = search (arith, three_pass, two_pass, first_passes)
 
 -- and one that wants pages would be done, were there room
 step_is_done : (nodes : Nodes) (creds : Creds) (call : Call) (n : ℕ) (x : Node) (path : Path) → file_path call ≡ Some path → wants_pages call ≡ true → refusal creds (rights_of x) call ≡ None → is_done (step nodes creds call n x).reply ≡ true
-step_is_done nodes creds (Write p at bytes) n x path is wants e =
-    ap (λ (a : Applied). is_done a.reply)
-    (three_pass nodes (done (with_node nodes n (Some (record x { bytes = put_at at bytes x.bytes }))) (Count (length bytes))) IsDir Denied TooLarge (is_directory x.kind) (lacks creds ToWrite x) (nat_lt largest_size (at + length bytes)) e)
-step_is_done nodes creds (Truncate p size) n x path is wants e =
-    ap (λ (a : Applied). is_done a.reply)
-    (three_pass nodes (done (with_node nodes n (Some (record x { bytes = resized size x.bytes }))) IsDone) IsDir Denied TooLarge (is_directory x.kind) (lacks creds ToWrite x) (nat_lt largest_size size) e)
-step_is_done nodes creds (Read p at len) n x path is wants e = absurd (false≢true wants)
-step_is_done nodes creds (Stat p) n x path is wants e = absurd (false≢true wants)
-step_is_done nodes creds (Mkdir p m) n x path is wants e = absurd (let wrong : None ≡ Some path = is in cc wrong)
-step_is_done nodes creds (Create p m) n x path is wants e = absurd (let wrong : None ≡ Some path = is in cc wrong)
-step_is_done nodes creds (Unlink p) n x path is wants e = absurd (let wrong : None ≡ Some path = is in cc wrong)
-step_is_done nodes creds (Rmdir p) n x path is wants e = absurd (let wrong : None ≡ Some path = is in cc wrong)
-step_is_done nodes creds (Rename p q) n x path is wants e = absurd (let wrong : None ≡ Some path = is in cc wrong)
-step_is_done nodes creds (ListNames p m) n x path is wants e = absurd (let wrong : None ≡ Some path = is in cc wrong)
-step_is_done nodes creds (Chmod p m) n x path is wants e = absurd (let wrong : None ≡ Some path = is in cc wrong)
+step_is_done nodes creds call n x path is wants e = search (arith, three_pass, false≢true)
 
 -- ---- the laws
 
@@ -254,27 +144,10 @@ done_by_bytes desk d nodes path n r old is w has kind bytes e reply none =
     let one : y.0 ≡ x.0 = some_one (node_at nodes n) y.0 x.0 y.1 x.1 in
     let content : x.0.bytes ≡ old = sym (ap (λ (z : Node). z.bytes) one) ∙ y.2 in
     let regular : x.0.kind ≡ Regular = ap (λ (z : Rights). z.kind) x.2 ∙ kind in
-    does_by desk d nodes path is none (done (changed_by d.call n old nodes) (answer_of r old (length old) d.call))
-    (comes desk d nodes path is none n w x.0 x.1
-    ∙ step_done nodes desk.creds d.call n x.0 path is x.1 regular (ap (λ q. refusal desk.creds q d.call) x.2 ∙ e)
-    ∙ ap (λ l. done (changed_by d.call n l nodes) (answer_of (rights_of x.0) l (length l) d.call)) content
-    ∙ ap (λ q. done (changed_by d.call n old nodes) (answer_of q old (length old) d.call)) x.2)
-    reply (inl (ap lacks_room reply))
+    search (arith, does_by, comes, step_done)
 
 pub stats_directory : StatsDirectory
-stats_directory desk d nodes path n r count is w has dir many e reply none =
-    let x = mapped rights_of (node_at nodes n) r has in
-    let p : file_path d.call ≡ Some path = ap file_path is in
-    let size : size_of nodes n x.0 ≡ count = ap (λ t. cond t (count_in nodes n) (length x.0.bytes)) (ap (λ (z : Rights). is_directory z.kind) x.2 ∙ dir) ∙ many in
-    let free : refusal desk.creds (rights_of x.0) (Stat path) ≡ None = ap (λ q. refusal desk.creds q (Stat path)) x.2 ∙ sym (ap (refusal desk.creds r) is) ∙ e in
-    does_by desk d nodes path p none (done nodes (answer_of r [] count d.call))
-    (comes desk d nodes path p none n w x.0 x.1
-    ∙ ap (λ c. step nodes desk.creds c n x.0) is
-    ∙ first_passes nodes (done nodes (IsStat x.0.kind x.0.mode x.0.uid x.0.gid (size_of nodes n x.0))) Denied (lacks desk.creds ToRead x.0) free
-    ∙ ap (λ s. done nodes (answer_of (rights_of x.0) [] s (Stat path))) size
-    ∙ ap (λ q. done nodes (answer_of q [] count (Stat path))) x.2
-    ∙ ap (λ c. done nodes (answer_of r [] count c)) (sym is))
-    reply (inr refl)
+stats_directory desk d nodes path n r count is w has dir many e reply none = search (arith, mapped, does_by, comes, first_passes)
 
 pub refused_for_room : RefusedForRoom
 refused_for_room desk d nodes path n r wanted free is wants w has e reply less none =

@@ -1,5 +1,5 @@
 -- Written files by their numbers, kinds and bodies, and what a regular one reads.
-use Rattle.std.proofs.Common.{◌≡◌, ℕ, Bool, true, false, cond, ◌&&◌, ◌||◌, eqb, leb, List, [], ◌∷◌, Option, Some, None, Ok, sym, refl, ap, ◌∙◌}
+use Rattle.std.proofs.Common.{◌≡◌, ℕ, Bool, true, false, cond, ◌&&◌, ◌||◌, eqb, leb, List, [], ◌∷◌, Option, Some, None, Ok, sym, refl, ap, ◌∙◌, arith}
 use Rattle.std.specs.Prelude.{map, is_some}
 use Rattle.std.specs.List.{find}
 use Rattle.std.specs.Str.{bytes_eq}
@@ -71,11 +71,7 @@ bare_at w None = refl
 bare_at w (Some r) = refl
 
 pub body-number : (ino : ℕ) (body : List ℕ) (w : Written) → (with_body ino body w).ino ≡ w.ino
-body-number ino body w = by (eqb w.ino ino)
-  where
-    by : (t : Bool) → (cond t (record w { body = body }) w).ino ≡ w.ino
-    by true = refl
-    by false = refl
+body-number ino body w = search arith
 
 pub body-other : (ino : ℕ) (body : List ℕ) (w : Written) → (w.ino ≡ ino → ⊥) → with_body ino body w ≡ w
 body-other ino body w d = ap (λ t. cond t (record w { body = body }) w) (ne_eqb w.ino ino d)

@@ -1,8 +1,8 @@
 -- An entry goes to a slot of another directory: of the nodes that are shown the file lies there.
-use Rattle.std.proofs.Common.{◌≡◌, ℕ, true, eqb, List, [], ◌∷◌, Option, Some, None, Ok, sym, refl, ap, ◌∙◌, subst, inl, inr}
+use Rattle.std.proofs.Common.{◌≡◌, ℕ, true, eqb, List, [], ◌∷◌, Option, Some, None, Ok, sym, refl, ap, ◌∙◌, subst, inl, inr, arith}
 use Rattle.std.specs.Prelude.{map, is_some}
 use Rattle.std.specs.List.{find}
-use Rattle.std.specs.Option.{option_map, option_map_or}
+use Rattle.std.specs.Option.{option_map}
 use Rattle.std.proofs.lemmas.Bool.{both_ways, eqb-true, or_right}
 use Rattle.trio_rights.specs.Row.{Row, row_in}
 use Rattle.trio_lists.specs.Lists.{In, is_among}
@@ -13,7 +13,7 @@ use Rattle.trio_layout.specs.Allowed.{has_kind}
 use Rattle.trio_layout.specs.Body.{body_of}
 use Rattle.trio_layout.specs.Core.{Core}
 use Rattle.trio_layout.specs.Entries.{Listed, listed_at}
-use Rattle.trio_layout.specs.Case.{Case, Held, bundle_core}
+use Rattle.trio_layout.specs.Case.{Case, bundle_core}
 use Rattle.trio_layout.specs.JudgedFiles.{judged_entries}
 use Rattle.trio_layout.specs.Listing.{is_kept}
 use Rattle.trio_layout.specs.Rules.{entry_in_grammar, entry_is_own, entry_keeps_rights, lent_body}
@@ -31,7 +31,7 @@ use Rattle.trio_laws.proofs.session.JudgedReads.{file_within-alike}
 use Rattle.trio_laws.proofs.session.LentNodes.{mapped}
 use Rattle.trio_laws.proofs.session.Namings.{find_map}
 use Rattle.trio_desk.specs.Call.{DeskSeen}
-use Rattle.trio_desk.specs.Shows.{Naming, bytes_now, made_by, naming_of, node_left, node_listed, with_bytes}
+use Rattle.trio_desk.specs.Shows.{Naming, made_by, naming_of, node_listed, with_bytes}
 use Rattle.trio_desk.specs.Ready.{bundle_of}
 use Rattle.trio_desk.specs.Edits.{InHand, MayShow}
 use Rattle.trio_laws.specs.session.Takes.{IsInOrder}
@@ -99,9 +99,7 @@ module _ (desk : DeskSeen) (h h' : InHand) (from to : SlotWrite) (e now : EntryP
         subst (λ n. In n c.bundle.holds) (eqb-true k.ino e.ino q.1) (In-map (λ (x : HoldParts). x.ino) k h.parcel.holds q.0)
 
     held_body : (k : HoldParts) → find (λ (x : HoldParts). eqb x.ino e.ino) h.parcel.holds ≡ Some k → lent_body c e.ino ≡ k.body
-    held_body k t =
-        ap (λ (z : Option Held). option_map_or (λ (x : Held). x.body) z [])
-        (find_map (λ (x : Held). eqb x.ino e.ino) held_by h.parcel.holds ∙ ap (option_map held_by) t)
+    held_body k t = search (arith, find_map)
 
     -- it lent the kind that the entry has
     held_is : (k : HoldParts) → find (λ (x : HoldParts). eqb x.ino e.ino) h.parcel.holds ≡ Some k → e.kind ≡ k.kind
@@ -172,10 +170,7 @@ module _ (desk : DeskSeen) (h h' : InHand) (from to : SlotWrite) (e now : EntryP
       grammar = named_so N (λ x. entry_in_grammar c (met_at x) ≡ true) (or_right (is_kept c (met_at N)) (is_some (body_of now.kind desk.sizes.range (body_after to))) in_grammar);
       own = named_so N (λ x. entry_is_own c (met_at x) ≡ true) own_now;
       rights = named_so N (λ x. entry_keeps_rights c (met_at x) ≡ true) rights_now;
-      here =
-          with_node-same nodes' now.ino (option_map (moved to.directory.ino now.name) (node_at nodes' now.ino))
-          ∙ ap (option_map (moved to.directory.ino now.name)) (v.shows.each now.ino ∙ ap (λ q. option_map (with_bytes (bytes_now c now.ino)) (node_left c now.ino q (node_at nodes now.ino))) listed.1)
-          ∙ moves (bytes_now c now.ino) (node_at nodes now.ino) refl;
+      here = search (arith, with_node-same, listed, moves);
       there = λ m d. with_node-else nodes' now.ino m (option_map (moved to.directory.ino now.name) (node_at nodes' now.ino)) d;
       none = λ t. absurd (not_none N t);
       tree = tree;

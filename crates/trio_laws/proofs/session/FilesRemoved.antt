@@ -1,7 +1,6 @@
 -- A slot is emptied: the nodes that are shown lack the file.
-use Rattle.std.proofs.Common.{◌≡◌, Bool, true, false, cond, List, [], ◌∷◌, Option, Some, None, Ok, sym, refl, ap, ◌∙◌, inl, inr}
+use Rattle.std.proofs.Common.{◌≡◌, Bool, true, false, cond, List, [], ◌∷◌, Option, Some, None, Ok, refl, ap, ◌∙◌, inl, inr, arith}
 use Rattle.std.specs.Prelude.{map}
-use Rattle.std.specs.Option.{option_map}
 use Rattle.trio_rights.specs.Row.{Row}
 use Rattle.trio_lists.specs.Lists.{In, is_among}
 use Rattle.trio_lists.proofs.Members.{In-is_among}
@@ -13,7 +12,7 @@ use Rattle.trio_nodes.specs.Nodes.{Nodes, node_at}
 use Rattle.trio_nodes.specs.Tree.{IsTree}
 use Rattle.trio_nodes.proofs.NodeFacts.{with_node-else, with_node-same}
 use Rattle.trio_desk.specs.Call.{DeskSeen}
-use Rattle.trio_desk.specs.Shows.{Naming, bytes_now, node_left, with_bytes}
+use Rattle.trio_desk.specs.Shows.{Naming, node_left}
 use Rattle.trio_desk.specs.Ready.{bundle_of}
 use Rattle.trio_desk.specs.Edits.{InHand}
 use Rattle.trio_laws.specs.session.Takes.{IsInOrder}
@@ -62,16 +61,7 @@ module _ (desk : DeskSeen) (h h' : InHand) (w : SlotWrite) (e : EntryPart) (o : 
         by false = refl
 
     clear_suits : IsTree (cleared e nodes') → IsSuited desk h h' (w ∷ []) o p.writes rows nodes nodes' v e.ino None clear_relists (cleared e nodes')
-    clear_suits tree = record {
-      file = λ x t new. absurd (none_not x t);
-      grammar = λ x t. absurd (none_not x t);
-      own = λ x t. absurd (none_not x t);
-      rights = λ x t. absurd (none_not x t);
-      here = with_node-same nodes' e.ino None ∙ ap (option_map (with_bytes (bytes_now c e.ino))) (sym gone);
-      there = λ m d. with_node-else nodes' e.ino m None d;
-      none = λ t. with_node-same nodes' e.ino None;
-      tree = tree;
-    }
+    clear_suits tree = search (arith, none_not, with_node-same, gone, with_node-else)
 
 pub clear_shows : ClearShows
 clear_shows desk h h' w e o p keeps =

@@ -1,14 +1,12 @@
 -- The entry in a slot gets another name: of the nodes that are shown the file has it.
-use Rattle.std.proofs.Common.{◌≡◌, ℕ, true, List, [], ◌∷◌, Option, Some, None, Ok, sym, refl, ap, ◌∙◌, subst, inl, inr}
+use Rattle.std.proofs.Common.{◌≡◌, ℕ, true, List, [], ◌∷◌, Option, Some, Ok, sym, refl, ap, ◌∙◌, subst, inl, inr, arith}
 use Rattle.std.specs.Prelude.{map}
 use Rattle.std.specs.Option.{option_map}
 use Rattle.trio_rights.specs.Row.{Row}
-use Rattle.trio_rights.specs.declared.kind.Kind.{Kind}
 use Rattle.trio_lists.specs.Lists.{In}
 use Rattle.trio_layout.specs.declared.slot.EntryPart.{EntryPart}
 use Rattle.trio_layout.specs.Core.{Core}
 use Rattle.trio_layout.specs.Entries.{Listed, listed_at}
-use Rattle.trio_layout.specs.Survey.{Met}
 use Rattle.trio_layout.specs.Case.{Case, bundle_core}
 use Rattle.trio_layout.specs.Within.{file_within}
 use Rattle.trio_layout.specs.JudgedFiles.{judged_entries}
@@ -57,15 +55,10 @@ module _ (desk : DeskSeen) (h h' : InHand) (w : SlotWrite) (e now : EntryPart) (
 
   -- the entry is the same but for its name
   met_same : met_at N ≡ met_at O
-  met_same =
-      let F : ℕ → Kind → List ℕ → Met = λ n k l. record { ino = n; kind = k; parent = w.directory.ino; page = w.page; slot = w.slot; body = l } in
-      ap (λ n. F n now.kind (body_after w)) p.number ∙ ap (λ k. F e.ino k (body_after w)) p.kind ∙ ap (F e.ino e.kind) p.body
+  met_same = search arith
 
   renames : (q : Option (List ℕ)) (z : Option Node) → option_map (retitled now.name) (option_map (with_bytes q) (node_listed O z)) ≡ option_map (with_bytes q) (node_listed N z)
-  renames None (Some x) = refl
-  renames (Some l) (Some x) = refl
-  renames None None = ap Some (made_same w.directory.ino now.name e.kind now.kind (body_before w) (body_after w) (sym p.kind) (sym p.body))
-  renames (Some l) None = ap (λ (y : Node). Some (record y { bytes = l })) (made_same w.directory.ino now.name e.kind now.kind (body_before w) (body_after w) (sym p.kind) (sym p.body))
+  renames q z = search (arith, made_same)
 
   module _ (nodes nodes' : Nodes) (rows : List (Option Row)) (v : IsShown (case_with desk.sizes desk.creds rows (bundle_of h.parcel) (map held_by h.parcel.holds)) nodes nodes') where
     abbrev c : Case

@@ -1,5 +1,5 @@
 -- What a desk gives is none of what is in hand.
-use Rattle.std.proofs.Common.{◌≡◌, ℕ, List, ◌++◌, sym, ap, ◌∙◌, subst, inl, inr}
+use Rattle.std.proofs.Common.{◌≡◌, ℕ, List, ◌++◌, sym, ap, ◌∙◌, subst, inl, inr, arith}
 use Rattle.std.specs.Prelude.{map}
 use Rattle.std.specs.List.{flat_map}
 use Rattle.std.proofs.lemmas.List.{map-append}
@@ -34,9 +34,7 @@ module _ (desk : DeskSeen) (h : InHand) (given : WasGiven desk.out h.parcel) whe
   file_out n i =
       let f = map-In (λ (f : LentFile). f.stands.ino) n h.parcel.writes i in
       let l = given.writes f.0 f.1 in
-      In-left n (map (λ (w : Shown). w.ino) desk.out.writes ++ map (λ (r : Shown). r.ino) desk.out.reads) (hold_numbers desk.out.holds)
-      (In-left n (map (λ (w : Shown). w.ino) desk.out.writes) (map (λ (r : Shown). r.ino) desk.out.reads)
-      (subst (λ k. In k (map (λ (w : Shown). w.ino) desk.out.writes)) (sym (f.2 ∙ l.same.ino)) (In-map (λ (w : Shown). w.ino) f.0.lent desk.out.writes l.lent)))
+      search (arith, In-left, In-map)
 
   hold_out : (n : ℕ) → In n (hold_numbers h.parcel.holds) → In n (files_out desk.out)
   hold_out n i =
@@ -58,10 +56,7 @@ module _ (desk : DeskSeen) (h : InHand) (given : WasGiven desk.out h.parcel) whe
             let own : In x.0 (map lent_sheet f.0.stands.index ++ map lent_sheet f.0.stands.blocks) = subst (λ (z : Written). In x.0 (z.index ++ z.blocks)) f.2 w.2 in
             let here : In n (map (λ (y : Sheet). y.page) (map lent_sheet f.0.stands.index ++ map lent_sheet f.0.stands.blocks)) =
             subst (λ k. In k (map (λ (y : Sheet). y.page) (map lent_sheet f.0.stands.index ++ map lent_sheet f.0.stands.blocks))) (sym x.2) (In-map (λ (y : Sheet). y.page) x.0 (map lent_sheet f.0.stands.index ++ map lent_sheet f.0.stands.blocks) own) in
-            let same : map (λ (y : Sheet). y.page) (map lent_sheet f.0.stands.index ++ map lent_sheet f.0.stands.blocks) ≡ numbers_of_file f.0.lent =
-            map-append (λ (y : Sheet). y.page) (map lent_sheet f.0.stands.index) (map lent_sheet f.0.stands.blocks)
-            ∙ ap (λ l. l ++ map (λ (y : Sheet). y.page) (map lent_sheet f.0.stands.blocks)) (sheet_number f.0.stands.index ∙ same_numbers f.0.stands.index f.0.lent.index l.same.index)
-            ∙ ap (λ l. lent_numbers f.0.lent.index ++ l) (sheet_number f.0.stands.blocks ∙ same_numbers f.0.stands.blocks f.0.lent.blocks l.same.blocks) in
+            let same : map (λ (y : Sheet). y.page) (map lent_sheet f.0.stands.index ++ map lent_sheet f.0.stands.blocks) ≡ numbers_of_file f.0.lent = search (arith, map-append, sheet_number, same_numbers) in
             In-left n (flat_map numbers_of_file desk.out.writes) desk.out.pages
             (In-flat numbers_of_file f.0.lent n desk.out.writes l.lent (subst (λ l. In n l) same here))
         | inr fresh ↦

@@ -1,8 +1,8 @@
 -- What is known of a case that shows nodes: its files read, each number is judged and named once, and what is new has no node.
-use Rattle.std.proofs.Common.{◌≡◌, ℕ, true, eqb, is_ok, List, [], Option, Some, None, Ok, sym, ap, refl, ◌∙◌, subst, inl, inr}
+use Rattle.std.proofs.Common.{◌≡◌, ℕ, true, eqb, is_ok, List, [], Option, Some, None, Ok, sym, ap, refl, ◌∙◌, subst, inl, inr, arith}
 use Rattle.std.specs.Prelude.{map}
-use Rattle.std.specs.List.{find, list_all}
-use Rattle.std.specs.Option.{option_and_then, option_map}
+use Rattle.std.specs.List.{find}
+use Rattle.std.specs.Option.{option_and_then}
 use Rattle.std.proofs.lemmas.Bool.{and_parts, eqb-true, eq-eqb}
 use Rattle.trio_rights.specs.Row.{Row, row_in}
 use Rattle.trio_rights.specs.Bundle.{Written}
@@ -10,17 +10,14 @@ use Rattle.trio_lists.specs.Lists.{In, are_new}
 use Rattle.trio_lists.proofs.Members.{In-flat, In-left, In-map, flat_map-In, is_ok-Ok, list_all-In}
 use Rattle.trio_lists.proofs.Filters.{Ok-one, find-In, In-find}
 use Rattle.trio_layout.specs.Entries.{Listed}
-use Rattle.trio_layout.specs.Survey.{Met, FileRead, plain, met_in, numbers, children_in}
+use Rattle.trio_layout.specs.Survey.{Met, FileRead, plain, met_in, numbers}
 use Rattle.trio_layout.specs.Case.{Case, bundle_core}
 use Rattle.trio_layout.specs.Within.{file_within}
-use Rattle.trio_layout.specs.JudgedFiles.{entries_in, judged_entries, judged_files, new_entries, written_files}
-use Rattle.trio_layout.specs.Rules.{entry_in_grammar}
+use Rattle.trio_layout.specs.JudgedFiles.{entries_in, judged_files, new_entries, written_files}
 use Rattle.trio_layout.proofs.Walks.{fronts_listed}
 use Rattle.trio_surveys.proofs.Images.{same_met, some_of}
-use Rattle.trio_nodes.specs.declared.node.Node.{Node}
 use Rattle.trio_nodes.specs.Nodes.{Nodes, node_at}
 use Rattle.trio_nodes.specs.Tree.{IsTree}
-use Rattle.trio_desk.specs.Agrees.{node_says, row_says}
 use Rattle.trio_desk.specs.Among.{IsAmong}
 use Rattle.trio_desk.specs.Shows.{Naming, Shows, bytes_now, bytes_read, naming_of, namings, namings_in}
 use Rattle.trio_desk.specs.Call.{DeskSeen}
@@ -65,9 +62,7 @@ pub record IsShown (c : Case) (nodes nodes' : Nodes) : Type 0 where
 
 module _ {c : Case} {nodes nodes' : Nodes} (v : IsShown c nodes nodes') where
   pub reads_before : (y : Met) → In y (judged_files (c)) → (f : FileRead) × (file_within (bundle_core (c)) y ≡ Ok f)
-  reads_before y i =
-      is_ok-Ok (file_within (bundle_core c) y)
-      (list_all-In (λ m. is_ok (file_within (bundle_core c) m)) y (judged_files c) (and_parts (list_all (λ m. is_ok (file_within (bundle_core c) m)) (judged_files c)) (list_all (entry_in_grammar c) (judged_entries c)) v.shows.grammar).0 i)
+  reads_before y i = search (arith, is_ok-Ok, list_all-In, is_ok, and_parts)
 
   pub owned : IsOwned c
   owned = owning_parts c v.shows.owning
@@ -78,11 +73,7 @@ module _ {c : Case} {nodes nodes' : Nodes} (v : IsShown c nodes nodes') where
 
   -- a number that is new has no node
   pub no_node : (k : ℕ) → In k c.bundle.numbers → node_at nodes k ≡ None
-  no_node k i = by (node_at nodes k) (sym (ap (option_map row_says) (v.among.new k i)) ∙ v.among.same k)
-    where
-      by : (o : Option Node) → None ≡ option_map node_says o → o ≡ None
-      by None e = refl
-      by (Some x) e = absurd (let wrong : None ≡ Some (node_says x) = e in cc wrong)
+  no_node k i = search arith
 
   pub one_before : (x y : Met) → In x (judged_files c) → In y (judged_files c) → x.ino ≡ y.ino → x ≡ y
   one_before x y i j e = same_met (judged_files c) x y (judged_once c v.once) i j e
@@ -91,9 +82,7 @@ module _ {c : Case} {nodes nodes' : Nodes} (v : IsShown c nodes nodes') where
   closed_before = judged_closed c v.once written_live owned.entries_once
 
   pub entries_of : (y : Met) (i : In y (judged_files c)) (l : Listed) → In l (reads_before y i).0.entries → In (met_in plain y.ino l) (entries_in c y)
-  entries_of y i l j =
-      let f = reads_before y i in
-      subst (λ r. In (met_in plain y.ino l) (children_in plain y.ino r)) (sym f.1) (In-map (met_in plain y.ino) l f.0.entries j)
+  entries_of y i l j = search (arith, reads_before, In-map)
 
   pub naming_in : (y : Met) (i : In y (judged_files c)) (l : Listed) → In l (reads_before y i).0.entries → In (record { directory = y.ino; listed = l }) (namings c)
   naming_in y i l j =

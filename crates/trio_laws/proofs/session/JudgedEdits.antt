@@ -1,9 +1,8 @@
 -- A judged file is edited, written or made: of the nodes that are shown it alone has other bytes, and the other judged files read as before.
-use Rattle.std.proofs.Common.{◌≡◌, ℕ, Bool, true, false, cond, not, ◌&&◌, ◌||◌, eqb, is_ok, List, [], Option, Some, None, Ok, sym, refl, ap, ◌∙◌, subst, inl, inr, ◌⊎◌}
+use Rattle.std.proofs.Common.{◌≡◌, ℕ, Bool, true, false, cond, ◌&&◌, eqb, is_ok, List, [], Option, Some, None, Ok, sym, refl, ap, ◌∙◌, subst, inl, inr, ◌⊎◌, arith}
 use Rattle.std.specs.Prelude.{map, take, is_some}
 use Rattle.std.specs.List.{find, flat_map, list_all}
 use Rattle.std.specs.Option.{option_and_then, option_map}
-use Rattle.std.specs.Str.{bytes_eq}
 use Rattle.std.proofs.lemmas.Bool.{and_from, and_parts, cases_Bool, cases_eq, eq-eqb, eqb-true, false_from_ne_true, false≢true, not_from_false, or_left, or_right}
 use Rattle.std.proofs.lemmas.List.Folds.{flat_map-map}
 use Rattle.std.proofs.lemmas.Simd.{map-map}
@@ -16,7 +15,6 @@ use Rattle.trio_lists.specs.Lists.{In, is_among, are_new}
 use Rattle.trio_lists.proofs.Filters.{find-In, In-find, some_one}
 use Rattle.trio_lists.proofs.Gathered.{each_new, gathered_new, one_of}
 use Rattle.trio_lists.proofs.Members.{In-is_among, In-left, In-map, is_among-In, list_all-In, list_all-each, map-In}
-use Rattle.trio_layout.specs.Allowed.{has_kind}
 use Rattle.trio_layout.specs.declared.body.Body.{Body}
 use Rattle.trio_layout.specs.Body.{body_at, body_of}
 use Rattle.trio_layout.specs.Entries.{Listed}
@@ -24,8 +22,7 @@ use Rattle.trio_layout.specs.Survey.{FileRead, Met, numbers, pages_in}
 use Rattle.trio_layout.specs.Case.{Case, Held, bundle_core}
 use Rattle.trio_layout.specs.Within.{file_within}
 use Rattle.trio_layout.specs.JudgedFiles.{judged_entries, judged_files, judged_pages, pages_within, written_met}
-use Rattle.trio_layout.specs.Listing.{is_kept}
-use Rattle.trio_layout.specs.Rules.{entry_in_grammar, entry_is_own, entry_keeps_rights, file_keeps_rights, has_rights, lent_body, meets_grammar, meets_owning, meets_rights}
+use Rattle.trio_layout.specs.Rules.{entry_in_grammar, entry_is_own, entry_keeps_rights, file_keeps_rights, has_rights, meets_grammar, meets_owning, meets_rights}
 use Rattle.trio_layout.proofs.WithinCore.{within_from}
 use Rattle.trio_lease.specs.Shown.{LentFile}
 use Rattle.trio_lease.specs.Views.{written_in}
@@ -63,10 +60,7 @@ use Rattle.trio_laws.proofs.session.TakenHold.{held_by}
 
 -- a mode is its number
 mode-same : (x y : Mode) → x.0 ≡ y.0 → x ≡ y
-mode-same x y e = ap mode_of e
-  where
-    mode_of : ℕ → Mode
-    mode_of n = record { 0 = n }
+mode-same x y e = search arith
 
 module _ (desk : DeskSeen) (h h' : InHand) (m : Met) (body : List ℕ) (file file' : FileRead) (u : IsJudgedEdit desk h h' m body file file') where
   abbrev b : Bundle
@@ -143,12 +137,8 @@ module _ (desk : DeskSeen) (h h' : InHand) (m : Met) (body : List ℕ) (file fil
         let q = entry_from e i in
         ap (entry_in_grammar c2) q.2
         ∙ elim (reads.entry_cases desk h h' m body file file' u rows k q.0 q.1) [
-          | inl same ↦
-              ap (entry_in_grammar c2) same
-              ∙ list_all-In (entry_in_grammar c) q.0 (judged_entries c) (and_parts (list_all (λ x. is_ok (file_within (bundle_core c) x)) (judged_files c)) (list_all (entry_in_grammar c) (judged_entries c)) s.grammar).1 q.1
-          | inr new ↦
-              ap (entry_in_grammar c2) new.2
-              ∙ or_right (is_kept c2 (record k.met { body = body })) (is_some (body_of k.met.kind desk.sizes.range body)) (ap is_some body_in_grammar)
+          | inl same ↦ search (arith, list_all-In, and_parts, is_ok)
+          | inr new ↦ search (arith, or_right, k, body_in_grammar)
         ]))
 
     -- ---- I2
@@ -209,34 +199,11 @@ module _ (desk : DeskSeen) (h h' : InHand) (m : Met) (body : List ℕ) (file fil
         let live = some_of (row_in rows m.ino) (among.held m.ino i) in new_dead c nodes nodes' possible.tree tree among s m.ino live.0 live.1 new
 
     keeps : (e : Met) → In e (judged_entries c) → entry_keeps_rights c2 (then e) ≡ true
-    keeps e i =
-        let was : entry_keeps_rights c e ≡ true =
-        list_all-In (entry_keeps_rights c) e (judged_entries c) (and_parts (list_all (entry_keeps_rights c) (judged_entries c)) _ s.rights).0 i in
-        elim (reads.entry_cases desk h h' m body file file' u rows k e i) [
-          | inl same ↦ ap (entry_keeps_rights c2) same ∙ was
-          | inr new ↦
-              let free : is_among k.met.ino b.holds ≡ false =
-              false_from_ne_true (is_among k.met.ino b.holds) (λ t. unheld (is_among-In m.ino b.numbers new.0) (subst (λ n. In n b.holds) k.number (is_among-In k.met.ino b.holds t))) in
-              let other : Bool = has_kind k.met.kind (row_in rows k.met.ino) && bytes_eq body (lent_body c2 k.met.ino) in
-              let other' : Bool = has_kind k.met.kind (row_in rows k.met.ino) && bytes_eq k.met.body (lent_body c k.met.ino) in
-              ap (entry_keeps_rights c2) new.2
-              ∙ by (is_kept c k.met) (has_kind k.met.kind (row_in rows k.met.ino)) (not (is_among k.met.ino b.holds) || other') (not (is_among k.met.ino b.holds) || other)
-              (sym (ap (entry_keeps_rights c) new.1) ∙ was) (or_left (not (is_among k.met.ino b.holds)) other (not_from_false (is_among k.met.ino b.holds) free))
-        ]
-      where
-        by : (t x y z : Bool) → cond t x y ≡ true → z ≡ true → cond t x z ≡ true
-        by true x y z e f = e
-        by false x y z e f = f
+    keeps e i = search (arith, list_all-In, and_parts, k, false_from_ne_true, unheld, is_among-In, or_left, not_from_false)
 
     rights_alike : (t : Bool) (q : Option Row) (x y : Body) → x.mode.0 ≡ y.mode.0 → x.uid ≡ y.uid → x.gid ≡ y.gid
         → cond t (has_rights q x) (eqb x.uid desk.creds.uid && eqb x.gid desk.creds.gid) ≡ cond t (has_rights q y) (eqb y.uid desk.creds.uid && eqb y.gid desk.creds.gid)
-    rights_alike false q x y mode uid gid =
-        ap (λ n. eqb n desk.creds.uid && eqb x.gid desk.creds.gid) uid ∙ ap (λ n. eqb y.uid desk.creds.uid && eqb n desk.creds.gid) gid
-    rights_alike true None x y mode uid gid = refl
-    rights_alike true (Some r) x y mode uid gid =
-        ap (λ n. eqb r.mode.0 n && eqb r.uid x.uid && eqb r.gid x.gid) mode
-        ∙ ap (λ n. eqb r.mode.0 y.mode.0 && eqb r.uid n && eqb r.gid x.gid) uid
-        ∙ ap (λ n. eqb r.mode.0 y.mode.0 && eqb r.uid y.uid && eqb r.gid n) gid
+    rights_alike t q x y mode uid gid = search arith
 
     file_keeps : (x : Met) → In x (judged_files c) → file_keeps_rights c2 (E x) (file_within (bundle_core c2) (E x)) ≡ true
     file_keeps x i =
@@ -329,20 +296,12 @@ module _ (desk : DeskSeen) (h h' : InHand) (m : Met) (body : List ℕ) (file fil
         by x y mode uid gid = ap (λ z. node z x.uid x.gid) (mode-same x.mode y.mode mode) ∙ ap (λ z. node y.mode z x.gid) uid ∙ ap (node y.mode y.uid) gid
 
     left_same : (n : ℕ) → node_left c2 n (naming_of c2 n) (node_at nodes n) ≡ node_left c n (naming_of c n) (node_at nodes n)
-    left_same n = ap (λ q. node_left c2 n q (node_at nodes n)) (naming_now n) ∙ by (naming_of c n) refl (node_at nodes n)
-      where
-        by : (q : Option Naming) → naming_of c n ≡ q → (z : Option Node) → node_left c2 n (option_map naming_then q) z ≡ node_left c n q z
-        by None is z = refl
-        by (Some e) is None = ap (λ z. Some z) (made_same n e is)
-        by (Some e) is (Some x) = ap (λ z. Some z) (placed_same e x)
+    left_same n = search (arith, naming_now, made_same, placed_same)
 
     -- ---- bytes
 
     found_then : (n : ℕ) → find (λ (x : Met). eqb x.ino n) (judged_files c2) ≡ option_map E (find (λ (x : Met). eqb x.ino n) (judged_files c))
-    found_then n =
-        ap (find (λ (x : Met). eqb x.ino n)) judged_now
-        ∙ find_map (λ (x : Met). eqb x.ino n) E (judged_files c)
-        ∙ ap (option_map E) (find-same (λ (x : Met). eqb (E x).ino n) (λ (x : Met). eqb x.ino n) (judged_files c) (λ x. ap (λ j. eqb j n) (met_with-number m.ino body x)))
+    found_then n = search (arith, judged_now, find_map, find-same, met_with-number)
 
     abbrev read_bytes : Case → Met → Option (List ℕ)
     read_bytes z x = bytes_read (bundle_core z) x.kind (file_within (bundle_core z) x)
@@ -380,12 +339,7 @@ module _ (desk : DeskSeen) (h h' : InHand) (m : Met) (body : List ℕ) (file fil
         r.1 ∙ ap Some (reads.judged_mine desk h h' m body file file' u rows k r.0 f.0 (eqb-true r.0.ino m.ino f.1))
 
     bytes_mine : bytes_now c2 m.ino ≡ bytes_read (bundle_core c2) m.kind (Ok file')
-    bytes_mine =
-        bytes_then m.ino
-        ∙ ap (λ q. option_and_then (read_bytes c2) (option_map E q)) found_mine
-        ∙ ap (read_bytes c2) (met_with-here m.ino body k.met k.number)
-        ∙ ap (bytes_read (bundle_core c2) k.met.kind) mine_now
-        ∙ ap (λ z. bytes_read (bundle_core c2) z (Ok file')) k.kind
+    bytes_mine = search (arith, bytes_then, found_mine, met_with-here, k, mine_now)
 
     bytes_before : bytes_now c m.ino ≡ bytes_read (bundle_core c) m.kind (Ok file)
     bytes_before =
@@ -400,15 +354,10 @@ module _ (desk : DeskSeen) (h h' : InHand) (m : Met) (body : List ℕ) (file fil
     numbers_then = ap numbers judged_now ∙ numbers-changed E (met_with-number m.ino body) (judged_files c)
 
     replaced : (q : Option (List ℕ)) (z : Option Node) (l : List ℕ) → option_map (node_with l) (option_map (with_bytes q) z) ≡ option_map (with_bytes (Some l)) z
-    replaced q None l = refl
-    replaced None (Some x) l = refl
-    replaced (Some j) (Some x) l = refl
+    replaced q z l = search arith
 
     node_other : (n : ℕ) → bytes_now c2 n ≡ bytes_now c n → node_at nodes' n ≡ node_now c2 n (node_at nodes n)
-    node_other n same =
-        s.each n
-        ∙ ap (λ q. option_map (with_bytes q) (node_left c n (naming_of c n) (node_at nodes n))) (sym same)
-        ∙ ap (option_map (with_bytes (bytes_now c2 n))) (sym (left_same n))
+    node_other n same = search (arith, left_same)
 
     module _ (regular : m.kind ≡ Regular) where
       abbrev after : Nodes
@@ -433,15 +382,7 @@ module _ (desk : DeskSeen) (h h' : InHand) (m : Met) (body : List ℕ) (file fil
 
       -- a node that is there then was there in the same directory
       there_before : (n : ℕ) (x : Node) → node_at after n ≡ Some x → (y : Node) × (node_at nodes' n ≡ Some y) × (y.parent ≡ x.parent)
-      there_before n x e =
-          elim (cases_eq n m.ino) [
-            | inr d ↦ (x, sym (with_node-else nodes' m.ino n (option_map (node_with bytes) (node_at nodes' m.ino)) d) ∙ e, refl)
-            | inl same ↦
-                let q : option_map (node_with bytes) (node_at nodes' m.ino) ≡ Some x =
-                sym (with_node-same nodes' m.ino (option_map (node_with bytes) (node_at nodes' m.ino))) ∙ ap (node_at after) (sym same) ∙ e in
-                let y = mapped (node_with bytes) (node_at nodes' m.ino) x q in
-                (y.0, ap (node_at nodes') same ∙ y.1, ap (λ (z : Node). z.parent) y.2)
-          ]
+      there_before n x e = search (arith, cases_eq, with_node-else, with_node-same, mapped)
 
       -- the file is shown, a regular one: one that was made is listed so, and one that is written stays as it was lent
       made_there : made ≡ true → (y : Node) × (node_at nodes' m.ino ≡ Some y) × (y.kind ≡ Regular)
@@ -477,36 +418,19 @@ module _ (desk : DeskSeen) (h h' : InHand) (m : Met) (body : List ℕ) (file fil
           by free x is None e = (with_bytes (bytes_now c m.ino) x, e ∙ ap (λ t. option_map (with_bytes (bytes_now c m.ino)) (cond t None (Some x))) free, kept (bytes_now c m.ino) x ∙ is)
 
       regular_there : (y : Node) × (node_at nodes' m.ino ≡ Some y) × (y.kind ≡ Regular)
-      regular_there = elim u.body_now [
-        | inl lease ↦ lent_there lease.lease lease.written lease.number lease.number_lent lease.kind_lent
-        | inr slot ↦ made_there (In-is_among m.ino b.numbers slot.made)
-      ]
+      regular_there = search (arith, lent_there, made_there, In-is_among)
 
       tree_regular : IsTree after
       tree_regular =
           let y = regular_there in
-          let other : m.ino ≡ 1 → ⊥ =
-          λ e. (let top : y.0 ≡ tree.root.0 = some_one (node_at nodes' 1) y.0 tree.root.0 (ap (node_at nodes') (sym e) ∙ y.1) tree.root.1 in
-          let wrong : Regular ≡ Directory = sym y.2 ∙ ap (λ (z : Node). z.kind) top ∙ tree.root.2 in absurd (cc wrong)) in
+          let other : m.ino ≡ 1 → ⊥ = search (arith, some_one) in
           subst IsTree (ap (λ q. with_node nodes' m.ino (option_map (node_with bytes) q)) (sym y.1)) (tree_same nodes' tree m.ino y.0 (node_with bytes y.0) y.1 other refl refl refl)
 
     named_then : (n : ℕ) → is_some (naming_of c n) ≡ true → is_some (naming_of c2 n) ≡ true
-    named_then n t = ap is_some (naming_now n) ∙ by (naming_of c n) t
-      where
-        by : (q : Option Naming) → is_some q ≡ true → is_some (option_map naming_then q) ≡ true
-        by None e = e
-        by (Some e) i = refl
+    named_then n t = search (arith, naming_now)
 
     shown_of : (kind : Kind) → m.kind ≡ kind → Shows c2 nodes (content_of kind m.ino bytes nodes')
-    shown_of Regular is = record {
-      grammar = grammar_met;
-      owning = owning_met;
-      rights = rights_met;
-      each = each_regular is;
-      whole = λ n x e i.
-          let y = there_before is n x e in
-          named_then n (s.whole n y.0 y.1 (ap (λ j. is_among j (numbers (judged_files c))) y.2 ∙ ap (is_among x.parent) (sym numbers_then) ∙ i));
-    }
+    shown_of Regular is = search (arith, grammar_met, owning_met, rights_met, each_regular, there_before, named_then, numbers_then, node_other, cases_eq, bytes_same, bytes_mine, bytes_before)
     shown_of Directory is = record {
       grammar = grammar_met;
       owning = owning_met;

@@ -1,5 +1,5 @@
 -- What is known of the judged files before one of them is edited, by the nodes that are shown.
-use Rattle.std.proofs.Common.{◌≡◌, ℕ, suc, Bool, true, false, List, [], Option, Some, Ok, sym, refl, ap, ◌∙◌, subst, inl, inr}
+use Rattle.std.proofs.Common.{◌≡◌, ℕ, suc, Bool, true, false, List, [], Option, Some, Ok, sym, refl, ap, ◌∙◌, subst, inl, inr, arith}
 use Rattle.std.specs.Prelude.{map}
 use Rattle.std.proofs.lemmas.Bool.{cases_Bool, false≢true}
 use Rattle.trio_rights.specs.Row.{Row, row_in}
@@ -29,7 +29,6 @@ use Rattle.trio_laws.proofs.session.Again.{hand_files_once, judged_reads}
 use Rattle.trio_laws.proofs.session.Climbing.{own_parent}
 use Rattle.trio_laws.proofs.session.Edges.{new_dead}
 use Rattle.trio_laws.proofs.session.JudgedReads as reads
-use Rattle.trio_laws.proofs.session.JudgedReads.{met_with-here, met_with-number, met_with-other}
 use Rattle.trio_laws.proofs.session.Listed.{listed_as}
 use Rattle.trio_laws.proofs.session.Ruled.{case_with, naming_once, owning_parts}
 use Rattle.trio_laws.proofs.session.Stands as stands
@@ -148,15 +147,7 @@ module _ (desk : DeskSeen) (h h' : InHand) (m : Met) (body : List ℕ) (file fil
         }
 
     pub known : Known rows
-    known =
-        elim (cases_Bool made) [
-          | inl t ↦ known_made t
-          | inr old ↦
-              elim u.body_now [
-                | inl lease ↦ known_written old lease.lease lease.written lease.number
-                | inr slot ↦ absurd (false≢true (sym old ∙ In-is_among m.ino b.numbers slot.made))
-              ]
-        ]
+    known = search (arith, cases_Bool, known_made, known_written, false≢true, In-is_among)
 
   -- and so whatever the rows say
   pub known_plain : (rows : List (Option Row)) → Known rows → Known []

@@ -1,7 +1,7 @@
 -- What the judged files are and read where one of them is edited, written or made.
-use Rattle.std.proofs.Common.{◌≡◌, ℕ, suc, Bool, true, false, cond, ◌&&◌, eqb, List, [], ◌∷◌, ◌++◌, ◌<◌, Option, Some, None, Ok, sym, refl, ap, ◌∙◌, subst, inl, inr, ◌⊎◌, arith}
+use Rattle.std.proofs.Common.{◌≡◌, ℕ, suc, Bool, true, cond, ◌&&◌, eqb, List, [], ◌∷◌, ◌++◌, ◌<◌, Option, Some, None, Ok, sym, refl, ap, ◌∙◌, subst, inl, inr, ◌⊎◌, arith}
 use Rattle.std.specs.Prelude.{map}
-use Rattle.std.specs.List.{filter, flat_map}
+use Rattle.std.specs.List.{flat_map}
 use Rattle.std.proofs.lemmas.Bool.{and_from, and_parts, cases_Bool, cases_eq, eq-eqb, eqb-true, false_from_ne_true, false≢true, ne_eqb}
 use Rattle.std.proofs.lemmas.Simd.{map-map}
 use Rattle.trio_rights.specs.Row.{Row, row_in}
@@ -54,15 +54,10 @@ map-fixed f (x ∷ xs) h = ap (λ y. y ∷ map f xs) (h x (inl refl)) ∙ ap (λ
 -- a file reads by its kind and its body
 pub file_within-alike : (core : Core) (m x : Met) → m.kind ≡ x.kind → m.body ≡ x.body → file_within core m ≡ file_within core x
 unfolding file_within
-file_within-alike core m x kind body =
-    ap (λ k. file_within core (record m { kind = k })) kind ∙ ap (λ b. file_within core (record m { kind = x.kind; body = b })) body
+file_within-alike core m x kind body = search arith
 
 pub met_with-number : (ino : ℕ) (body : List ℕ) (x : Met) → (met_with ino body x).ino ≡ x.ino
-met_with-number ino body x = by (eqb x.ino ino)
-  where
-    by : (t : Bool) → (cond t (record x { body = body }) x).ino ≡ x.ino
-    by true = refl
-    by false = refl
+met_with-number ino body x = search arith
 
 pub met_with-other : (ino : ℕ) (body : List ℕ) (x : Met) → (x.ino ≡ ino → ⊥) → met_with ino body x ≡ x
 met_with-other ino body x d = ap (λ t. cond t (record x { body = body }) x) (ne_eqb x.ino ino d)
@@ -72,11 +67,7 @@ met_with-here ino body x e = ap (λ t. cond t (record x { body = body }) x) (eq-
 
 -- an entry that is met has the body of the slot
 met_in-listed : (directory ino : ℕ) (body : List ℕ) (l : Listed) → met_in plain directory (listed_with ino body l) ≡ met_with ino body (met_in plain directory l)
-met_in-listed directory ino body l = by (eqb l.entry.ino ino)
-  where
-    by : (t : Bool) → met_in plain directory (cond t (record l { body = body }) l) ≡ cond t (record (met_in plain directory l) { body = body }) (met_in plain directory l)
-    by true = refl
-    by false = refl
+met_in-listed directory ino body l = search arith
 
 written-with : (w : Written) (body : List ℕ) (o : Option Row) → written_at (record (bare w) { body = body }) o ≡ record (written_at w o) { body = body }
 written-with w body None = refl
@@ -104,55 +95,27 @@ module _ (desk : DeskSeen) (h h' : InHand) (m : Met) (body : List ℕ) (file fil
   listed_then l = cond (is_among m.ino (bundle_of h.parcel).numbers) (listed_with m.ino body l) l
 
   pub entry_then-is : (e : Met) → entry_then e ≡ record e { body = (entry_then e).body }
-  entry_then-is e = by made (eqb e.ino m.ino)
-    where
-      by : (s t : Bool) → cond s (cond t (record e { body = body }) e) e ≡ record e { body = (cond s (cond t (record e { body = body }) e) e).body }
-      by true true = refl
-      by true false = refl
-      by false true = refl
-      by false false = refl
+  entry_then-is e = search arith
 
   pub listed_then-is : (l : Listed) → listed_then l ≡ record l { body = (listed_then l).body }
-  listed_then-is l = by made (eqb l.entry.ino m.ino)
-    where
-      by : (s t : Bool) → cond s (cond t (record l { body = body }) l) l ≡ record l { body = (cond s (cond t (record l { body = body }) l) l).body }
-      by true true = refl
-      by true false = refl
-      by false true = refl
-      by false false = refl
+  listed_then-is l = search arith
 
   pub entry_then-met : (directory : ℕ) (l : Listed) → met_in plain directory (listed_then l) ≡ entry_then (met_in plain directory l)
-  entry_then-met directory l = by made
-    where
-      by : (s : Bool) → met_in plain directory (cond s (listed_with m.ino body l) l) ≡ cond s (met_with m.ino body (met_in plain directory l)) (met_in plain directory l)
-      by true = met_in-listed directory m.ino body l
-      by false = refl
+  entry_then-met directory l = search (arith, met_in-listed)
 
   -- an entry that names another file is as it was
   pub listed_then-other : (l : Listed) → (made ≡ true → l.entry.ino ≡ m.ino → ⊥) → listed_then l ≡ l
-  listed_then-other l d = by made refl
-    where
-      by : (s : Bool) → made ≡ s → cond s (listed_with m.ino body l) l ≡ l
-      by true t = ap (λ k. cond k (record l { body = body }) l) (ne_eqb l.entry.ino m.ino (d t))
-      by false t = refl
+  listed_then-other l d = search (arith, ne_eqb)
 
   files_same : map (λ (w : Written). w.ino) (files_in_hand h') ≡ map (λ (w : Written). w.ino) (files_in_hand h)
   files_same = elim u.body_now [
     | inr slot ↦ ap (map (λ (w : Written). w.ino)) slot.files
-    | inl lease ↦
-        ap (map (λ (w : Written). w.ino)) lease.files
-        ∙ map-map (λ (w : Written). w.ino) (with_body m.ino body) (files_in_hand h)
-        ∙ map-each (λ w. (with_body m.ino body w).ino) (λ (w : Written). w.ino) (files_in_hand h) (λ w i. body-number m.ino body w)
+    | inl lease ↦ search (arith, map-map, map-each, body-number)
   ]
 
   -- the written files have the numbers that they had
   pub writes_same : map (λ (w : Written). w.ino) b2.writes ≡ map (λ (w : Written). w.ino) b.writes
-  writes_same =
-      sym (map-map (λ (w : Written). w.ino) bare b2.writes)
-      ∙ ap (map (λ (w : Written). w.ino)) (map-map bare (λ (x : LentFile). written_in x.stands) h'.parcel.writes)
-      ∙ files_same
-      ∙ sym (ap (map (λ (w : Written). w.ino)) (map-map bare (λ (x : LentFile). written_in x.stands) h.parcel.writes))
-      ∙ map-map (λ (w : Written). w.ino) bare b.writes
+  writes_same = search (arith, map-map, files_same)
 
   -- What is known of the judged files, whatever the rows: they read, each page and each number is listed once, and the edited one is
   -- among them; if it was made, another one lists it.
@@ -210,11 +173,7 @@ module _ (desk : DeskSeen) (h h' : InHand) (m : Met) (body : List ℕ) (file fil
     ]
 
     bare_writes : map bare b2.writes ≡ map edited b.writes
-    bare_writes =
-        map-map bare (λ (x : LentFile). written_in x.stands) h'.parcel.writes
-        ∙ files_are
-        ∙ ap (map (with_body m.ino body)) (sym (map-map bare (λ (x : LentFile). written_in x.stands) h.parcel.writes))
-        ∙ map-map (with_body m.ino body) bare b.writes
+    bare_writes = search (arith, map-map, files_are)
 
     bare_sorted : map bare (sorted_by (λ (w : Written). w.ino) b2.writes) ≡ map edited sorted
     bare_sorted =
@@ -223,18 +182,7 @@ module _ (desk : DeskSeen) (h h' : InHand) (m : Met) (body : List ℕ) (file fil
         ∙ sorted-map (λ (w : Written). w.ino) (λ (w : Written). w.ino) edited (λ w. body-number m.ino body (bare w)) b.writes
 
     start_is : (w : Written) → written_met c2 (edited w) ≡ met_with m.ino body (written_met c w)
-    start_is w =
-        let number : (written_met c w).ino ≡ w.ino = written_ino_at w (row_in rows w.ino) in
-        elim (cases_eq w.ino m.ino) [
-          | inl e ↦
-              ap (written_met c2) (body-here m.ino body (bare w) e)
-              ∙ written-with w body (row_in rows w.ino)
-              ∙ sym (met_with-here m.ino body (written_met c w) (number ∙ e))
-          | inr d ↦
-              ap (written_met c2) (body-other m.ino body (bare w) d)
-              ∙ bare_at w (row_in rows w.ino)
-              ∙ sym (met_with-other m.ino body (written_met c w) (λ e. d (sym number ∙ e)))
-        ]
+    start_is w = search (arith, written_ino_at, cases_eq, body-here, written-with, met_with-here, body-other, bare_at, met_with-other)
 
     starts_are : written_files c2 ≡ map (met_with m.ino body) (written_files c)
     starts_are =
@@ -422,10 +370,7 @@ module _ (desk : DeskSeen) (h h' : InHand) (m : Met) (body : List ℕ) (file fil
           let t : made ≡ true = In-is_among m.ino b.numbers new in
           elim (cases_eq x.ino (p t).ino) [
             | inr other ↦ away t other q (In-right q f.chain.index f.chain.blocks j) new same
-            | inl e ↦
-                let one : x ≡ p t = same_met (judged_files c) x (p t) once i (p_in t) e in
-                let l = slot_listed t f (ap (file_within (bundle_core c)) (sym one) ∙ read) in
-                let none : In l.0 [] = subst (λ es. In l.0 es) (regular_entries (bundle_core c) x f kind read) l.1 in absurd none
+            | inl e ↦ search (arith, same_met, once, p_in, slot_listed, regular_entries)
           ])
 
     -- ---- all judged files
@@ -473,14 +418,7 @@ module _ (desk : DeskSeen) (h h' : InHand) (m : Met) (body : List ℕ) (file fil
         ∙ ap (λ z. map entry_then (children_in plain x.ino z)) (sym r.before)
 
     kids_now : (x : Met) → In x (judged_files c) → new_entries c2 (met_with m.ino body x) ≡ map (met_with m.ino body) (new_entries c x)
-    kids_now x i =
-        let new : Met → Bool = λ e. is_among e.ino b.numbers in
-        ap (filter new) (entries_now x i)
-        ∙ filter-changed entry_then (met_with m.ino body) new (entries_in c x) (λ e. ap (λ (z : Met). is_among z.ino b.numbers) (entry_then-is e)) (λ e t. by e t made refl)
-      where
-        by : (e : Met) → is_among e.ino b.numbers ≡ true → (s : Bool) → made ≡ s → cond s (met_with m.ino body e) e ≡ met_with m.ino body e
-        by e t true is = refl
-        by e t false is = sym (met_with-other m.ino body e (λ same. false≢true (sym is ∙ ap (λ n. is_among n b.numbers) (sym same) ∙ t)))
+    kids_now x i = search (arith, entries_now, filter-changed, entry_then-is, met_with-other, false≢true)
 
     -- the judged files are those of before, with the body of one exchanged
     pub judged_now : judged_files c2 ≡ map (met_with m.ino body) (judged_files c)
@@ -492,38 +430,20 @@ module _ (desk : DeskSeen) (h h' : InHand) (m : Met) (body : List ℕ) (file fil
         (fronts-changed (met_with m.ino body) (met_with-number m.ino body) (new_entries c) (new_entries c2) (written_files c) levels (λ x i. kids_now x i) levels (omega arith))
 
     pub entries_then : judged_entries c2 ≡ map entry_then (judged_entries c)
-    entries_then =
-        ap (flat_map (entries_in c2)) judged_now
-        ∙ flat_map-changed (met_with m.ino body) entry_then (entries_in c) (entries_in c2) (judged_files c) (λ x i. entries_now x i)
+    entries_then = search (arith, judged_now, flat_map-changed, entries_now)
 
     -- an entry is as it was, or it names the edited one, which was made
     pub entry_cases : (e : Met) → In e (judged_entries c) → (entry_then e ≡ e) ⊎ ((made ≡ true) × (e ≡ k.met) × (entry_then e ≡ record k.met { body = body }))
-    entry_cases e i =
-        elim (cases_Bool made) [
-          | inr old ↦ inl (ap (λ t. cond t (met_with m.ino body e) e) old)
-          | inl t ↦
-              elim (cases_eq e.ino m.ino) [
-                | inr d ↦ inl (ap (λ z. cond z (met_with m.ino body e) e) t ∙ met_with-other m.ino body e d)
-                | inl same ↦
-                    let one : e ≡ k.met = entry_mine e t i same in
-                    inr (t, one, ap (λ z. cond z (met_with m.ino body e) e) t ∙ met_with-here m.ino body e same ∙ ap (λ (z : Met). record z { body = body }) one)
-              ]
-        ]
+    entry_cases e i = search (arith, cases_Bool, cases_eq, met_with-other, entry_mine, met_with-here)
 
     -- the directory that lists one that was made is its parent
     pub parent_number : (t : made ≡ true) → (k.parent t).0.ino ≡ m.parent
-    parent_number t =
-        let p = k.parent t in
-        let r = k.reads p.0 p.1 in
-        let l = map-In (met_in plain p.0.ino) k.met r.0.entries (subst (λ z. In k.met (children_in plain p.0.ino z)) r.1 p.3) in
-        sym (ap (λ (z : Met). z.parent) l.2) ∙ ap (λ (z : Met). z.parent) (k.place t)
+    parent_number t = search (arith, map-In)
 
     -- ---- pages
 
     pub pages_mine : (x : Met) → In x (judged_files c) → x.ino ≡ m.ino → pages_within c2 (met_with m.ino body x) ≡ pages_listed file'
-    pages_mine x i e =
-        let one : x ≡ k.met = judged_mine x i e in
-        ap (λ z. pages_in (file_within (bundle_core c2) z)) (met_with-here m.ino body x e ∙ ap (λ (z : Met). record z { body = body }) one) ∙ ap pages_in mine_now
+    pages_mine x i e = search (arith, judged_mine, met_with-here, mine_now)
 
     pub pages_beside : (x : Met) → In x (judged_files c) → (x.ino ≡ m.ino → ⊥) → pages_within c2 (met_with m.ino body x) ≡ pages_within c x
     pages_beside x i d =
@@ -536,7 +456,4 @@ module _ (desk : DeskSeen) (h h' : InHand) (m : Met) (body : List ℕ) (file fil
         let y = flat_map-In (pages_within c2) q (judged_files c2) i in
         let x = map-In (met_with m.ino body) y.0 (judged_files c) (subst (λ l. In y.0 l) judged_now y.1) in
         let j : In q (pages_within c2 (met_with m.ino body x.0)) = subst (λ z. In q (pages_within c2 z)) x.2 y.2 in
-        elim (cases_eq x.0.ino m.ino) [
-          | inl e ↦ inl (subst (λ l. In q l) (pages_mine x.0 x.1 e) j)
-          | inr d ↦ inr (x.0, x.1, d, subst (λ l. In q l) (pages_beside x.0 x.1 d) j)
-        ]
+        search (arith, cases_eq, pages_mine, pages_beside)

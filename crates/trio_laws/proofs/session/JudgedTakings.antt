@@ -1,5 +1,5 @@
 -- Which files are judged after more was taken, and what they read.
-use Rattle.std.proofs.Common.{◌≡◌, ℕ, List, [], ◌∷◌, ◌++◌, Option, Some, Ok, sym, refl, ap, ◌∙◌, subst, inl, inr}
+use Rattle.std.proofs.Common.{◌≡◌, ℕ, List, [], ◌∷◌, ◌++◌, Option, Some, Ok, sym, ap, ◌∙◌, subst, inl, inr, arith}
 use Rattle.std.specs.Prelude.{is_some, map}
 use Rattle.std.specs.Option.{option_map}
 use Rattle.std.proofs.lemmas.Bool.{false≢true}
@@ -126,8 +126,4 @@ judged_after_write desk h f nodes nodes' rows u v = after_write desk h f nodes n
 
 pub judged_after_hold : JudgedAfterHold
 unfolding judged_files
-judged_after_hold desk h k nodes = record {
-  stays = λ x new i. i;
-  made = λ x new i. (i, new);
-  read = λ x file i reads. inl (record { met = x; judged = i; number = refl; reads = reads });
-}
+judged_after_hold desk h k nodes = search arith

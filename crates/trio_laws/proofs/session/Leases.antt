@@ -1,13 +1,13 @@
 -- What a lease shows is true of the nodes at its grant.
-use Rattle.std.proofs.Common.{◌≡◌, ℕ, true, cond, eqb, List, [], ◌∷◌, ◌++◌, take, Option, Some, None, Ok, sym, refl, ap, ◌∙◌, subst, inl, inr, arith}
+use Rattle.std.proofs.Common.{◌≡◌, ℕ, true, cond, eqb, List, [], ◌∷◌, ◌++◌, Option, Some, None, Ok, sym, refl, ap, ◌∙◌, subst, inl, inr, arith}
 use Rattle.std.specs.Prelude.{map}
 use Rattle.std.specs.List.{find, flat_map, cons_option}
 use Rattle.std.specs.Option.{option_map}
 use Rattle.std.proofs.lemmas.Bool.{cases_eq, eqb-true, eq-eqb, ne_eqb}
-use Rattle.trio_rights.specs.Row.{Row, row_in, is_child}
+use Rattle.trio_rights.specs.Row.{Row, is_child}
 use Rattle.trio_rights.specs.Sheets.{Sheet}
 use Rattle.trio_rights.specs.declared.kind.Kind.{Kind}
-use Rattle.trio_rights.specs.declared.kind.Kind.TheVariants.{Regular, Directory}
+use Rattle.trio_rights.specs.declared.kind.Kind.TheVariants.{Directory}
 use Rattle.trio_rights.specs.declared.rights.Mode.{Mode}
 use Rattle.trio_lists.specs.Lists.{In, gathered, both, there_or}
 use Rattle.trio_lists.proofs.Members.{result_then-Ok, there_or-Ok, both-Ok}
@@ -25,7 +25,7 @@ use Rattle.trio_lease.specs.Views.{lent_sheet}
 use Rattle.trio_lease.specs.declared.parts.LentPage.{LentPage}
 use Rattle.trio_nodes.specs.declared.grant.GrantKind.TheVariants.{Read, Write, Hold}
 use Rattle.trio_nodes.specs.declared.node.Node.{Node}
-use Rattle.trio_nodes.specs.Nodes.{Nodes, node_at, is_in, count_in}
+use Rattle.trio_nodes.specs.Nodes.{Nodes, node_at, is_in}
 use Rattle.trio_nodes.specs.Tree.{IsTree}
 use Rattle.trio_onetree.proofs.Children.{one_node}
 use Rattle.trio_state.specs.Kept.{Kept}
@@ -36,9 +36,9 @@ use Rattle.trio_surveys.proofs.OwnFiles.{place_from}
 use Rattle.trio_surveys.proofs.Places.{gathers_directory}
 use Rattle.trio_surveys.proofs.Reached.{child_met, no_root_listed}
 use Rattle.trio_surveys.proofs.Tree.{child_has}
-use Rattle.trio_desk.specs.Contents.{Sizes, Rights, rights_of, rights_in, ShownEntry, entry_of_node, entry_of_listed, entries_shown, entries_or_none, entries_lent, bytes_shown}
-use Rattle.trio_desk.specs.Agrees.{Said, row_says, node_says, HasRights, HasContent, HasFile, HasPlaces}
-use Rattle.trio_laws.specs.history.Stands.{name_of, size_of, blocks_of, bytes_of, bytes_of_sheets, node_by, node_of, writer_of, nodes_of}
+use Rattle.trio_desk.specs.Contents.{Sizes, Rights, rights_of, rights_in, ShownEntry, entry_of_node, entry_of_listed, entries_shown, entries_or_none, entries_lent}
+use Rattle.trio_desk.specs.Agrees.{row_says, node_says, HasRights, HasContent, HasFile, HasPlaces}
+use Rattle.trio_laws.specs.history.Stands.{name_of, node_by, node_of, writer_of, nodes_of}
 use Rattle.trio_laws.specs.session.Grants.{LeaseShows, HoldShows}
 use Rattle.trio_laws.proofs.history.Facts.{live, node_is}
 use Rattle.trio_laws.proofs.history.Follows.{body_is_at, name_at_entry}
@@ -111,9 +111,7 @@ module _ (s : State) (k : Kept s) (ino : ℕ) (r : Row) (row : row_at s.home ino
       let uid : r.uid ≡ (body_at bytes).uid = ap (λ (x : Row). x.uid) file.row ∙ ap (λ (x : Body). x.uid) (sym spelled) in
       let gid : r.gid ≡ (body_at bytes).gid = ap (λ (x : Row). x.gid) file.row ∙ ap (λ (x : Body). x.gid) (sym spelled) in
       let F : Kind → Mode → ℕ → ℕ → Option Rights = λ q m u g. Some (record { kind = q; mode = m; uid = u; gid = g }) in
-      ap (λ m. option_map rights_of (node_at nodes m)) number ∙ ap (option_map rights_of) node_here
-      ∙ ap (λ q. F q r.mode r.uid r.gid) (sym same) ∙ ap (λ m. F kind m r.uid r.gid) mode ∙ ap (λ u. F kind (body_at bytes).mode u r.gid) uid
-      ∙ ap (F kind (body_at bytes).mode (body_at bytes).uid) gid
+      search (arith, node_here)
 
   not_zero : ino ≡ 0 → ⊥
   not_zero none =
@@ -157,9 +155,7 @@ module _ (s : State) (k : Kept s) (ino : ℕ) (r : Row) (row : row_at s.home ino
         let name : name_of image l.entry.ino z ≡ l.entry.name = name_at_entry image file.met file.file l l.entry.ino z file.read i below refl refl in
         let body : q.0.body ≡ body_at l.body = sym (body_is_at l.entry.kind core.range l.body q.0.body (reads_from core (child l) q.0 q.1).body) in
         let F : List ℕ → Body → Option ShownEntry = λ n b. Some (record { name = n; rights = record { kind = l.entry.kind; mode = b.mode; uid = b.uid; gid = b.gid } }) in
-        ap (entry_of_node ino) (node_is s k l.entry.ino ∙ ap (node_by image l.entry.ino (writer_of s l.entry.ino)) q.2)
-        ∙ ap (λ t. cond t (F x.name q.0.body) None) (eq-eqb file.met.ino ino file.number)
-        ∙ ap (λ n. F n q.0.body) name ∙ ap (F l.entry.name) body
+        search (arith, node_is, eq-eqb)
 
     -- a node in the directory is that of an entry
     none_other : (n : ℕ) → find (λ (l : Listed). eqb l.entry.ino n) file.file.entries ≡ None → entry_of_node ino (node_at nodes n) ≡ None
@@ -168,9 +164,7 @@ module _ (s : State) (k : Kept s) (ino : ℕ) (r : Row) (row : row_at s.home ino
         here : (x : Node) → node_at nodes n ≡ Some x → x.parent ≡ ino → ⊥
         here x e p =
             elim (cases_eq n 1) [
-              | inl one ↦
-                  let same : x ≡ tree.root.0 = one_node (node_at nodes 1) x tree.root.0 (ap (node_at nodes) (sym one) ∙ e) tree.root.1 in
-                  not_zero (sym p ∙ ap (λ (z : Node). z.parent) same ∙ tree.root.3)
+              | inl one ↦ search (arith, tree, one_node, not_zero)
               | inr d ↦
                   let l = live s k n x e in
                   let q = listing image k.fit k.verifies n l.row l.at d in
@@ -209,28 +203,10 @@ module _ (s : State) (k : Kept s) (ino : ℕ) (r : Row) (row : row_at s.home ino
         ∙ ap entries_or_none (lent_entries core file.file.chain.blocks f.blocks file.file.entries sheets (gathers directory))
 
     content : (q : Kind) → f.kind ≡ q → HasContent sizes nodes f q
-    content Directory d = λ n.
-        ap (λ i. entry_of_node i (node_at nodes n)) number ∙ entry_for (sym kind ∙ d) n
-        ∙ sym (ap (λ ls. option_map entry_of_listed (find (λ (l : Listed). eqb l.entry.ino n) ls)) (entries_are (sym kind ∙ d)))
-    content Regular d =
-        let same : bytes_of (settled s) ino r (writer_of s ino) r.kind ≡ bytes_shown f =
-        ap (bytes_of (settled s) ino r (writer_of s ino)) (sym kind ∙ d)
-        ∙ ap (λ w. bytes_of_sheets (size_of (settled s) ino) (blocks_of (settled s) ino r w)) alone
-        ∙ ap (λ ls. bytes_of_sheets (size_of (settled s) ino) ls) (sym blocks)
-        ∙ ap (λ l. take (body_at l).size (flat_map (λ (x : Sheet). x.bytes) (map lent_sheet f.blocks))) (sym body)
-        ∙ ap (take (body_at f.body).size) (sym (lent_bytes f.blocks)) in
-        ap (λ n. option_map (λ (x : Node). x.bytes) (node_at nodes n)) number ∙ ap (option_map (λ (x : Node). x.bytes)) (node_here) ∙ ap (λ l. Some l) same
+    content q d = search (arith, entry_for, entries_are, lent_bytes, node_here)
 
     places : HasPlaces sizes (record { files = f ∷ []; holds = [] }) s.home.rows
-    places g l (inr i) j = absurd i
-    places g l (inl e) j =
-        let j' : In l (entries_shown sizes f) = subst (λ x. In l (entries_shown sizes x)) e j in
-        ap (λ (x : Shown). is_place_of x.ino l.page l.slot (row_at s.home l.entry.ino)) e
-        ∙ ap (λ i. is_place_of i l.page l.slot (row_at s.home l.entry.ino)) number ∙ by f.kind refl j'
-      where
-        by : (q : Kind) → f.kind ≡ q → In l (entries_shown sizes f) → is_place_of ino l.page l.slot (row_at s.home l.entry.ino) ≡ true
-        by Directory d i = place_is (sym kind ∙ d) l (subst (λ ls. In l ls) (entries_are (sym kind ∙ d)) i)
-        by Regular d i = absurd (subst (λ ls. In l ls) (ap (λ q. entries_lent sizes.inodes q f.blocks) d) i)
+    places g l h j = search (arith, place_is, entries_are)
 
     shown_true : HasFile sizes nodes f × HasPlaces sizes (record { files = f ∷ []; holds = [] }) s.home.rows
     shown_true = (record { rights = rights_are f.ino f.kind f.body number kind body; content = content f.kind refl }, places)
@@ -243,19 +219,10 @@ leases_show s lib ino Hold r sizes f k row lends alone same l = absurd lends
 -- ---- holds
 
 child_said : (ino : ℕ) (o : Option Row) (p : Option Node) → option_map row_says o ≡ option_map node_says p → is_in ino p ≡ is_child ino o
-child_said ino None None e = refl
-child_said ino None (Some x) e = absurd (let wrong : None ≡ Some (node_says x) = e in cc)
-child_said ino (Some q) None e = absurd (let wrong : Some (row_says q) ≡ None = e in cc)
-child_said ino (Some q) (Some x) e =
-    let e' : Some (row_says q) ≡ Some (node_says x) = e in
-    let says : row_says q ≡ node_says x = cc e' in
-    ap (λ (z : Said). eqb z.parent ino) (sym says)
+child_said ino o p e = search arith
 
 pub holds_show : HoldShows
 holds_show s lib ino r h k row l = record {
   rights = rights_are s k ino r row h.ino h.kind h.body l.ino l.kind l.body;
-  children =
-      ap (count_in (nodes_of s)) l.ino
-      ∙ count_pair (is_in ino) (is_child ino) refl refl (nodes_of s) s.home.rows (λ n. child_said ino (row_in s.home.rows n) (node_at (nodes_of s) n) (rows_say s k n))
-      ∙ sym l.children;
+  children = search (arith, count_pair, child_said, rows_say);
 }

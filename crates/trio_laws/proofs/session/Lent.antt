@@ -1,8 +1,8 @@
 -- What open grants lent is true through every step.
-use Rattle.std.proofs.Common.{◌≡◌, ℕ, Bool, true, false, not, ◌&&◌, eqb, List, [], ◌∷◌, Option, Some, None, take, sym, refl, ap, ◌∙◌, subst, inl, inr}
+use Rattle.std.proofs.Common.{◌≡◌, ℕ, Bool, true, false, not, ◌&&◌, eqb, List, [], ◌∷◌, Option, Some, None, take, sym, refl, ap, ◌∙◌, subst, inl, inr, arith}
 use Rattle.std.specs.Prelude.{is_some, map}
 use Rattle.std.proofs.lemmas.Bool.{and_parts, both_ways, cases_eq, eqb-true, false_from_ne_true, not-true}
-use Rattle.trio_rights.specs.Row.{Row, row_in}
+use Rattle.trio_rights.specs.Row.{Row}
 use Rattle.trio_rights.specs.Bundle.{Bundle, Written, is_written}
 use Rattle.trio_rights.specs.declared.kind.Kind.TheVariants.{Directory}
 use Rattle.trio_lists.specs.Lists.{In, is_among}
@@ -16,14 +16,14 @@ use Rattle.trio_lease.specs.Shown.{Shown}
 use Rattle.trio_lease.specs.declared.parts.HoldParts.{HoldParts}
 use Rattle.trio_nodes.specs.declared.entry.Entry.{Entry}
 use Rattle.trio_nodes.specs.declared.grant.GrantKind.{GrantKind}
-use Rattle.trio_nodes.specs.declared.grant.GrantKind.TheVariants.{Read, Write, Hold}
+use Rattle.trio_nodes.specs.declared.grant.GrantKind.TheVariants.{Write, Hold}
 use Rattle.trio_nodes.specs.declared.answers.GrantFault.{GrantFault}
 use Rattle.trio_nodes.specs.declared.answers.ModeFault.{ModeFault}
 use Rattle.trio_nodes.specs.declared.node.Node.{Node}
 use Rattle.trio_nodes.specs.GrantKinds.{excludes_kind, is_read, is_write}
-use Rattle.trio_nodes.specs.After.{bytes_in, moded_nodes}
+use Rattle.trio_nodes.specs.After.{moded_nodes}
 use Rattle.trio_nodes.specs.Legal.{HasRightsOf, KeepsRights, parent_in}
-use Rattle.trio_nodes.specs.Nodes.{Nodes, node_at, entry_in}
+use Rattle.trio_nodes.specs.Nodes.{Nodes, node_at}
 use Rattle.trio_nodes.specs.Standing.{stands_on}
 use Rattle.trio_nodes.specs.Tree.{IsTree}
 use Rattle.trio_surveys.proofs.OwnFiles.{place_parts, place_from}
@@ -35,9 +35,7 @@ use Rattle.trio_state.specs.Kept.{Kept}
 use Rattle.trio_state.specs.Run.{start}
 use Rattle.trio_state.specs.State.{OpenGrant, State, creds_of, logged, settled}
 use Rattle.trio_state.specs.Step.{Event, Grant, Allot, Back, Release, Settle, SetMode, CtlAnswer, ReleaseEnd, Parted, IsAccepted, IsRefused, Does, Step, granted_to, mode_fault, moded_to}
-use Rattle.trio_desk.specs.Contents.{entry_of_node}
 use Rattle.trio_desk.specs.Agrees.{HasFile, HasHeld, HasPlaces, HasRights, HasStanding}
-use Rattle.trio_laws.specs.Laws.{library_of}
 use Rattle.trio_laws.specs.history.Entries.{answer_of, bundle_handed, event_of}
 use Rattle.trio_laws.specs.history.Recorded.{LentWhole}
 use Rattle.trio_laws.specs.history.Replays.{ReplaysFrom}
@@ -86,21 +84,13 @@ root_stays s k w event answer s' given step =
     let k' : Kept s' = step_kept s s' event answer k given step in
     let tree : IsTree (nodes_of s) = states_are_trees s k in
     let tree' : IsTree (nodes_of s') = states_are_trees s' k' in
-    let keeps : (x : Node) → node_at (nodes_of s) 1 ≡ Some x → HasRightsOf x (node_at (nodes_of s') 1) =
-    λ x e. elim (isolated s k w answer s' event given step) [
-      | inl within' ↦ subst (HasRightsOf x) (sym tree'.root.1) (within'.rights 1 x tree'.root.0 e tree'.root.1)
-      | inr moded ↦
-          let other : 1 ≡ moded.ino → ⊥ = λ same. owner_not_root (creds_of s (library_of event)) moded.ino (node_at (nodes_of s) moded.ino) moded.owner (sym same) in
-          same_rights x (node_at (nodes_of s) 1) (node_at (nodes_of s') 1) (ap (λ (n : Nodes). node_at n 1) moded.nodes ∙ moded_else (nodes_of s) moded.ino moded.mode 1 other) e
-    ] in
+    let keeps : (x : Node) → node_at (nodes_of s) 1 ≡ Some x → HasRightsOf x (node_at (nodes_of s') 1) = search (arith, isolated, owner_not_root, same_rights, moded_else) in
     let then : HasRights (root_of s) (node_at (nodes_of s') 1) = has_rights (root_of s) (node_at (nodes_of s) 1) (node_at (nodes_of s') 1) keeps (root_is s k) in
     let both : Some (root_of s') ≡ Some (root_of s) = sym (root_is s' k') ∙ then in
     cc both
 
 pub step_keeps_root : StepKeepsRoot
-step_keeps_root s event answer s' k w given step =
-    let z = step_sizes s event answer s' step in
-    (ap (λ r. record { range = r; inodes = s'.home.core.inodes }) z.range ∙ ap (λ i. record { range = s.home.core.range; inodes = i }) z.inodes, root_stays s k w event answer s' given step)
+step_keeps_root s event answer s' k w given step = search (arith, step_sizes, root_stays)
 
 -- ---- what a step leaves of a file
 
@@ -111,14 +101,7 @@ record Stays (s s' : State) (n : ℕ) : Type 0 where
   pub places : (m page slot : ℕ) → is_place_of n page slot (row_at s.home m) ≡ true → is_place_of n page slot (row_at s'.home m) ≡ true
 
 same_stays : (s s' : State) → nodes_of s' ≡ nodes_of s → s'.home.rows ≡ s.home.rows → (n : ℕ) → Stays s s' n
-same_stays s s' nodes rows n = record {
-  spared = record {
-    rights = λ x e. same_rights x (node_at (nodes_of s) n) (node_at (nodes_of s') n) (ap (λ ns. node_at ns n) nodes) e;
-    content = record { bytes = ap (λ ns. bytes_in (node_at ns n)) nodes; entries = λ m. ap (λ ns. entry_in n (node_at ns m)) nodes };
-  };
-  entries = λ m. ap (λ ns. entry_of_node n (node_at ns m)) nodes;
-  places = λ m page slot e. ap (λ l. is_place_of n page slot (row_in l m)) rows ∙ e;
-}
+same_stays s s' nodes rows n = search (arith, same_rights)
 
 -- a grant that was open, but for its checkpoint, on a file that stays
 record WasOpen (s s' : State) (g : OpenGrant) : Type 0 where
@@ -128,20 +111,10 @@ record WasOpen (s s' : State) (g : OpenGrant) : Type 0 where
   pub stays : Stays s s' grant.ino
 
 lease_was : (g h : OpenGrant) (f : Shown) → lent_part g ≡ lent_part h → IsLeaseOf g f → IsLeaseOf h f
-lease_was g h f e l = record {
-  ino = l.ino ∙ ap (λ (x : OpenGrant). x.ino) e;
-  kind = l.kind ∙ ap (λ (x : OpenGrant). x.of) e;
-  body = l.body ∙ ap (λ (x : OpenGrant). x.body) e;
-  blocks = l.blocks ∙ ap (λ (x : OpenGrant). x.blocks) e;
-}
+lease_was g h f e l = search arith
 
 hold_was : (g h : OpenGrant) (p : HoldParts) → lent_part g ≡ lent_part h → IsHoldOf g p → IsHoldOf h p
-hold_was g h p e l = record {
-  ino = l.ino ∙ ap (λ (x : OpenGrant). x.ino) e;
-  kind = l.kind ∙ ap (λ (x : OpenGrant). x.of) e;
-  body = l.body ∙ ap (λ (x : OpenGrant). x.body) e;
-  children = l.children ∙ ap (λ (x : OpenGrant). x.children) e;
-}
+hold_was g h p e l = search arith
 
 -- what was lent is true of such a grant still
 module _ (s s' : State) (sizes : sizes_of s' ≡ sizes_of s) (t : LentIsTrue s) (g : OpenGrant) (w : WasOpen s s' g) where
@@ -182,9 +155,7 @@ same_then s s' sizes nodes rows fewer t =
 -- ---- a grant
 
 excludes_write : (kind : GrantKind) (mine : Bool) → LendsPages kind → excludes_kind kind Write mine ≡ true
-excludes_write Read mine lends = refl
-excludes_write Write mine lends = refl
-excludes_write Hold mine lends = absurd lends
+excludes_write kind mine lends = search arith
 
 no_writer : (s : State) (lib ino : ℕ) (kind : GrantKind) → LendsPages kind → grant_fault s lib ino kind ≡ None → writer_of s ino ≡ None
 no_writer s lib ino kind lends e =

@@ -1,5 +1,5 @@
 -- A file as a lease gives it, read among the pages of a bundle.
-use Rattle.std.proofs.Common.{◌≡◌, ℕ, true, false, cond, not, List, [], ◌∷◌, ◌++◌, take, Option, Some, None, Ok, append_assoc, sym, refl, ap, ◌∙◌, subst, inl, inr}
+use Rattle.std.proofs.Common.{◌≡◌, ℕ, true, false, cond, List, [], ◌∷◌, ◌++◌, Option, Some, None, Ok, append_assoc, sym, refl, ap, ◌∙◌, subst, inl, inr, arith}
 use Rattle.std.specs.Prelude.{map}
 use Rattle.std.specs.List.{flat_map}
 use Rattle.std.specs.Option.{unwrap_or}
@@ -9,13 +9,11 @@ use Rattle.std.proofs.lemmas.List.{map-append}
 use Rattle.std.proofs.lemmas.Simd.{map-map}
 use Rattle.std.proofs.lemmas.Slice.Eq.{bytes_eq-Decides}
 use Rattle.trio_rights.specs.Row.{Row, row_in}
-use Rattle.trio_rights.specs.declared.kind.Kind.{Kind}
 use Rattle.trio_rights.specs.declared.kind.Kind.TheVariants.{Regular, Directory}
 use Rattle.trio_rights.specs.Sheets.{Sheet, sheet_numbers}
 use Rattle.trio_lists.specs.Lists.{In, are_new, both, gathered, is_among, result_then, there_or}
 use Rattle.trio_lists.proofs.Members.{In-left, In-right, In-map, map-In, is_among-In, is_ok-Ok}
 use Rattle.trio_lists.proofs.Filters.{In-list_any, some_one}
-use Rattle.trio_layout.specs.declared.slot.EntryPart.{EntryPart}
 use Rattle.trio_layout.specs.declared.slot.SlotRead.TheVariants.{Entry}
 use Rattle.trio_layout.specs.Range.{is_core}
 use Rattle.trio_layout.specs.Body.{body_at, body_of}
@@ -33,7 +31,7 @@ use Rattle.trio_surveys.proofs.Local.{reads_to}
 use Rattle.trio_surveys.proofs.OwnFiles.{place_parts}
 use Rattle.trio_surveys.proofs.Places.{gathers_directory, placed_from}
 use Rattle.trio_surveys.proofs.Within.{file_part}
-use Rattle.trio_desk.specs.Contents.{Sizes, bytes_shown, entries_lent, entries_or_none, entries_shown}
+use Rattle.trio_desk.specs.Contents.{Sizes, bytes_shown, entries_shown}
 use Rattle.trio_desk.specs.Out.{IsWellLent, lent_core, lent_numbers, numbers_of_file}
 use Rattle.trio_desk.specs.Shows.{bytes_read, pages_bytes}
 use Rattle.trio_laws.proofs.session.Reading.{core_of, file_as_before, page_kept, sheet_there}
@@ -50,9 +48,7 @@ pub numbers_by_names : (seen ls : List Listed) → repeated_name seen ls ≡ Non
 numbers_by_names seen [] e same = refl
 numbers_by_names seen (l ∷ ls) e same =
     let number : Listed → ℕ = λ l. l.entry.ino in
-    let apart : has_name l.entry.name seen ≡ false =
-    false_from_ne_true (has_name l.entry.name seen)
-    (λ t. (let wrong : Some (place_of l) ≡ None = sym (ap (λ b. cond b (Some (place_of l)) (repeated_name (seen ++ l ∷ []) ls)) t) ∙ e in absurd (cc wrong))) in
+    let apart : has_name l.entry.name seen ≡ false = search (arith, false_from_ne_true) in
     let out : is_among l.entry.ino (map number seen) ≡ false =
     false_from_ne_true (is_among l.entry.ino (map number seen))
     (λ t.
@@ -62,16 +58,10 @@ numbers_by_names seen (l ∷ ls) e same =
     let on : repeated_name (seen ++ l ∷ []) ls ≡ None = sym (ap (λ b. cond b (Some (place_of l)) (repeated_name (seen ++ l ∷ []) ls)) apart) ∙ e in
     let rest = numbers_by_names (seen ++ l ∷ []) ls on
     (λ a b i j k. same a b (subst (λ z. In a z) (append_assoc seen (l ∷ []) ls) i) (subst (λ z. In b z) (append_assoc seen (l ∷ []) ls) j) k) in
-    and_from (not (is_among l.entry.ino (map number seen))) (are_new (map number seen ++ l.entry.ino ∷ []) (map number ls))
-    (not_from_false (is_among l.entry.ino (map number seen)) out)
-    (ap (λ z. are_new z (map number ls)) (sym (map-append number seen (l ∷ []))) ∙ rest)
+    search (arith, and_from, not_from_false, map-append)
 
 pub listed_same : (l k : Listed) → l.entry ≡ k.entry → l.page ≡ k.page → l.slot ≡ k.slot → l.body ≡ k.body → l ≡ k
-listed_same l k entry page slot body =
-    ap (λ (x : EntryPart). record { entry = x; page = l.page; slot = l.slot; body = l.body }) entry
-    ∙ ap (λ (x : ℕ). record { entry = k.entry; page = x; slot = l.slot; body = l.body }) page
-    ∙ ap (λ (x : ℕ). record { entry = k.entry; page = k.page; slot = x; body = l.body }) slot
-    ∙ ap (λ (x : List ℕ). record { entry = k.entry; page = k.page; slot = k.slot; body = x }) body
+listed_same l k entry page slot body = search arith
 
 module _ (sizes : Sizes) (f : Shown) (well : IsWellLent sizes f) where
   -- its entries, as they are read
@@ -135,26 +125,12 @@ module _ (sizes : Sizes) (f : Shown) (well : IsWellLent sizes f) where
     -- the entries that are read are those that the lease shows
     pub lent_entries_are : lent_file.entries ≡ entries_shown sizes f
     unfolding lent_file
-    lent_entries_are = by f.kind refl lent_entries.0 lent_entries.1
-      where
-        by : (k : Kind) → f.kind ≡ k → (es : List Listed) → entries_of_kind (lent_core sizes f) f.kind (lent_numbers f.blocks) ≡ Ok es → es ≡ entries_shown sizes f
-        by Regular t es e =
-            let none : Ok [] ≡ Ok es = sym (ap (λ k. entries_of_kind (lent_core sizes f) k (lent_numbers f.blocks)) t) ∙ e in
-            let same : [] ≡ es = cc none in
-            sym same ∙ sym (ap (λ k. entries_lent sizes.inodes k f.blocks) t)
-        by Directory t es e =
-            let d : entries_of_kind (lent_core sizes f) Directory (lent_numbers f.blocks) ≡ Ok es = sym (ap (λ k. entries_of_kind (lent_core sizes f) k (lent_numbers f.blocks)) t) ∙ e in
-            let g = (gathers_directory (lent_core sizes f) (lent_numbers f.blocks) es d).0 in
-            let there : gathered (λ p. entries_on sizes.inodes p.no.0 p.page) f.blocks ≡ Ok es = sym (blocks_gather f.blocks (λ q i. lent_page q (In-right q f.index f.blocks i))) ∙ g in
-            sym (ap entries_or_none there) ∙ sym (ap (λ k. entries_lent sizes.inodes k f.blocks) t)
+    lent_entries_are = search (arith, lent_file, lent_entries, gathers_directory, blocks_gather, lent_page, In-right)
 
     -- a directory's entries gather from its pages
     pub lent_gathers : f.kind ≡ Directory → gathered (λ p. entries_on sizes.inodes p.no.0 p.page) f.blocks ≡ Ok (entries_shown sizes f)
     unfolding lent_file
-    lent_gathers t =
-        let d : entries_of_kind (lent_core sizes f) Directory (lent_numbers f.blocks) ≡ Ok lent_entries.0 = sym (ap (λ k. entries_of_kind (lent_core sizes f) k (lent_numbers f.blocks)) t) ∙ lent_entries.1 in
-        let g = (gathers_directory (lent_core sizes f) (lent_numbers f.blocks) lent_entries.0 d).0 in
-        sym (blocks_gather f.blocks (λ q i. lent_page q (In-right q f.index f.blocks i))) ∙ g ∙ ap Ok lent_entries_are
+    lent_gathers t = search (arith, lent_file, lent_entries, gathers_directory, blocks_gather, lent_page, In-right, lent_entries_are)
 
     -- two entries at one place are one
     same_entry : (rows : List (Option Row)) → ((l : Listed) → In l lent_file.entries → is_place_of f.ino l.page l.slot (row_in rows l.entry.ino) ≡ true) → (l k : Listed) → In l lent_file.entries → In k lent_file.entries → l.entry.ino ≡ k.entry.ino → l ≡ k
@@ -180,14 +156,7 @@ module _ (sizes : Sizes) (f : Shown) (well : IsWellLent sizes f) where
     -- the entries of a directory have names apart
     pub lent_names : repeated_name [] lent_file.entries ≡ None
     unfolding lent_file
-    lent_names = by f.kind refl lent_entries.0 lent_entries.1
-      where
-        by : (k : Kind) → f.kind ≡ k → (es : List Listed) → entries_of_kind (lent_core sizes f) f.kind (lent_numbers f.blocks) ≡ Ok es → repeated_name [] es ≡ None
-        by Regular t es e =
-            let none : Ok [] ≡ Ok es = sym (ap (λ k. entries_of_kind (lent_core sizes f) k (lent_numbers f.blocks)) t) ∙ e in
-            let same : [] ≡ es = cc none in sym (ap (repeated_name []) same)
-        by Directory t es e =
-            (gathers_directory (lent_core sizes f) (lent_numbers f.blocks) es (sym (ap (λ k. entries_of_kind (lent_core sizes f) k (lent_numbers f.blocks)) t) ∙ e)).1
+    lent_names = search (arith, lent_file, lent_entries, gathers_directory)
 
     pub lent_numbers_new : (rows : List (Option Row)) → ((l : Listed) → In l lent_file.entries → is_place_of f.ino l.page l.slot (row_in rows l.entry.ino) ≡ true) → are_new [] (map (λ l. l.entry.ino) lent_file.entries) ≡ true
     lent_numbers_new rows places =
@@ -212,10 +181,4 @@ module _ (sizes : Sizes) (f : Shown) (well : IsWellLent sizes f) where
 
       pub lent_bytes : bytes_read (core_of sizes.range sizes.inodes sheets) Regular (Ok lent_file) ≡ Some (bytes_shown f)
       unfolding lent_file
-      lent_bytes =
-          ap (λ l. Some (take (body_at f.body).size l))
-          (there_bytes f.blocks
-          (λ q i.
-          let j : In q (f.index ++ f.blocks) = In-right q f.index f.blocks i in
-          let k : In q.no.0 (numbers_of_file f) = subst (λ l. In q.no.0 l) (map-append (λ (p : LentPage). p.no.0) f.index f.blocks) (In-map (λ (p : LentPage). p.no.0) q (f.index ++ f.blocks) j) in
-          lent_kept q.no.0 k ∙ lent_page q j))
+      lent_bytes = search (arith, lent_file, there_bytes, In-right, map-append, In-map, lent_kept, lent_page)

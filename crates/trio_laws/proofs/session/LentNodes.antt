@@ -1,5 +1,5 @@
 -- The nodes of what a lease shows.
-use Rattle.std.proofs.Common.{◌≡◌, ℕ, Bool, true, false, cond, eqb, Option, Some, None, List, sym, refl, ap, ◌∙◌, subst, inl, inr}
+use Rattle.std.proofs.Common.{◌≡◌, ℕ, true, cond, eqb, Option, Some, None, List, sym, refl, ap, ◌∙◌, subst, inl, inr, arith}
 use Rattle.std.specs.List.{find}
 use Rattle.std.specs.Option.{option_map}
 use Rattle.std.proofs.lemmas.Bool.{cases_eq, eqb-true, eq-eqb}
@@ -14,8 +14,8 @@ use Rattle.trio_layout.specs.Survey.{Met}
 use Rattle.trio_lease.specs.Shown.{Shown}
 use Rattle.trio_nodes.specs.declared.node.Node.{Node}
 use Rattle.trio_nodes.specs.Nodes.{Nodes, node_at}
-use Rattle.trio_nodes.specs.Tree.{IsDirectory, IsTree}
-use Rattle.trio_desk.specs.Contents.{Rights, ShownEntry, Sizes, entries_lent, entries_shown, entry_of_listed, entry_of_node, rights_in, rights_of}
+use Rattle.trio_nodes.specs.Tree.{IsTree}
+use Rattle.trio_desk.specs.Contents.{ShownEntry, Sizes, entries_lent, entries_shown, entry_of_listed, entry_of_node, rights_in, rights_of}
 use Rattle.trio_desk.specs.Agrees.{HasContent, HasFile}
 use Rattle.trio_desk.specs.Out.{IsWellLent}
 use Rattle.trio_laws.proofs.session.LentFiles.{lent_entries_are, lent_entry_one, lent_file}
@@ -27,15 +27,7 @@ mapped g (Some x) y e = (x, refl, (let t : Some (g x) ≡ Some y = e in cc t))
 
 -- a node that a directory is shown to list
 pub node_entry : (d : ℕ) (p : Option Node) (e : ShownEntry) → entry_of_node d p ≡ Some e → (x : Node) × (p ≡ Some x) × (x.parent ≡ d) × (x.name ≡ e.name) × (rights_of x ≡ e.rights)
-node_entry d None e t = absurd (let wrong : None ≡ Some e = t in cc wrong)
-node_entry d (Some x) e t = by (eqb x.parent d) refl t
-  where
-    by : (v : Bool) → eqb x.parent d ≡ v → cond v (Some (record { name = x.name; rights = rights_of x })) None ≡ Some e → (y : Node) × (Some x ≡ Some y) × (y.parent ≡ d) × (y.name ≡ e.name) × (rights_of y ≡ e.rights)
-    by false is k = absurd (let wrong : None ≡ Some e = k in cc wrong)
-    by true is k =
-        let one : Some (record { name = x.name; rights = rights_of x }) ≡ Some e = k in
-        let same : record { name = x.name; rights = rights_of x } ≡ e = cc one in
-        (x, refl, eqb-true x.parent d is, ap (λ (z : ShownEntry). z.name) same, ap (λ (z : ShownEntry). z.rights) same)
+node_entry d p e t = search (arith, eqb-true)
 
 -- a node as its directory shows it
 abbrev pub shown_as : Node → ShownEntry
@@ -86,11 +78,6 @@ has_entry sizes f ns t it n x e at = by f.kind refl it.content
     by Regular u k =
         let y = mapped rights_of (node_at ns f.ino) (rights_in f.kind f.body) it.rights in
         elim (cases_eq n 1) [
-          | inl one ↦
-              let top : x ≡ t.root.0 = some_one (node_at ns 1) x t.root.0 (ap (node_at ns) (sym one) ∙ e) t.root.1 in
-              let zero' : f.ino ≡ 0 = sym at ∙ ap (λ (z : Node). z.parent) top ∙ t.root.3 in
-              let wrong : None ≡ Some y.0 = sym t.none ∙ ap (node_at ns) (sym zero') ∙ y.1 in absurd (cc wrong)
-          | inr d ↦
-              let dir : IsDirectory (Some y.0) = subst IsDirectory (ap (node_at ns) at ∙ y.1) (t.parents n x e d) in
-              let kind : Regular ≡ Directory = sym u ∙ sym (ap (λ (z : Rights). z.kind) y.2) ∙ dir in absurd (cc kind)
+          | inl one ↦ search (arith, some_one)
+          | inr d ↦ search arith
         ]

@@ -1,5 +1,5 @@
 -- What a session reads in its own directories is true of the nodes that it shows.
-use Rattle.std.proofs.Common.{◌≡◌, ℕ, Bool, true, false, cond, not, ◌&&◌, ◌||◌, eqb, List, Option, Some, None, sym, refl, ap, ◌∙◌, subst, inl, inr, ◌⊎◌}
+use Rattle.std.proofs.Common.{◌≡◌, ℕ, Bool, true, cond, not, ◌&&◌, ◌||◌, eqb, List, Option, Some, None, sym, refl, ap, ◌∙◌, subst, ◌⊎◌, arith}
 use Rattle.std.specs.Prelude.{is_some}
 use Rattle.std.specs.List.{list_all}
 use Rattle.std.specs.Option.{option_map}
@@ -19,8 +19,7 @@ use Rattle.trio_layout.specs.Rules.{entry_keeps_rights, lent_body}
 use Rattle.trio_nodes.specs.declared.node.Node.{Node}
 use Rattle.trio_nodes.specs.Nodes.{Nodes, node_at, entry_in}
 use Rattle.trio_nodes.specs.Tree.{IsTree}
-use Rattle.trio_desk.specs.Agrees.{Said, row_says, node_says}
-use Rattle.trio_desk.specs.Shows.{Naming, naming_of, bytes_now, with_bytes, placed, made_by, node_listed, node_left, Shows}
+use Rattle.trio_desk.specs.Shows.{Naming, naming_of, bytes_now, with_bytes, node_listed, node_left, Shows}
 use Rattle.trio_desk.specs.Among.{IsAmong}
 use Rattle.trio_desk.specs.Edits.{listed_now}
 use Rattle.trio_laws.specs.session.Bundles.{NowIsListed}
@@ -56,29 +55,14 @@ module _ (c : Case) (nodes nodes' : Nodes) (tree : IsTree nodes) (tree' : IsTree
       by : (t : Bool) → row_in c.rows e.listed.entry.ino ≡ Some r → (is_kept c (met_of e) ≡ true) ⊎ (In n c.bundle.holds ⊎ In n c.bundle.numbers) → is_kept c (met_of e) ≡ t
           → cond t (has_kind e.listed.entry.kind (row_in c.rows e.listed.entry.ino)) (not (is_among e.listed.entry.ino c.bundle.holds) || (has_kind e.listed.entry.kind (row_in c.rows e.listed.entry.ino) && bytes_eq e.listed.body (lent_body c e.listed.entry.ino))) ≡ true
           → e.listed.entry.ino ≡ n → e.listed.entry.kind ≡ r.kind
-      by true there o t k number = has_kind_is e.listed.entry.kind (row_in c.rows e.listed.entry.ino) r there k
-      by false there (inl y) t k number = absurd (both_ways (is_kept c (met_of e)) t y)
-      by false there (inr (inr new)) t k number = absurd (new_dead c nodes nodes' tree tree' a s n r row new)
-      by false there (inr (inl held)) t k number =
-          elim (or_cases (not (is_among e.listed.entry.ino c.bundle.holds)) _ k) [
-            | inl free ↦
-                let among : is_among e.listed.entry.ino c.bundle.holds ≡ true = In-is_among e.listed.entry.ino c.bundle.holds (subst (λ m. In m c.bundle.holds) (sym number) held) in
-                absurd (false≢true (sym (not_from_true (is_among e.listed.entry.ino c.bundle.holds) among) ∙ free))
-            | inr both ↦ has_kind_is e.listed.entry.kind (row_in c.rows e.listed.entry.ino) r there (and_parts (has_kind e.listed.entry.kind (row_in c.rows e.listed.entry.ino)) _ both).0
-          ]
+      by h there i t k number = search (arith, has_kind_is, both_ways, met_of, new_dead, or_cases, In-is_among, false≢true, not_from_true, and_parts)
 
   pub listed_as : (e : Naming) (n : ℕ) → naming_of c n ≡ Some e → IsListedAs (node_at nodes' n) e
   listed_as e n h =
       subst (λ o. IsListedAs o e) (sym (s.each n ∙ ap (λ o. option_map (with_bytes (bytes_now c n)) (node_left c n o (node_at nodes n))) h)) (by (node_at nodes n) refl)
     where
       by : (o : Option Node) → node_at nodes n ≡ o → IsListedAs (option_map (with_bytes (bytes_now c n)) (node_listed e o)) e
-      by None t = with_as (bytes_now c n) e (made_by e) refl refl refl
-      by (Some x) t =
-          let r = node_row c nodes nodes' tree tree' a s n x t in
-          let same : option_map row_says (row_in c.rows n) ≡ option_map node_says (node_at nodes n) = a.same n in
-          let says : Some (row_says r.0) ≡ Some (node_says x) = sym (ap (option_map row_says) r.1) ∙ same ∙ ap (option_map node_says) t in
-          let said : row_says r.0 ≡ node_says x = cc says in
-          with_as (bytes_now c n) e (placed e x) refl refl (ap (λ (z : Said). z.rights.kind) (sym said) ∙ sym (kind_kept e n r.0 h r.1))
+      by o t = search (arith, with_as, node_row, kind_kept)
 
   listed_in : (directory n : ℕ) → is_among directory (numbers (judged_files c)) ≡ true → (o : Option Naming) → naming_of c n ≡ o → entry_in directory (node_at nodes' n) ≡ listed_now directory o
   listed_in directory n i (Some e) h =

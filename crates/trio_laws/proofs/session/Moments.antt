@@ -1,5 +1,5 @@
 -- A moment at which what is handed in agrees with the state lasts through the steps of others, and through give backs.
-use Rattle.std.proofs.Common.{Bool, ◌≡◌, ℕ, false, not, ◌&&◌, eqb, List, [], ◌∷◌, map, Option, Some, None, sym, refl, ap, ◌∙◌, subst, inl, inr}
+use Rattle.std.proofs.Common.{Bool, ◌≡◌, ℕ, false, not, ◌&&◌, eqb, List, [], ◌∷◌, map, Option, Some, None, sym, refl, ap, ◌∙◌, subst, inl, inr, arith}
 use Rattle.std.proofs.lemmas.Bool.{and_right, not_from_false}
 use Rattle.trio_rights.specs.Row.{Row}
 use Rattle.trio_rights.specs.Bundle.{Bundle}
@@ -7,8 +7,7 @@ use Rattle.trio_rights.specs.declared.rights.Creds.{Creds}
 use Rattle.trio_lists.specs.Lists.{In}
 use Rattle.trio_lists.proofs.Members.{In-map}
 use Rattle.trio_lists.proofs.Filters.{In-filter, filter-In}
-use Rattle.trio_layout.specs.Image.{Image, row_at}
-use Rattle.trio_layout.specs.Accept.{next}
+use Rattle.trio_layout.specs.Image.{Image}
 use Rattle.trio_lease.specs.declared.parts.HoldParts.{HoldParts}
 use Rattle.trio_lease.specs.Shown.{Shown}
 use Rattle.trio_nodes.specs.declared.grant.GrantKind.{GrantKind}
@@ -17,13 +16,13 @@ use Rattle.trio_nodes.specs.declared.answers.GrantFault.{GrantFault}
 use Rattle.trio_nodes.specs.declared.answers.ModeFault.{ModeFault}
 use Rattle.trio_nodes.specs.GrantKinds.{is_read}
 use Rattle.trio_nodes.specs.Libraries.{creds_in}
-use Rattle.trio_state.specs.Bundles.{Ends, parted_hold, refused_image}
+use Rattle.trio_state.specs.Bundles.{Ends, parted_hold}
 use Rattle.trio_state.specs.Given.{GivenTo, HasGrant}
-use Rattle.trio_state.specs.Grants.{given_back, grant_fault}
+use Rattle.trio_state.specs.Grants.{given_back}
 use Rattle.trio_state.specs.Kept.{Kept}
 use Rattle.trio_state.specs.Run.{Move, Trace}
-use Rattle.trio_state.specs.State.{OpenGrant, State, settled, creds_of}
-use Rattle.trio_state.specs.Step.{Event, Grant, Allot, Back, Release, Settle, SetMode, CtlAnswer, Step, Does, ReleaseEnd, Parted, IsAccepted, IsRefused, granted_to, moded_to, mode_fault}
+use Rattle.trio_state.specs.State.{OpenGrant, State, creds_of}
+use Rattle.trio_state.specs.Step.{Event, Back, Release, CtlAnswer, Step, Does, ReleaseEnd, granted_to, moded_to}
 use Rattle.trio_desk.specs.Agrees.{Agrees, AllStand}
 use Rattle.trio_desk.specs.Out.{Parcel}
 use Rattle.trio_desk.specs.Call.{DeskSeen}
@@ -57,33 +56,20 @@ here : (s : State) → SameSizes s s
 here s = record { range = refl; inodes = refl }
 
 ends_sizes : (s s' : State) (lib : ℕ) (b : Bundle) (image : Image) → image.core.range ≡ s.home.core.range → image.core.inodes ≡ s.home.core.inodes → Ends s lib b image s' → SameSizes s s'
-ends_sizes s s' lib b image range inodes e = record {
-  range = ap (λ (i : Image). i.core.range) e.settles ∙ range;
-  inodes = ap (λ (i : Image). i.core.inodes) e.settles ∙ inodes;
-}
+ends_sizes s s' lib b image range inodes e = search arith
 
 grant_sizes : (s : State) (lib ino : ℕ) (kind : GrantKind) (f : Option GrantFault) (o : Option Row) → SameSizes s (granted_to s lib ino kind f o).after
-grant_sizes s lib ino kind (Some f) o = after_no_grant (SameSizes s) s f (here s) (record { range = refl; inodes = refl })
-grant_sizes s lib ino kind None None = here s
-grant_sizes s lib ino kind None (Some r) = record { range = refl; inodes = refl }
+grant_sizes s lib ino kind f o = search (arith, after_no_grant, SameSizes, here)
 
 mode_sizes : (s : State) (ino mode : ℕ) (f : Option ModeFault) → SameSizes s (moded_to s ino mode f).after
 mode_sizes s ino mode (Some f) = after_no_mode (SameSizes s) s f (here s) (record { range = refl; inodes = refl })
 mode_sizes s ino mode None = record { range = refl; inodes = refl }
 
 release_sizes : (s : State) (lib : ℕ) (b : Bundle) (answer : CtlAnswer) (s' : State) → ReleaseEnd s lib b answer s' → SameSizes s s'
-release_sizes s lib b answer s' (Parted n p a same) = subst (SameSizes s) (sym same) (here s)
-release_sizes s lib b answer s' (IsAccepted p y a ends) = ends_sizes s s' lib b (next (settled s) b) refl refl ends
-release_sizes s lib b answer s' (IsRefused p n why a t ends) = ends_sizes s s' lib b (refused_image (settled s) b) refl refl ends
+release_sizes s lib b answer s' h = search (arith, SameSizes, here, ends_sizes)
 
 does_sizes : (s : State) (event : Event) (answer : CtlAnswer) (s' : State) → Does s event answer s' → SameSizes s s'
-does_sizes s (Grant lib ino kind) answer s' d = subst (SameSizes s) (sym d.1) (grant_sizes s lib ino kind (grant_fault s lib ino kind) (row_at s.home ino))
-does_sizes s (Allot lib count many) answer s' d =
-    subst (SameSizes s) (sym d.1) (after_allot (SameSizes s) s lib count many (record { range = refl; inodes = refl }) (record { range = refl; inodes = refl }))
-does_sizes s (Back lib ino) answer s' d = subst (SameSizes s) (sym d.1) (record { range = refl; inodes = refl })
-does_sizes s (Release lib b) answer s' d = release_sizes s lib b answer s' d
-does_sizes s (Settle lib b) answer s' d = ends_sizes s s' lib b (next (settled s) b) refl refl d.3
-does_sizes s (SetMode lib ino mode) answer s' d = subst (SameSizes s) (sym d.1) (mode_sizes s ino mode (mode_fault s lib ino mode (row_at s.home ino)))
+does_sizes s event answer s' d = search (arith, SameSizes, grant_sizes, after_allot, release_sizes, ends_sizes, mode_sizes)
 
 pub step_sizes : (s : State) (event : Event) (answer : CtlAnswer) (s' : State) → Step s event answer s' → SameSizes s s'
 step_sizes s event answer s' (inl does) = does_sizes s event answer s' does

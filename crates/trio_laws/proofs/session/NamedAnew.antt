@@ -1,6 +1,6 @@
 -- A bundle in whose directories the file of one number is listed anew, elsewhere or not at all: which files it judges then, that rules I1,
 -- I2 and I4 hold of it, and which nodes it shows.
-use Rattle.std.proofs.Common.{◌≡◌, ℕ, suc, zero, Bool, true, false, cond, ◌&&◌, eqb, is_ok, List, [], ◌∷◌, ◌++◌, Option, Some, None, Ok, sym, refl, ap, ◌∙◌, subst, inl, inr, ◌⊎◌}
+use Rattle.std.proofs.Common.{◌≡◌, ℕ, suc, zero, Bool, true, false, cond, ◌&&◌, eqb, is_ok, List, [], ◌∷◌, ◌++◌, Option, Some, None, Ok, sym, refl, ap, ◌∙◌, subst, inl, inr, ◌⊎◌, arith}
 use Rattle.std.specs.Prelude.{map, take, is_some}
 use Rattle.std.specs.List.{list_all}
 use Rattle.std.specs.Option.{option_map}
@@ -30,7 +30,7 @@ use Rattle.trio_nodes.specs.Tree.{IsDirectory, IsTree}
 use Rattle.trio_nodes.specs.Walk.{Path}
 use Rattle.trio_onetree.proofs.Children.{Up}
 use Rattle.trio_desk.specs.Contents.{Sizes}
-use Rattle.trio_desk.specs.Shows.{Naming, Shows, bytes_now, bytes_read, made_by, naming_of, namings, namings_in, node_left, node_listed, node_now, pages_bytes, placed, with_bytes}
+use Rattle.trio_desk.specs.Shows.{Naming, Shows, bytes_now, bytes_read, made_by, naming_of, namings, namings_in, node_left, node_now, pages_bytes, with_bytes}
 use Rattle.trio_laws.specs.session.SlotEdits.{IsEmptyFile}
 use Rattle.trio_laws.proofs.judgement.JudgedFacts.{written_ino}
 use Rattle.trio_laws.proofs.session.Climbing.{way_of}
@@ -152,12 +152,6 @@ module _ (sizes : Sizes) (creds : Creds) (rows : List (Option Row)) (b : Bundle)
           | inr t ↦ inr (record { entry = w.0; is_now = w.1; new = w.2; is = w.3; bare = t })
         ]
 
-    one_then : (x z : Met) → New x ⊎ Old x → New z ⊎ Old z → x.ino ≡ z.ino → x ≡ z
-    one_then x z (inr o) (inr p) e = one_before v x z o.0 p.0 e
-    one_then x z (inl w) (inr p) e = absurd (p.1 w.2 (sym e ∙ new_number x w))
-    one_then x z (inr o) (inl w) e = absurd (o.1 w.2 (e ∙ new_number z w))
-    one_then x z (inl w) (inl v) e = w.3 ∙ ap met_at (some_one now w.0 v.0 w.1 v.1) ∙ sym v.3
-
     -- the entries of a file that is judged then
     entry_then : (x : Met) → New x ⊎ Old x → (e : Naming) → In e (namings_in x.ino (file_within (bundle_core c') x)) → (In e (namings c) × (e.listed.entry.ino ≡ n → ⊥)) ⊎ (now ≡ Some e)
     entry_then x j e i =
@@ -269,26 +263,11 @@ module _ (sizes : Sizes) (creds : Creds) (rows : List (Option Row)) (b : Bundle)
 
     -- what the entry makes of the node is there, in the directory
     node_here : (e : Naming) → now ≡ Some e → (x : Node) × (node_at after n ≡ Some x) × (x.parent ≡ e.directory)
-    node_here e t =
-        by (node_at nodes n) (g.here ∙ ap (λ q. option_map (with_bytes (bytes_now c n)) (node_left c n q (node_at nodes n))) t)
-      where
-        with_parent : (q : Option (List ℕ)) (x : Node) → (with_bytes q x).parent ≡ x.parent
-        with_parent None x = refl
-        with_parent (Some l) x = refl
-
-        by : (o : Option Node) → node_at after n ≡ option_map (with_bytes (bytes_now c n)) (node_listed e o) → (x : Node) × (node_at after n ≡ Some x) × (x.parent ≡ e.directory)
-        by None h = (with_bytes (bytes_now c n) (made_by e), h, with_parent (bytes_now c n) (made_by e))
-        by (Some y) h = (with_bytes (bytes_now c n) (placed e y), h, with_parent (bytes_now c n) (placed e y))
+    node_here e t = search arith
 
     -- nothing lies in a file that is gone
     not_in_gone : (k : ℕ) (x : Node) → node_at after k ≡ Some x → x.parent ≡ n → node_at after n ≡ None → (n ≡ 0 → ⊥) → ⊥
-    not_in_gone k x at e gone some =
-        elim (cases_eq k 1) [
-          | inl one ↦
-              let top : x ≡ g.tree.root.0 = some_one (node_at after 1) x g.tree.root.0 (ap (node_at after) (sym one) ∙ at) g.tree.root.1 in
-              some (sym e ∙ ap (λ (z : Node). z.parent) top ∙ g.tree.root.3)
-          | inr d ↦ subst IsDirectory (ap (node_at after) e ∙ gone) (g.tree.parents k x at d)
-        ]
+    not_in_gone k x at e gone some = search (arith, cases_eq, some_one)
 
     -- a directory that was judged, and in which there is a node then, is judged then
     pub record Image (y : Met) : Type 0 where
@@ -675,9 +654,7 @@ module _ (sizes : Sizes) (creds : Creds) (rows : List (Option Row)) (b : Bundle)
         subst (λ z. In p (pages_in z)) (sym f.1) (subst (λ z. In p (z.index ++ z.blocks)) r.chain (subst (λ z. In p (pages_in z)) (q.reads ∙ r.read) i))
 
     pages_none : (x : Met) (q : Begun x) → pages_within c' x ≡ []
-    pages_none x q =
-        ap pages_in (ap (file_within (bundle_core c')) q.is ∙ q.bare.read)
-        ∙ ap (λ l. l ++ q.bare.file.chain.blocks) q.bare.empty.0 ∙ q.bare.empty.1
+    pages_none x q = search arith
 
     page_source : (x : Met) (p : ℕ) → In x (judged_files c') → In p (pages_within c' x) → (q : Source x) × In p (pages_within c q.was)
     page_source x p i j =

@@ -1,5 +1,5 @@
 -- The entries of a bundle's directories, with their names and without.
-use Rattle.std.proofs.Common.{◌≡◌, ℕ, Bool, true, false, cond, eqb, List, [], ◌∷◌, ◌++◌, Some, None, Result, Ok, Err, sym, refl, ap, ◌∙◌, subst}
+use Rattle.std.proofs.Common.{◌≡◌, ℕ, Bool, true, false, cond, eqb, List, [], ◌∷◌, ◌++◌, Some, None, Result, Ok, sym, refl, ap, ◌∙◌, subst, arith}
 use Rattle.std.specs.Prelude.{map}
 use Rattle.std.specs.List.{find, flat_map}
 use Rattle.std.specs.Option.{option_map, option_map_or}
@@ -8,7 +8,6 @@ use Rattle.std.proofs.lemmas.Simd.{map-map}
 use Rattle.std.proofs.lemmas.Bool.{eqb-true, eq-eqb}
 use Rattle.trio_lists.specs.Lists.{In}
 use Rattle.trio_layout.specs.Core.{Location}
-use Rattle.trio_layout.specs.Entries.{Listed}
 use Rattle.trio_layout.specs.Survey.{Met, FileRead, plain, met_in, children_in}
 use Rattle.trio_lists.proofs.Members.{In-map, flat_map-In, map-In}
 use Rattle.trio_lists.proofs.Filters.{find-In, In-find}
@@ -25,8 +24,7 @@ met_of e = met_in plain e.directory e.listed
 
 entries_named : (directory : ℕ) (r : Result FileRead Location) → children_in plain directory r ≡ map met_of (namings_in directory r)
 unfolding met_of
-entries_named directory (Err place) = refl
-entries_named directory (Ok f) = sym (map-map met_of (λ (l : Listed). record { directory = directory; listed = l }) f.entries)
+entries_named directory r = search (arith, met_of, map-map)
 
 flat_named : (c : Case) (ms : List Met) → flat_map (entries_in c) ms ≡ map met_of (flat_map (λ (m : Met). namings_in m.ino (file_within (bundle_core c) m)) ms)
 flat_named c [] = refl
@@ -49,9 +47,7 @@ find_map p f (x ∷ xs) = by (p (f x)) (find_map p f xs)
 -- the listing's entry of a number
 pub listed_entry : (c : Case) (n : ℕ) → find (λ (e : ListedEntry). eqb e.ino n) (listing c).entries ≡ option_map (λ e. entry_listed c (met_of e)) (naming_of c n)
 unfolding met_of
-listed_entry c n =
-    ap (find (λ (e : ListedEntry). eqb e.ino n)) (ap (map (entry_listed c)) (judged_named c) ∙ map-map (entry_listed c) met_of (namings c))
-    ∙ find_map (λ (e : ListedEntry). eqb e.ino n) (λ e. entry_listed c (met_of e)) (namings c)
+listed_entry c n = search (arith, met_of, judged_named, map-map, find_map)
 
 pub parent_listed : (c : Case) (n : ℕ) (e : Naming) → naming_of c n ≡ Some e → proposed_parent (listing c) c.rows n ≡ e.directory
 unfolding met_of
@@ -74,10 +70,7 @@ pub record IsNaming (c : Case) (n : ℕ) (e : Naming) : Type 0 where
   pub met : In (met_of e) (judged_entries c)
 
 naming_in : (directory : ℕ) (r : Result FileRead Location) (e : Naming) → In e (namings_in directory r) → (f : FileRead) × (r ≡ Ok f) × In e.listed f.entries × (e.directory ≡ directory)
-naming_in directory (Err place) e i = absurd i
-naming_in directory (Ok f) e i =
-    let l = map-In (λ (l : Listed). record { directory = directory; listed = l }) e f.entries i in
-    (f, refl, subst (λ x. In x f.entries) (sym (ap (λ (x : Naming). x.listed) l.2)) l.1, ap (λ (x : Naming). x.directory) l.2)
+naming_in directory r e i = search (arith, map-In)
 
 pub naming_is : (c : Case) (n : ℕ) (e : Naming) → naming_of c n ≡ Some e → IsNaming c n e
 naming_is c n e h =

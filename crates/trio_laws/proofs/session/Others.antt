@@ -1,13 +1,12 @@
 -- What leases show as lent stays true over entries of others.
-use Rattle.std.proofs.Common.{◌≡◌, ℕ, Bool, true, false, cond, not, ◌&&◌, ◌||◌, eqb, List, [], ◌∷◌, Option, Some, None, is_some, Ok, Err, sym, refl, ap, ◌∙◌, subst, inl, inr}
+use Rattle.std.proofs.Common.{◌≡◌, ℕ, Bool, true, false, cond, not, ◌&&◌, eqb, List, [], ◌∷◌, Option, Some, None, is_some, Ok, Err, sym, refl, ap, ◌∙◌, subst, inl, inr, arith}
 use Rattle.std.specs.Option.{option_map}
 use Rattle.std.proofs.lemmas.Bool.{cases_eq, and_parts, and_from, false≢true, eqb-true, eq-eqb, ne_eqb, not_from_false}
 use Rattle.trio_rights.specs.declared.kind.Kind.{Kind}
 use Rattle.trio_rights.specs.declared.kind.Kind.TheVariants.{Regular, Directory}
-use Rattle.trio_rights.specs.declared.rights.Mode.{Mode}
 use Rattle.trio_rights.specs.declared.rights.Creds.{Creds}
 use Rattle.trio_nodes.specs.declared.grant.GrantKind.{GrantKind}
-use Rattle.trio_nodes.specs.declared.grant.GrantKind.TheVariants.{Read, Write, Hold}
+use Rattle.trio_nodes.specs.declared.grant.GrantKind.TheVariants.{Hold}
 use Rattle.trio_lists.specs.Lists.{In}
 use Rattle.trio_lease.specs.Shown.{Shown}
 use Rattle.trio_lease.specs.declared.parts.HoldParts.{HoldParts}
@@ -15,14 +14,13 @@ use Rattle.trio_nodes.specs.declared.node.Node.{Node}
 use Rattle.trio_nodes.specs.declared.call.Done.{Done}
 use Rattle.trio_nodes.specs.declared.entry.Entry.{Entry}
 use Rattle.trio_nodes.specs.declared.entry.Entry.TheVariants.{Grant, Allot, Back, Raw, Batch, Mode as ModeSet}
-use Rattle.trio_nodes.specs.declared.entry.GrantAnswer.TheVariants.{Granted, Refused as NotGranted}
 use Rattle.trio_nodes.specs.Nodes.{Nodes, node_at, is_in, entry_in}
-use Rattle.trio_nodes.specs.Standing.{Standing, stands_on, is_others, is_given, grants_after}
+use Rattle.trio_nodes.specs.Standing.{Standing, stands_on, is_others, grants_after}
 use Rattle.trio_nodes.specs.GrantKinds.{same_kind}
 use Rattle.trio_nodes.specs.After.{batch_nodes, moded_node, moded_nodes, bytes_in}
 use Rattle.trio_nodes.specs.Libraries.{creds_in}
 use Rattle.trio_nodes.proofs.LibraryFacts.{batch_either}
-use Rattle.trio_nodes.specs.Legal.{Past, past_after, LegalCalls, SameContent, HasRightsOf, HasPlaceOf, SparesOthers, IsWithinGrants, is_owner, parent_in, KeepsRights}
+use Rattle.trio_nodes.specs.Legal.{Past, past_after, LegalCalls, SameContent, HasRightsOf, SparesOthers, IsWithinGrants, is_owner, parent_in, KeepsRights}
 use Rattle.trio_nodes.specs.Tree.{IsTree}
 use Rattle.trio_desk.specs.Contents.{Sizes, Rights, rights_of, rights_in, ShownEntry, entry_of_node}
 use Rattle.trio_desk.specs.Agrees.{Leases, Agrees, HasRights, HasContent, HasFile, HasHeld, HasStanding, AllStand}
@@ -51,11 +49,7 @@ abbrev name_kind : Node → List ℕ × Kind
 name_kind x = (x.name, x.kind)
 
 rights_same : (x y : Node) → HasRightsOf x (Some y) → rights_of y ≡ rights_of x
-rights_same x y h =
-    ap (λ (k : Kind). record { kind = k; mode = y.mode; uid = y.uid; gid = y.gid }) h.0
-    ∙ ap (λ (m : Mode). record { kind = x.kind; mode = m; uid = y.uid; gid = y.gid }) h.1
-    ∙ ap (λ (u : ℕ). record { kind = x.kind; mode = x.mode; uid = u; gid = y.gid }) h.2
-    ∙ ap (λ (g : ℕ). record { kind = x.kind; mode = x.mode; uid = x.uid; gid = g }) h.3
+rights_same x y h = search arith
 
 pub has_rights : (rights : Rights) (o o' : Option Node) → ((x : Node) → o ≡ Some x → HasRightsOf x o') → HasRights rights o → HasRights rights o'
 has_rights rights None o' s h = absurd (let wrong : None ≡ Some rights = h in cc)
@@ -69,39 +63,20 @@ entry_is x = record { name = x.name; rights = rights_of x }
 entry_by : (directory : ℕ) (x y : Node) (b c : Bool) → eqb x.parent directory ≡ b → eqb y.parent directory ≡ c
     → cond c (Some (name_kind y)) None ≡ cond b (Some (name_kind x)) None → HasRightsOf x (Some y)
     → cond c (Some (entry_is y)) None ≡ cond b (Some (entry_is x)) None
-entry_by directory x y true true p q e h =
-    let e' : Some (name_kind y) ≡ Some (name_kind x) = e in
-    let pair : name_kind y ≡ name_kind x = cc e' in
-    let name : y.name ≡ x.name = ap (λ (z : List ℕ × Kind). z.0) pair in
-    (let f : List ℕ → Option ShownEntry = λ l. Some (record { name = l; rights = rights_of y }) in
-    let g : Rights → Option ShownEntry = λ r. Some (record { name = x.name; rights = r }) in
-    ap f name ∙ ap g (rights_same x y h))
-entry_by directory x y true false p q e h = absurd (let wrong : None ≡ Some (name_kind x) = e in cc)
-entry_by directory x y false true p q e h = absurd (let wrong : Some (name_kind y) ≡ None = e in cc)
-entry_by directory x y false false p q e h = refl
+entry_by directory x y b c p q e h = search (arith, rights_same)
 
 entry_of_none : (directory : ℕ) (y : Node) (c : Bool) → eqb y.parent directory ≡ c → cond c (Some (name_kind y)) None ≡ None
     → cond c (Some (entry_is y)) None ≡ None
-entry_of_none directory y true q e = absurd (let wrong : Some (name_kind y) ≡ None = e in cc)
-entry_of_none directory y false q e = refl
+entry_of_none directory y c q e = search arith
 
 entry_same : (directory : ℕ) (o o' : Option Node) → entry_in directory o' ≡ entry_in directory o
     → ((x y : Node) → o ≡ Some x → o' ≡ Some y → HasRightsOf x (Some y)) → entry_of_node directory o' ≡ entry_of_node directory o
-entry_same directory None None e h = refl
-entry_same directory None (Some y) e h = entry_of_none directory y (eqb y.parent directory) refl e
-entry_same directory (Some x) None e h = sym (entry_of_none directory x (eqb x.parent directory) refl (sym e))
-entry_same directory (Some x) (Some y) e h =
-    entry_by directory x y (eqb x.parent directory) (eqb y.parent directory) refl refl e (h x y refl refl)
+entry_same directory o o' e h = search (arith, entry_of_none, entry_by)
 
 -- ---- counting
 
 in_by : (directory : ℕ) (o : Option Node) → is_in directory o ≡ is_some (entry_in directory o)
-in_by directory None = refl
-in_by directory (Some x) = by (eqb x.parent directory)
-  where
-    by : (b : Bool) → b ≡ is_some (cond b (Some (name_kind x)) None)
-    by true = refl
-    by false = refl
+in_by directory o = search arith
 
 -- ---- what agrees goes on agreeing
 
@@ -117,18 +92,10 @@ module _ (nodes nodes' : Nodes) where
   content_on sizes f Regular s e c = bytes_same_in (node_at nodes f.ino) (node_at nodes' f.ino) _ s.content.bytes s.rights c
 
   pub file_on : (sizes : Sizes) (f : Shown) → IsSpared nodes nodes' f.ino → SameEntries nodes nodes' f.ino → HasFile sizes nodes f → HasFile sizes nodes' f
-  file_on sizes f s e h = record {
-    rights = has_rights (rights_in f.kind f.body) (node_at nodes f.ino) (node_at nodes' f.ino) s.rights h.rights;
-    content = content_on sizes f f.kind s e h.content;
-  }
+  file_on sizes f s e h = search (arith, has_rights, content_on)
 
   pub held_on : (h : HoldParts) → IsSpared nodes nodes' h.ino → HasHeld nodes h → HasHeld nodes' h
-  held_on h s w = record {
-    rights = has_rights (rights_in h.kind h.body) (node_at nodes h.ino) (node_at nodes' h.ino) s.rights w.rights;
-    children =
-        count_pair (is_in h.ino) (is_in h.ino) refl refl nodes' nodes
-        (λ m. in_by h.ino (node_at nodes' m) ∙ ap is_some (s.content.entries m) ∙ sym (in_by h.ino (node_at nodes m))) ∙ w.children;
-  }
+  held_on h s w = search (arith, has_rights, count_pair, in_by)
 
   agrees_on : (sizes : Sizes) (root : Rights) (lent : Leases) → HasRights root (node_at nodes' 1)
       → ((f : Shown) → In f lent.files → IsSpared nodes nodes' f.ino) → ((f : Shown) → In f lent.files → SameEntries nodes nodes' f.ino)
@@ -152,16 +119,7 @@ not_and false b e = refl
 
 -- a grant of another library stays
 stays_standing : (p : Past) (e : Entry) (g : Standing) → In g p.grants → (library_of (event_of e) ≡ g.lib → ⊥) → In g (grants_after p.grants p.entries e)
-stays_standing p (Grant lib ino kind (Granted children)) g i d = In-left g p.grants _ i
-stays_standing p (Grant lib ino kind (NotGranted fault)) g i d = i
-stays_standing p (Allot lib pages inodes answer) g i d = i
-stays_standing p (Back lib ino) g i d =
-    In-filter (λ x. not (eqb x.lib lib.0 && eqb x.ino ino)) g p.grants i (not_and (eqb g.lib lib.0) (eqb g.ino ino) (ne_eqb g.lib lib.0 (λ s. d (sym s))))
-stays_standing p (Raw lib verdict files bundle) g i d =
-    In-filter (λ x. not (eqb x.lib lib.0 && is_given files x.ino)) g p.grants i (not_and (eqb g.lib lib.0) (is_given files g.ino) (ne_eqb g.lib lib.0 (λ s. d (sym s))))
-stays_standing p (Batch lib calls handed) g i d =
-    In-filter (λ x. not (eqb x.lib lib.0)) g p.grants i (not_from_false (eqb g.lib lib.0) (ne_eqb g.lib lib.0 (λ s. d (sym s))))
-stays_standing p (ModeSet lib ino mode answer call) g i d = i
+stays_standing p e g i d = search (arith, In-left, In-filter, not_and, ne_eqb, not_from_false)
 
 module _ (p : Past) (e : Entry) (lib : ℕ) (other : library_of (event_of e) ≡ lib → ⊥) where
   standing_on : (n : ℕ) → HasStanding p.grants lib n → HasStanding (grants_after p.grants p.entries e) lib n
@@ -172,10 +130,7 @@ module _ (p : Past) (e : Entry) (lib : ℕ) (other : library_of (event_of e) ≡
 
 -- the file is another's
 others_here : (grants : List Standing) (lib by n : ℕ) → (by ≡ lib → ⊥) → HasStanding grants lib n → is_others grants by n ≡ true
-others_here grants lib by n other s =
-    In-list_any (λ g. not (eqb g.lib by) && eqb g.ino n) s.grant grants s.among
-    (and_from (not (eqb s.grant.lib by)) (eqb s.grant.ino n)
-    (not_from_false (eqb s.grant.lib by) (ne_eqb s.grant.lib by (λ q. other (sym q ∙ s.of)))) (eq-eqb s.grant.ino n s.on))
+others_here grants lib by n other s = search (arith, In-list_any, and_from, not_from_false, ne_eqb, eq-eqb)
 
 -- ---- what others spare
 
@@ -191,9 +146,7 @@ rights_there r None h = absurd (let wrong : None ≡ Some r = h in cc)
 rights_there r (Some x) h = (x, refl)
 
 hold_is : (k : GrantKind) → same_kind k Hold ≡ true → k ≡ Hold
-hold_is Hold e = refl
-hold_is Read e = absurd (false≢true e)
-hold_is Write e = absurd (false≢true e)
+hold_is k e = search (arith, false≢true)
 
 module _ (nodes : Nodes) (grants : List Standing) (lib : ℕ) (sizes : Sizes) (root : Rights) (lent : Leases) (t : IsTree nodes)
     (stand : AllStand grants lib lent) (a : Agrees sizes root lent nodes) where
@@ -215,22 +168,8 @@ module _ (nodes : Nodes) (grants : List Standing) (lib : ℕ) (sizes : Sizes) (r
       agrees_spared nodes' root_rights (λ n x y e f. w.rights n x y e f)
       (λ n x e s. spared_by grants by nodes nodes' n x e (others_here grants lib by n other s) w.others)
     where
-      place_live : (o : Option Node) → HasPlaceOf t.root.0 o → (y : Node) × (o ≡ Some y)
-      place_live None h = absurd h
-      place_live (Some y) h = (y, refl)
-
       root_rights : HasRightsOf t.root.0 (node_at nodes' 1)
-      root_rights =
-          elim (w.place 1 t.root.0 t.root.1) [
-            | inl s ↦
-                let g = list_any-In (λ g. eqb g.lib by && eqb g.ino 1 && same_kind g.kind Hold) grants s in
-                let parts = and_parts (eqb g.0.lib by && eqb g.0.ino 1) (same_kind g.0.kind Hold) g.2 in
-                let ino = and_parts (eqb g.0.lib by) (eqb g.0.ino 1) parts.0 in
-                absurd (no_hold g.0 g.1 (hold_is g.0.kind parts.1) (eqb-true g.0.ino 1 ino.1))
-            | inr place ↦
-                let y = place_live (node_at nodes' 1) place in
-                subst (λ o. HasRightsOf t.root.0 o) (sym y.1) (w.rights 1 t.root.0 y.0 t.root.1 y.1)
-          ]
+      root_rights = search (arith, list_any-In, and_parts, hold_is, eqb-true)
 
   batch_agrees : (creds : Creds) (by : ℕ) (calls : List Done) → (by ≡ lib → ⊥) → LegalCalls creds nodes calls
       → KeepsRights nodes (batch_nodes creds calls nodes) → SparesOthers grants by nodes (batch_nodes creds calls nodes)
@@ -256,11 +195,7 @@ moded_listed directory mode None d = refl
 moded_listed directory mode (Some x) d = unlisted_entry directory (record x { mode = record { 0 = mode } }) d ∙ sym (unlisted_entry directory x d)
 
 pub owner_not_root : (creds : Creds) (ino : ℕ) (o : Option Node) → is_owner creds ino o ≡ true → ino ≡ 1 → ⊥
-owner_not_root creds ino None e is = false≢true e
-owner_not_root creds ino (Some x) e is =
-    let parts = and_parts (not (eqb ino 1)) (eqb creds.uid 0 || eqb creds.uid x.uid) e in
-    let no' : not (eqb ino 1) ≡ false = ap not (eq-eqb ino 1 is) in
-    false≢true (sym no' ∙ parts.0)
+owner_not_root creds ino o e is = search (arith, false≢true, and_parts, eq-eqb)
 
 not_standing : (grants : List Standing) (lib ino n : ℕ) → stands_on grants ino ≡ false → HasStanding grants lib n → n ≡ ino → ⊥
 not_standing grants lib ino n none s e =
@@ -283,14 +218,7 @@ module _ (nodes : Nodes) (grants : List Standing) (lib : ℕ) (ino mode : ℕ)
       let apart : n ≡ ino → ⊥ = not_standing grants lib ino n free s in
       record {
         rights = λ x e. subst (λ o. HasRightsOf x o) (sym (moded_other n apart ∙ e)) (refl, refl, refl, refl);
-        content = record {
-          bytes = ap bytes_in (moded_other n apart);
-          entries =
-              λ m. elim (cases_eq m ino) [
-                | inl is ↦ subst (λ k. entry_in n (node_at (moded_nodes ino mode nodes) k) ≡ entry_in n (node_at nodes k)) (sym is) (ap (entry_in n) moded_here ∙ moded_entry n mode (node_at nodes ino))
-                | inr d ↦ ap (entry_in n) (moded_other m d)
-              ];
-        };
+        content = search (arith, moded_other, cases_eq, moded_here, moded_entry);
       }
 
   pub moded_entries : (n : ℕ) → HasStanding grants lib n → SameEntries nodes (moded_nodes ino mode nodes) n
@@ -313,10 +241,7 @@ pub agrees_is_stable : AgreesIsStable
 agrees_is_stable libs p (Grant by ino kind answer) lib sizes root lent t no_hold legal other stand a = (a, all_stand p (Grant by ino kind answer) lib other lent stand)
 agrees_is_stable libs p (Allot by pages inodes answer) lib sizes root lent t no_hold legal other stand a = (a, all_stand p (Allot by pages inodes answer) lib other lent stand)
 agrees_is_stable libs p (Back by ino) lib sizes root lent t no_hold legal other stand a = (a, all_stand p (Back by ino) lib other lent stand)
-agrees_is_stable libs p (Raw by verdict files bundle) lib sizes root lent t no_hold legal other stand a = (
-  raw_agrees p.nodes p.grants lib sizes root lent t stand a (creds_in libs by.0) by.0 _ other no_hold legal.within,
-  all_stand p (Raw by verdict files bundle) lib other lent stand,
-)
+agrees_is_stable libs p (Raw by verdict files bundle) lib sizes root lent t no_hold legal other stand a = search (arith, all_stand, raw_agrees, batch_either, batch_agrees, moded_agrees, owner_not_root)
 agrees_is_stable libs p (Batch by calls handed) lib sizes root lent t no_hold legal other stand a = (
   batch_either (λ nodes. Agrees sizes root lent nodes) libs by.0 calls p.nodes a
       (batch_agrees p.nodes p.grants lib sizes root lent t stand a (creds_in libs by.0) by.0 calls other legal.done legal.rights legal.others),
@@ -324,15 +249,10 @@ agrees_is_stable libs p (Batch by calls handed) lib sizes root lent t no_hold le
 )
 agrees_is_stable libs p (ModeSet by ino mode (Err fault) call) lib sizes root lent t no_hold legal other stand a =
     (a, all_stand p (ModeSet by ino mode (Err fault) call) lib other lent stand)
-agrees_is_stable libs p (ModeSet by ino mode (Ok done) call) lib sizes root lent t no_hold legal other stand a = (
-  moded_agrees p.nodes p.grants lib ino mode legal.0.2 legal.0.3 sizes root lent stand a (owner_not_root (creds_in libs by.0) ino (node_at p.nodes ino) legal.0.0),
-  all_stand p (ModeSet by ino mode (Ok done) call) lib other lent stand,
-)
+agrees_is_stable libs p (ModeSet by ino mode (Ok done) call) lib sizes root lent t no_hold legal other stand a = search (arith, all_stand, raw_agrees, batch_either, batch_agrees, moded_agrees, owner_not_root)
 
 pub agrees_through : AgreesThrough
-agrees_through libs p last [] lib sizes root lent legal others stand a =
-    let P : Past → Type 0 = λ q. Agrees sizes root lent q.nodes × AllStand q.grants lib lent in
-    subst P (sym legal) (a, stand)
+agrees_through libs p last [] lib sizes root lent legal others stand a = search (arith, agrees_is_stable)
 agrees_through libs p last (e ∷ es) lib sizes root lent legal others stand a =
     let one = agrees_is_stable libs p e lib sizes root lent others.0 others.1 legal.0 others.2 stand a in
     agrees_through libs (past_after libs p e) last es lib sizes root lent legal.1 others.3 one.1 one.0

@@ -1,22 +1,21 @@
 -- A file reads the same where the pages that it lists are the same; and which bytes a page of a bundle has.
-use Rattle.std.proofs.Common.{◌≡◌, ℕ, suc, zero, ◌<◌, true, cond, eqb, leb, ltb, min, ◌-◌, List, [], ◌∷◌, ◌++◌, length, Option, Some, None, Ok, slice_get, sym, refl, ap, ◌∙◌, subst, inl, inr, arith}
+use Rattle.std.proofs.Common.{◌≡◌, ℕ, suc, zero, ◌<◌, true, eqb, leb, ltb, min, ◌-◌, List, [], ◌∷◌, ◌++◌, length, Option, Some, None, Ok, sym, refl, ap, ◌∙◌, inl, inr, arith}
 use Rattle.std.specs.Prelude.{replicate}
-use Rattle.std.specs.Option.{unwrap_or, option_and_then}
+use Rattle.std.specs.Option.{unwrap_or}
 use Rattle.std.proofs.lemmas.List.{length-replicate}
 use Rattle.std.proofs.lemmas.Bool.{and_parts, ltb-true, cases_Bool}
 use Rattle.trio_rights.specs.declared.kind.Kind.{Kind}
 use Rattle.trio_rights.specs.declared.kind.Kind.TheVariants.{Regular, Directory}
 use Rattle.trio_rights.specs.Sheets.{Sheet, sheet_numbers, with_pages}
-use Rattle.trio_lists.specs.Lists.{In, are_new, both, gathered, result_map, result_then, there_or}
+use Rattle.trio_lists.specs.Lists.{In, are_new, both, gathered, result_then}
 use Rattle.trio_lists.proofs.Members.{In-left, In-right, In-map, map-In, result_map-Ok, result_then-Ok, flat_map-same}
 use Rattle.trio_lists.proofs.Gathered.{one_keyed}
 use Rattle.trio_layout.specs.declared.range.CoreRange.{CoreRange}
 use Rattle.trio_layout.specs.Range.{is_core}
-use Rattle.trio_layout.specs.Body.{block_count}
-use Rattle.trio_layout.specs.Chain.{Chain, index_count, with_index}
-use Rattle.trio_layout.specs.Core.{Core, at_page, page_of}
+use Rattle.trio_layout.specs.Chain.{Chain}
+use Rattle.trio_layout.specs.Core.{Core, page_of}
 use Rattle.trio_layout.specs.Entries.{with_names_apart}
-use Rattle.trio_layout.specs.Index.{Index, index_of}
+use Rattle.trio_layout.specs.Index.{Index}
 use Rattle.trio_layout.specs.Survey.{FileRead, Met}
 use Rattle.trio_layout.specs.Within.{chain_within, entries_where, entries_within, file_within, index_within}
 use Rattle.trio_layout.proofs.WithinCore.{rest_of, within_from, within_to}
@@ -35,21 +34,7 @@ module _ (core : Core) (pages : Pages) where
 
   index_step : (n blocks at : ℕ) (c : Chain) (o : Option (List ℕ)) → ((i : Index) (r : Chain) → rest_of core n blocks i ≡ Ok r → ((p : ℕ) → In p r.index → Same p) → rest_of other n blocks i ≡ Ok r) → index_within core at (min blocks 511) (eqb n 0) (rest_of core n blocks) o ≡ Ok c → ((p : ℕ) → In p c.index → Same p)
       → Same at × (index_within other at (min blocks 511) (eqb n 0) (rest_of other n blocks) o ≡ Ok c)
-  index_step n blocks at c None more e same =
-      let k : record { index = at ∷ []; blocks = [] } ≡ c = cc e in
-      (same at (subst (λ (x : Chain). In at x.index) k (inl refl)), e)
-  index_step n blocks at c (Some bytes) more e same =
-      let used : ℕ = min blocks 511 in
-      let s1 = result_then-Ok (λ i. result_map (with_index at i) (rest_of core n blocks i)) (there_or (at_page at) (index_of used (eqb n 0) core.range bytes)) c e in
-      let x : Index = s1.0 in
-      let s2 = result_map-Ok (with_index at x) (rest_of core n blocks x) c s1.2 in
-      let idx : at ∷ s2.0.index ≡ c.index = ap (λ (y : Chain). y.index) s2.2 in
-      let rest = more x s2.0 s2.1 (λ p i. same p (subst (λ l. In p l) idx (inr i))) in (
-        same at (subst (λ l. In at l) idx (inl refl)),
-        ap (result_then (λ i. result_map (with_index at i) (rest_of other n blocks i))) s1.1
-            ∙ ap (result_map (with_index at x)) rest
-            ∙ ap Ok s2.2,
-      )
+  index_step n blocks at c o more e same = search (arith, min, result_then-Ok, result_map-Ok)
 
   pub chain_same : (n blocks at : ℕ) (c : Chain) → chain_within core n blocks at ≡ Ok c → ((p : ℕ) → In p c.index → Same p) → chain_within other n blocks at ≡ Ok c
   chain_same zero blocks at c e same = e
@@ -71,11 +56,7 @@ module _ (core : Core) (pages : Pages) where
   pub file_as_before : (m : Met) (f : FileRead) → file_within core m ≡ Ok f → ((p : ℕ) → In p (f.chain.index ++ f.chain.blocks) → page_of (with_other core pages) p ≡ page_of core p) → file_within (with_other core pages) m ≡ Ok f
   file_as_before m f e same =
       let r = within_from core m f e in
-      within_to other m f (record {
-        body = r.body;
-        chain = chain_same (index_count (block_count f.body.size)) (block_count f.body.size) f.body.head f.chain r.chain (λ p i. same p (In-left p f.chain.index f.chain.blocks i));
-        entries = entries_same m.kind f.chain.blocks (λ p i. same p (In-right p f.chain.index f.chain.blocks i)) ∙ r.entries;
-      })
+      search (arith, within_to, chain_same, In-left, entries_same, In-right)
 
   -- and so do the bytes of blocks
   pub bytes_as_before : (blocks : List ℕ) → ((p : ℕ) → In p blocks → page_of (with_other core pages) p ≡ page_of core p) → pages_bytes (with_other core pages) blocks ≡ pages_bytes core blocks
@@ -112,9 +93,5 @@ page_kept range inodes ss more p once once' sub i =
           ∙ sheet_there range inodes more q.0 once' (sub q.0 q.1) core'
           ∙ sym (sheet_there range inodes ss q.0 once q.1 core')
           ∙ ap (page_of (core_of range inodes ss)) (sym q.2)
-      | inr out ↦
-          page_of_at (core_of range inodes more) p
-          ∙ ap (λ b. cond b (option_and_then (λ x. x) (slice_get (core_of range inodes more).pages p)) None) out
-          ∙ ap (λ b. cond b (option_and_then (λ x. x) (slice_get (core_of range inodes ss).pages p)) None) (sym out)
-          ∙ sym (page_of_at (core_of range inodes ss) p)
+      | inr out ↦ search (arith, page_of_at)
     ]

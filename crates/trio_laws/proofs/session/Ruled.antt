@@ -1,10 +1,9 @@
 -- A bundle that differs from one that shows nodes in one file, in what it holds or in what it was allotted: rules I1, I2 and I4 hold
 -- of it, and its namings and bytes are those of the other but for that file.
-use Rattle.std.proofs.Common.{◌≡◌, ℕ, Bool, true, cond, not, ◌&&◌, ◌||◌, eqb, is_ok, List, [], ◌++◌, Option, Some, None, Result, Ok, Err, sym, refl, ap, ◌∙◌, subst, inl, inr, ◌⊎◌}
+use Rattle.std.proofs.Common.{◌≡◌, ℕ, true, ◌||◌, eqb, is_ok, List, [], ◌++◌, Option, Some, None, Result, Ok, sym, refl, ap, ◌∙◌, subst, inl, inr, ◌⊎◌, arith}
 use Rattle.std.specs.Prelude.{map, take, is_some}
 use Rattle.std.specs.List.{find, flat_map, list_all}
 use Rattle.std.specs.Option.{option_and_then}
-use Rattle.std.specs.Str.{bytes_eq}
 use Rattle.std.proofs.lemmas.Bool.{and_parts, and_from, or_left, eqb-true, eq-eqb}
 use Rattle.std.proofs.lemmas.Simd.{map-map}
 use Rattle.trio_rights.specs.Row.{Row, row_in}
@@ -24,7 +23,7 @@ use Rattle.trio_layout.specs.Case.{Case, Held, bundle_core}
 use Rattle.trio_layout.specs.Within.{file_within}
 use Rattle.trio_layout.specs.JudgedFiles.{entries_in, judged_entries, judged_files, judged_pages, pages_within}
 use Rattle.trio_layout.specs.Listing.{is_kept}
-use Rattle.trio_layout.specs.Rules.{entry_in_grammar, entry_is_own, entry_keeps_rights, file_keeps_rights, has_rights, lent_body, meets_grammar, meets_owning, meets_rights}
+use Rattle.trio_layout.specs.Rules.{entry_in_grammar, entry_is_own, entry_keeps_rights, file_keeps_rights, meets_grammar, meets_owning, meets_rights}
 use Rattle.trio_layout.proofs.Walks.{numbers-flat}
 use Rattle.trio_surveys.proofs.Images.{same_met}
 use Rattle.trio_nodes.specs.declared.node.Node.{Node}
@@ -47,9 +46,7 @@ abbrev pub met_entries : Met → FileRead → List Met
 met_entries m f = map (met_in plain m.ino) f.entries
 
 pub naming_from : (directory : ℕ) (r : Result FileRead Location) (e : Naming) → In e (namings_in directory r) → (f : FileRead) × (r ≡ Ok f) × (l : Listed) × In l f.entries × (e ≡ record { directory = directory; listed = l })
-naming_from directory (Err place) e i = absurd i
-naming_from directory (Ok f) e i =
-    let q = map-In (λ (l : Listed). record { directory = directory; listed = l }) e f.entries i in (f, refl, q.0, q.1, q.2)
+naming_from directory r e i = search (arith, map-In)
 
 -- what rule I2 says of a case
 pub record IsOwned (c : Case) : Type 0 where
@@ -59,11 +56,7 @@ pub record IsOwned (c : Case) : Type 0 where
   pub entries_once : are_new [] (numbers (judged_entries c)) ≡ true
 
 pub owning_parts : (c : Case) → meets_owning c ≡ true → IsOwned c
-owning_parts c owning =
-    let p = and_parts _ (are_new [] (numbers (judged_entries c))) owning in
-    let q = and_parts _ (list_all (entry_is_own c) (judged_entries c)) p.0 in
-    let r = and_parts (list_all (λ page. is_among page (bundle_pages c.bundle)) (judged_pages c)) (are_new [] (judged_pages c)) q.0 in
-    record { pages = r.0; pages_once = r.1; entries = q.1; entries_once = p.1 }
+owning_parts c owning = search (arith, and_parts)
 
 -- where no number is listed twice an entry names its number
 pub naming_once : (c : Case) → are_new [] (numbers (judged_entries c)) ≡ true → (e : Naming) → In e (namings c) → naming_of c e.listed.entry.ino ≡ Some e
@@ -117,9 +110,7 @@ module _ (sizes : Sizes) (creds : Creds) (rows : List (Option Row)) (b b' : Bund
     -- ---- what is known of the files of before
 
     old_read : (m : Met) → Old m → (f : FileRead) × (file_within (bundle_core c) m ≡ Ok f)
-    old_read m o =
-        is_ok-Ok (file_within (bundle_core c) m)
-        (list_all-In (λ m. is_ok (file_within (bundle_core c) m)) m (judged_files c) (and_parts _ (list_all (entry_in_grammar c) (judged_entries c)) s.grammar).0 (g.old_in m o))
+    old_read m o = search (arith, is_ok-Ok, list_all-In, is_ok, and_parts)
 
     old_again : (m : Met) (o : Old m) → file_within (bundle_core c') m ≡ Ok (old_read m o).0
     old_again m o =
@@ -247,10 +238,7 @@ module _ (sizes : Sizes) (creds : Creds) (rows : List (Option Row)) (b b' : Bund
             (one_of (λ m. numbers (entries_in c m)) (judged_files c) m x p each_once (g.old_in m o) (g.old_in x k) (subst (λ l. In p (numbers l)) (old_entries m o) a) (subst (λ l. In p (numbers l)) (old_entries x k) d))
 
     pub owning_met : meets_owning c' ≡ true
-    owning_met =
-        and_from _ (are_new [] (numbers (judged_entries c')))
-        (and_from _ (list_all (entry_is_own c') (judged_entries c')) (and_from (list_all (λ page. is_among page (bundle_pages b')) (judged_pages c')) (are_new [] (judged_pages c')) pages_own pages_new) entries_own)
-        entries_new
+    owning_met = search (arith, and_from, pages_own, pages_new, entries_own, entries_new)
 
     -- ---- I4
 
@@ -260,22 +248,15 @@ module _ (sizes : Sizes) (creds : Creds) (rows : List (Option Row)) (b b' : Bund
         let r = old_read m o in
         let before : file_keeps_rights c m (file_within (bundle_core c) m) ≡ true =
         list_all-In (λ m. file_keeps_rights c m (file_within (bundle_core c) m)) m (judged_files c) (and_parts (list_all (entry_keeps_rights c) (judged_entries c)) _ s.rights).1 (g.old_in m o) in
-        ap (file_keeps_rights c' m) (old_again m o)
-        ∙ ap (λ t. cond t (has_rights (row_in rows m.ino) r.0.body) (eqb r.0.body.uid creds.uid && eqb r.0.body.gid creds.gid)) (g.written m o)
-        ∙ sym (ap (file_keeps_rights c m) r.1)
-        ∙ before
+        search (arith, old_again)
 
     pub rights_met : meets_rights c' ≡ true
     rights_met =
         and_from (list_all (entry_keeps_rights c') (judged_entries c')) (list_all (λ m. file_keeps_rights c' m (file_within (bundle_core c') m)) (judged_files c'))
         (list_all-each (entry_keeps_rights c') (judged_entries c')
         (λ e i. elim (entry_from e i) [
-          | inl q ↦
-              let other : Bool = not (is_among e.ino b'.holds) || (has_kind e.kind (row_in rows e.ino) && bytes_eq e.body (lent_body c' e.ino)) in
-              ap (λ t. cond t (has_kind e.kind (row_in rows e.ino)) other) ((g.new q.0 q.1).kept e q.2) ∙ (g.new q.0 q.1).kind e q.2
-          | inr before ↦
-              g.keeps e before (own_before e before)
-              (list_all-In (entry_keeps_rights c) e (judged_entries c) (and_parts (list_all (entry_keeps_rights c) (judged_entries c)) _ s.rights).0 before)
+          | inl q ↦ search arith
+          | inr before ↦ search (arith, own_before, list_all-In, and_parts)
         ]))
         (list_all-each (λ m. file_keeps_rights c' m (file_within (bundle_core c') m)) (judged_files c') (λ m i. file_keeps m (g.from m i)))
 
@@ -355,9 +336,6 @@ module _ (sizes : Sizes) (creds : Creds) (rows : List (Option Row)) (b b' : Bund
     pub bytes_same : (n : ℕ) → ((m : Met) → New m → m.ino ≡ n → ⊥) → bytes_now c' n ≡ bytes_now c n
     bytes_same n out = by (find (λ (m : Met). eqb m.ino n) (judged_files c)) refl
       where
-        read : Case → Met → Option (List ℕ)
-        read x m = bytes_read (bundle_core x) m.kind (file_within (bundle_core x) m)
-
         still : (o : Option Met) → find (λ (m : Met). eqb m.ino n) (judged_files c') ≡ o → find (λ (m : Met). eqb m.ino n) (judged_files c) ≡ None → find (λ (m : Met). eqb m.ino n) (judged_files c') ≡ None
         still None h none = h
         still (Some m) h none =
@@ -394,4 +372,4 @@ module _ (sizes : Sizes) (creds : Creds) (rows : List (Option Row)) (b b' : Bund
         (after : Nodes) → ((n : ℕ) → node_at after n ≡ node_now c' n (node_at nodes n))
         → ((n : ℕ) (x : Node) → node_at after n ≡ Some x → is_among x.parent (numbers (judged_files c')) ≡ true → is_some (naming_of c' n) ≡ true)
         → Shows (case_with sizes creds rows b' lent') nodes after
-    shows_by after each whole = record { grammar = grammar_met; owning = owning_met; rights = rights_met; each = each; whole = whole }
+    shows_by after each whole = search (arith, grammar_met, owning_met, rights_met)

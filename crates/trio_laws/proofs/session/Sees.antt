@@ -1,5 +1,5 @@
 -- What a session sees of the nodes that it shows.
-use Rattle.std.proofs.Common.{◌≡◌, ℕ, Bool, true, false, cond, ◌&&◌, eqb, List, [], ◌++◌, Option, Some, None, Ok, sym, refl, ap, ◌∙◌, subst}
+use Rattle.std.proofs.Common.{◌≡◌, ℕ, true, false, cond, ◌&&◌, eqb, List, [], ◌++◌, Option, Some, None, Ok, sym, refl, ap, ◌∙◌, subst, arith}
 use Rattle.std.specs.Prelude.{map, is_some}
 use Rattle.std.specs.List.{find, flat_map, list_all}
 use Rattle.std.specs.Option.{option_and_then, option_map}
@@ -13,8 +13,7 @@ use Rattle.trio_laws.proofs.session.Counts.{count_numbers}
 use Rattle.std.proofs.lemmas.Slice.Eq.{bytes_eq-Decides}
 use Rattle.trio_rights.specs.Row.{Row, row_in}
 use Rattle.trio_rights.specs.declared.kind.Kind.{Kind}
-use Rattle.trio_rights.specs.declared.kind.Kind.TheVariants.{Regular, Directory}
-use Rattle.trio_rights.specs.declared.rights.Mode.{Mode}
+use Rattle.trio_rights.specs.declared.kind.Kind.TheVariants.{Regular}
 use Rattle.trio_rights.specs.Bundle.{Bundle, Written, bundle_sheets, is_written}
 use Rattle.trio_rights.specs.Sheets.{Sheet}
 use Rattle.trio_laws.proofs.judgement.JudgedFacts.{written_body_at, written_ino, written_ino_at, written_kind_at}
@@ -40,12 +39,12 @@ use Rattle.trio_nodes.specs.Tree.{IsTree}
 use Rattle.trio_nodes.specs.Legal.{HasRightsOf}
 use Rattle.trio_onetree.proofs.Children.{Child, Child-find_named, find_named-Child}
 use Rattle.trio_surveys.proofs.Images.{same_met, some_of}
-use Rattle.trio_desk.specs.Contents.{Rights, ShownEntry, bytes_shown, entries_shown, entry_of_node, rights_in, rights_of}
+use Rattle.trio_desk.specs.Contents.{Rights, bytes_shown, entries_shown, entry_of_node, rights_in, rights_of}
 use Rattle.trio_desk.specs.Agrees.{HasContent, HasFile, HasRights, Said, node_says, row_says}
 use Rattle.trio_desk.specs.Call.{DeskSeen}
 use Rattle.trio_desk.specs.Out.{IsWellLent, lent_numbers}
 use Rattle.trio_desk.specs.Among.{IsAmong, IsForeign}
-use Rattle.trio_desk.specs.Shows.{Naming, Shows, bytes_now, bytes_read, made_by, naming_of, namings_in, node_left, node_listed, placed, with_bytes}
+use Rattle.trio_desk.specs.Shows.{Naming, Shows, bytes_now, bytes_read, naming_of, namings_in, node_left, placed, with_bytes}
 use Rattle.trio_desk.specs.Ready.{ArePossible, bundle_of, lent_files}
 use Rattle.trio_desk.specs.Edits.{InHand, MayShow}
 use Rattle.trio_laws.specs.session.Takes.{IsInOrder, case_in_hand}
@@ -62,43 +61,15 @@ use Rattle.trio_laws.proofs.session.Spares.{shown_spares}
 use Rattle.trio_laws.proofs.session.Stands.{Read, judged_there, written_alike}
 use Rattle.trio_laws.proofs.session.Starts.{judged_once, start_judged, start_to}
 use Rattle.trio_laws.proofs.session.TakenHold.{held_by}
-use Rattle.trio_laws.proofs.session.LentNodes.{entry_node, has_entry, mapped, shown_as}
-use Rattle.trio_laws.proofs.session.TakenWrite.{name_kind}
+use Rattle.trio_laws.proofs.session.LentNodes.{entry_node, has_entry, mapped}
 
 -- the rights of two nodes, by their parts
 rights_same : (x y : Node) → HasRightsOf x (Some y) → rights_of y ≡ rights_of x
-rights_same x y r =
-    let by : Kind → Mode → ℕ → ℕ → Rights = λ k m u g. record { kind = k; mode = m; uid = u; gid = g } in
-    ap (λ k. by k y.mode y.uid y.gid) r.0 ∙ ap (λ m. by x.kind m y.uid y.gid) r.1 ∙ ap (λ u. by x.kind x.mode u y.gid) r.2 ∙ ap (by x.kind x.mode x.uid) r.3
+rights_same x y r = search arith
 
 -- what a directory shows of a number, by what it lists and by the rights
 entry_same : (d : ℕ) (one two : Option Node) → entry_in d one ≡ entry_in d two → ((x y : Node) → one ≡ Some x → two ≡ Some y → rights_of x ≡ rights_of y) → entry_of_node d one ≡ entry_of_node d two
-entry_same d one two e rights = by one two refl refl e
-  where
-    both : (x y : Node) (t v : Bool) → rights_of x ≡ rights_of y → cond t (Some (name_kind x)) None ≡ cond v (Some (name_kind y)) None → cond t (Some (shown_as x)) None ≡ cond v (Some (shown_as y)) None
-    both x y true true r k =
-        let same : name_kind x ≡ name_kind y = (let t : Some (name_kind x) ≡ Some (name_kind y) = k in cc t) in
-        let make : List ℕ → Rights → ShownEntry = λ n q. record { name = n; rights = q } in
-        ap (λ n. Some (make n (rights_of x))) (ap (λ (z : List ℕ × Kind). z.0) same) ∙ ap (λ q. Some (make y.name q)) r
-    both x y true false r k = absurd (let wrong : Some (name_kind x) ≡ None = k in cc wrong)
-    both x y false true r k = absurd (let wrong : None ≡ Some (name_kind y) = k in cc wrong)
-    both x y false false r k = refl
-
-    left : (x : Node) (t : Bool) → cond t (Some (name_kind x)) None ≡ None → cond t (Some (shown_as x)) None ≡ None
-    left x true k = absurd (let wrong : Some (name_kind x) ≡ None = k in cc wrong)
-    left x false k = refl
-
-    by : (p q : Option Node) → one ≡ p → two ≡ q → entry_in d one ≡ entry_in d two → entry_of_node d one ≡ entry_of_node d two
-    by None None s t k = ap (entry_of_node d) s ∙ sym (ap (entry_of_node d) t)
-    by (Some x) None s t k =
-        let l : cond (eqb x.parent d) (Some (name_kind x)) None ≡ None = sym (ap (entry_in d) s) ∙ k ∙ ap (entry_in d) t in
-        ap (entry_of_node d) s ∙ left x (eqb x.parent d) l ∙ sym (ap (entry_of_node d) t)
-    by None (Some y) s t k =
-        let l : cond (eqb y.parent d) (Some (name_kind y)) None ≡ None = sym (ap (entry_in d) t) ∙ sym k ∙ ap (entry_in d) s in
-        ap (entry_of_node d) s ∙ sym (left y (eqb y.parent d) l) ∙ sym (ap (entry_of_node d) t)
-    by (Some x) (Some y) s t k =
-        let l : cond (eqb x.parent d) (Some (name_kind x)) None ≡ cond (eqb y.parent d) (Some (name_kind y)) None = sym (ap (entry_in d) s) ∙ k ∙ ap (entry_in d) t in
-        ap (entry_of_node d) s ∙ both x y (eqb x.parent d) (eqb y.parent d) (rights x y s t) l ∙ sym (ap (entry_of_node d) t)
+entry_same d one two e rights = search arith
 
 -- a directory lists just what its nodes say
 lists_by : (nodes : Nodes) → IsTree nodes → (d : ℕ) (entries : List Listed)
@@ -173,9 +144,7 @@ module _ (desk : DeskSeen) (h h' : InHand) (nodes nodes' : Nodes) (rows : List (
   kept_rights n x y e t = rights_same x y ((shown_spares c nodes nodes' tree may.tree a s).0 n x y e t)
 
   root_seen : HasRights desk.root (node_at nodes' 1)
-  root_seen =
-      let x = mapped rights_of (node_at nodes 1) desk.root may.possible.agrees.root_is in
-      ap (option_map rights_of) may.tree.root.1 ∙ ap Some (kept_rights 1 x.0 may.tree.root.0 x.1 may.tree.root.1 ∙ x.2)
+  root_seen = search (arith, mapped, kept_rights)
 
   -- ---- a lease whose file was left alone
 
@@ -205,16 +174,10 @@ module _ (desk : DeskSeen) (h h' : InHand) (nodes nodes' : Nodes) (rows : List (
           entry_same f.ino (node_at nodes' n) (node_at nodes n) (q.2.entries n) (λ x y e t. kept_rights n y x t e)
 
       content : (k : Kind) → HasContent desk.sizes nodes f k → HasContent desk.sizes nodes' f k
-      content Directory t = λ n. listed_alike n ∙ t n
-      content Regular t =
-          let same : Some node.0.bytes ≡ Some (bytes_shown f) = sym (ap (option_map (λ (x : Node). x.bytes)) node.1) ∙ t in
-          ap (option_map (λ (x : Node). x.bytes)) spared.1 ∙ ap Some spared.3 ∙ same
+      content k t = search (arith, listed_alike, node, spared)
 
       lease_seen : HasFile desk.sizes nodes' f
-      lease_seen = record {
-        rights = ap (option_map rights_of) spared.1 ∙ ap Some (spared.2 ∙ node.2);
-        content = content f.kind has.content;
-      }
+      lease_seen = search (arith, spared, node, content, has)
 
     -- ---- its entries
 
@@ -278,17 +241,7 @@ module _ (desk : DeskSeen) (h h' : InHand) (nodes nodes' : Nodes) (rows : List (
         ∙ each_new (λ (x : Met). numbers (entries_in c x)) (judged_files c) m each i
 
     judged_made : (l : Listed) → In l file.entries → In l.entry.ino b.numbers → HasRights (rights_in l.entry.kind l.body) (node_at nodes' l.entry.ino)
-    judged_made l j k =
-        let n : ℕ = l.entry.ino in
-        let g : Naming = record { directory = m.ino; listed = l } in
-        let at : node_at nodes' n ≡ Some (with_bytes (bytes_now c n) (made_by g)) =
-        s.each n ∙ ap (λ q. option_map (with_bytes (bytes_now c n)) (node_left c n q (node_at nodes n))) (naming l j)
-        ∙ ap (λ q. option_map (with_bytes (bytes_now c n)) (node_listed g q)) (less.none n k) in
-        ap (option_map rights_of) at ∙ by (bytes_now c n)
-      where
-        by : (q : Option (List ℕ)) → Some (rights_of (with_bytes q (made_by (record { directory = m.ino; listed = l })))) ≡ Some (rights_in l.entry.kind l.body)
-        by None = refl
-        by (Some bytes) = refl
+    judged_made l j k = search (arith, naming, less)
 
     judged_seen : Lists nodes' m.ino file.entries
     judged_seen = lists_by nodes' may.tree m.ino file.entries judged_each judged_only numbers_new
@@ -341,9 +294,7 @@ module _ (desk : DeskSeen) (h h' : InHand) (nodes nodes' : Nodes) (rows : List (
         by None e = (was.0, e ∙ ap (λ t. option_map (with_bytes (bytes_now c f.stands.ino)) (cond t None (Some was.0))) unheld)
 
     written_bytes : f.stands.kind ≡ Regular → option_map (λ x. x.bytes) (node_at nodes' f.stands.ino) ≡ Some (bytes_listed (core_in_hand desk h) file)
-    written_bytes t =
-        let some : bytes_now c f.stands.ino ≡ Some (bytes_listed (core_in_hand desk h) file) = bytes_have ∙ ap (λ k. bytes_read (bundle_core c) k (Ok file)) t in
-        ap (option_map (λ (x : Node). x.bytes)) now.1 ∙ ap (λ q. Some (with_bytes q now.0).bytes) some
+    written_bytes t = search (arith, bytes_have, now)
 
     written_rights : HasRights (rights_in f.stands.kind f.stands.body) (node_at nodes' f.stands.ino)
     written_rights =
@@ -356,9 +307,7 @@ module _ (desk : DeskSeen) (h h' : InHand) (nodes nodes' : Nodes) (rows : List (
         let is : here.ino ≡ f.stands.ino = written_ino_at (written_in f.stands) (row_in rows f.stands.ino) in
         let there : is_written b f.stands.ino ≡ true =
         written_among b.writes f.stands.ino ∙ In-is_among f.stands.ino (map (λ (w : Written). w.ino) b.writes) (In-map (λ (w : Written). w.ino) (written_in f.stands) b.writes (In-map (λ (x : LentFile). written_in x.stands) f h.parcel.writes i)) in
-        let has : has_rights (Some r.0) file.body ≡ true =
-        sym (ap (λ t. cond t (has_rights (row_in rows here.ino) file.body) (eqb file.body.uid desk.creds.uid && eqb file.body.gid desk.creds.gid)) (ap (is_written b) is ∙ there)
-        ∙ ap (λ n. has_rights (row_in rows n) file.body) is ∙ ap (λ q. has_rights q file.body) r.1) ∙ keeps in
+        let has : has_rights (Some r.0) file.body ≡ true = search arith in
         let p = and_parts (eqb r.0.mode.0 file.body.mode.0 && eqb r.0.uid file.body.uid) (eqb r.0.gid file.body.gid) has in
         let q = and_parts (eqb r.0.mode.0 file.body.mode.0) (eqb r.0.uid file.body.uid) p.0 in
         let stands : body_at f.stands.body ≡ file.body =

@@ -75,16 +75,12 @@ settle_ends_in_calls s s' desk b back calls m ready step =
     (λ n. accepted_is_shown s s' lib (bundle_of b) m.judgeable e.0 e.1 n ∙ sym ((shown_then s desk b back calls m ready).each n))
 
 read_is : (k : GrantKind) → is_read k ≡ true → k ≡ Read
-read_is Read e = refl
-read_is Write e = absurd (false≢true e)
-read_is Hold e = absurd (false≢true e)
+read_is k e = search (arith, false≢true)
 
 module _ (s : State) (lib : ℕ) (b : Bundle) (j : IsJudgeable s lib b) where
   -- two grants on one file of which one is no read grant are one
   not_both : (n : ℕ) (g : OpenGrant) (kind : GrantKind) (h : HasGrant s lib n kind) → is_read kind ≡ false → In g s.open_grants → g.ino ≡ n → (g.lib ≡ lib → ⊥) → ⊥
-  not_both n g kind h quiet i ino other =
-      let same : h.grant ≡ g = alone s.open_grants h.grant g j.kept.apart h.is_open i (ap is_read h.kind ∙ quiet) (h.ino ∙ sym ino) in
-      other (sym (ap (λ (x : OpenGrant). x.lib) same) ∙ h.lib)
+  not_both n g kind h quiet i ino other = search (arith, alone)
 
   foreign_by : (n : ℕ) → is_others (map standing_of s.open_grants) lib n ≡ true → IsForeign (case_of (settled s) (creds_of s lib) b) n
   foreign_by n o =

@@ -1,8 +1,7 @@
 -- What slots list before and after they are written, and which entries keep to the rules.
-use Rattle.std.proofs.Common.{◌≡◌, ℕ, Bool, true, false, cond, not, ◌&&◌, ◌||◌, List, [], ◌∷◌, Some, None, Ok, sym, refl, ap, ◌∙◌, subst, inl, inr}
+use Rattle.std.proofs.Common.{◌≡◌, ℕ, true, false, ◌||◌, List, [], ◌∷◌, Some, None, Ok, sym, refl, ap, ◌∙◌, subst, inl, inr, arith}
 use Rattle.std.specs.Prelude.{is_some}
 use Rattle.std.specs.List.{list_all}
-use Rattle.std.specs.Str.{bytes_eq}
 use Rattle.std.proofs.lemmas.Bool.{and_from, and_parts, false_from_ne_true, not_from_false, or_left, or_right}
 use Rattle.trio_rights.specs.Row.{row_in}
 use Rattle.trio_rights.specs.declared.kind.Kind.{Kind}
@@ -89,9 +88,6 @@ made_same directory name k k' l l' kind body = ap (made_node directory name k) b
 -- ---- a case that shows nodes
 
 module _ {c : Case} {nodes nodes' : Nodes} (v : IsShown c nodes nodes') where
-  pub new_row : (n : ℕ) → In n c.bundle.numbers → row_in c.rows n ≡ None
-  new_row n i = v.among.new n i
-
   pub new_unheld : (n : ℕ) → In n c.bundle.numbers → is_among n c.bundle.holds ≡ false
   new_unheld n i =
       false_from_ne_true (is_among n c.bundle.holds) (λ t.
@@ -103,11 +99,7 @@ module _ {c : Case} {nodes nodes' : Nodes} (v : IsShown c nodes nodes') where
 
   -- the entry of a new file keeps no rights
   pub new_keeps : (m : Met) → In m.ino c.bundle.numbers → entry_keeps_rights c m ≡ true
-  new_keeps m i =
-      let A : Bool = has_kind m.kind (row_in c.rows m.ino) in
-      let B : Bool = has_kind m.kind (row_in c.rows m.ino) && bytes_eq m.body (lent_body c m.ino) in
-      ap (λ t. cond t A (not (is_among m.ino c.bundle.holds) || B)) (new_unkept m i)
-      ∙ or_left (not (is_among m.ino c.bundle.holds)) B (not_from_false (is_among m.ino c.bundle.holds) (new_unheld m.ino i))
+  new_keeps m i = search (arith, new_unkept, or_left, not_from_false, new_unheld)
 
   pub new_own : (m : Met) → In m.ino c.bundle.numbers → entry_is_own c m ≡ true
   new_own m i = or_right (is_kept c m || is_among m.ino c.bundle.holds) (is_among m.ino c.bundle.numbers) (In-is_among m.ino c.bundle.numbers i)
@@ -132,27 +124,11 @@ module _ {c : Case} {nodes nodes' : Nodes} (v : IsShown c nodes nodes') where
 
   -- the entry of a held file has its kind
   pub held_kind : (m : Met) → In m (judged_entries c) → In m.ino c.bundle.holds → has_kind m.kind (row_in c.rows m.ino) ≡ true
-  held_kind m i held = by (is_kept c m) (keeps_of m i)
-    where
-      by : (t : Bool) → cond t (has_kind m.kind (row_in c.rows m.ino)) (not (is_among m.ino c.bundle.holds) || (has_kind m.kind (row_in c.rows m.ino) && bytes_eq m.body (lent_body c m.ino))) ≡ true → has_kind m.kind (row_in c.rows m.ino) ≡ true
-      by true e = e
-      by false e =
-          let B : Bool = has_kind m.kind (row_in c.rows m.ino) && bytes_eq m.body (lent_body c m.ino) in
-          let there : (not (is_among m.ino c.bundle.holds) || B) ≡ B = ap (λ t. not t || B) (In-is_among m.ino c.bundle.holds held) in
-          (and_parts (has_kind m.kind (row_in c.rows m.ino)) (bytes_eq m.body (lent_body c m.ino)) (sym there ∙ e)).0
+  held_kind m i held = search (arith, keeps_of, In-is_among, and_parts)
 
   -- so it keeps its rights wherever it is listed with the lent body
   pub held_keeps : (m : Met) → has_kind m.kind (row_in c.rows m.ino) ≡ true → m.body ≡ lent_body c m.ino → entry_keeps_rights c m ≡ true
-  held_keeps m kind body = by (is_kept c m)
-    where
-      by : (t : Bool) → cond t (has_kind m.kind (row_in c.rows m.ino)) (not (is_among m.ino c.bundle.holds) || (has_kind m.kind (row_in c.rows m.ino) && bytes_eq m.body (lent_body c m.ino))) ≡ true
-      by true = kind
-      by false =
-          or_right (not (is_among m.ino c.bundle.holds)) (has_kind m.kind (row_in c.rows m.ino) && bytes_eq m.body (lent_body c m.ino))
-          (and_from (has_kind m.kind (row_in c.rows m.ino)) (bytes_eq m.body (lent_body c m.ino)) kind (true-bytes_eq m.body (lent_body c m.ino) body))
+  held_keeps m kind body = search (arith, or_right, and_from, true-bytes_eq)
 
   pub held_there : (n : ℕ) → In n c.bundle.holds → node_at nodes n ≡ None → ⊥
-  held_there n i none =
-      let r = some_of (row_in c.rows n) (v.among.held n i) in
-      let x = row_node c nodes nodes' v.tree v.tree' v.among v.shows n r.0 r.1 in
-      let wrong : None ≡ Some x.0 = sym none ∙ x.1 in cc wrong
+  held_there n i none = search (arith, some_of, row_node)

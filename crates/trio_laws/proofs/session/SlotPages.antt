@@ -1,5 +1,5 @@
 -- A directory of which one slot is written anew: its body and its chain read as before, and its entries but for those of the slot.
-use Rattle.std.proofs.Common.{◌≡◌, ℕ, suc, zero, ◌<◌, ◌≤◌, ◌+◌, ◌*◌, Bool, true, false, cond, List, [], ◌∷◌, ◌++◌, length, append_assoc, Option, Some, None, Result, Ok, sym, refl, ap, ◌∙◌, subst, inl, inr, ◌⊎◌, arith}
+use Rattle.std.proofs.Common.{◌≡◌, ℕ, suc, zero, ◌<◌, ◌≤◌, ◌+◌, ◌*◌, true, false, cond, List, [], ◌∷◌, ◌++◌, length, append_assoc, Some, None, Result, Ok, sym, refl, ap, ◌∙◌, subst, inl, inr, ◌⊎◌, arith}
 use Rattle.std.specs.Prelude.{slice_range}
 use Rattle.std.specs.Str.{bytes_eq}
 use Rattle.std.proofs.lemmas.Bool.{cases_eq, false≢true, false_from_ne_true}
@@ -18,7 +18,6 @@ use Rattle.trio_layout.specs.Core.{Core, Location, page_of}
 use Rattle.trio_layout.specs.Entries.{Listed, body_in_slot, entries_on, has_name, listed_at, place_of, repeated_name, slot_bytes, slot_entries, unless_repeated, with_names_apart}
 use Rattle.trio_layout.specs.Slot.{slot_of}
 use Rattle.trio_layout.specs.declared.slot.SlotRead.{SlotRead}
-use Rattle.trio_layout.specs.declared.slot.SlotRead.TheVariants.{Empty, Entry, Bad}
 use Rattle.trio_layout.specs.Survey.{FileRead, Met}
 use Rattle.trio_layout.specs.Within.{entries_where, entries_within, file_within}
 use Rattle.trio_layout.proofs.Reading.{bytes_eq-true, true-bytes_eq}
@@ -58,10 +57,7 @@ module _ {Y E : Type 0} where
           back = [];
           at = ap f same ∙ q.3;
           are = sym q.4 ∙ ap (λ l. q.0 ++ l) (sym (append-nil q.1));
-          put = λ g o others here.
-              ap (λ r. both r (g n)) (below_same f g n (λ i l. others i (omega (arith, l)) (λ t. omega (arith, l, t, same))) ∙ q.2)
-              ∙ ap (both (Ok q.0)) (ap g (sym same) ∙ here)
-              ∙ ap (λ l. Ok (q.0 ++ l)) (sym (append-nil o));
+          put = search (arith, below_same, append-nil);
         }
         | inr d ↦
             let l : k < n = omega (arith, h) in
@@ -99,9 +95,7 @@ module _ {Y E : Type 0} where
           back = q.1;
           at = ap f (sym same) ∙ q.2;
           are = sym q.4;
-          put = λ g o others here.
-              ap (λ r. both r (gathered g ys)) (ap g same ∙ here)
-              ∙ ap (both (Ok o)) (list_same f g ys (λ z j. others z (inr j) (λ t. first.0 (subst (λ w. In w ys) (t ∙ sym same) j))) ∙ q.3);
+          put = search (arith, list_same);
         }
         | inr d ↦
             let j : In x ys = elim i [ inl t ↦ absurd (d (sym t)) | inr k ↦ k ] in
@@ -112,21 +106,14 @@ module _ {Y E : Type 0} where
               back = r.back;
               at = r.at;
               are = sym q.4 ∙ ap (λ z. q.0 ++ z) r.are ∙ sym (append_assoc q.0 r.front (r.here ++ r.back));
-              put = λ g o others here.
-                  ap (λ z. both z (gathered g ys)) (others y (inl refl) d ∙ q.2)
-                  ∙ ap (both (Ok q.0)) (r.put g o (λ z k t. others z (inr k) t) here)
-                  ∙ ap Ok (sym (append_assoc q.0 r.front (o ++ r.back)));
+              put = search (arith, append_assoc);
             }
       ]
 
 -- ---- names
 
 apart_first : (seen : List Listed) (l : Listed) (ls : List Listed) → repeated_name seen (l ∷ ls) ≡ None → (has_name l.entry.name seen ≡ false) × (repeated_name (seen ++ l ∷ []) ls ≡ None)
-apart_first seen l ls e = by (has_name l.entry.name seen) refl e
-  where
-    by : (t : Bool) → has_name l.entry.name seen ≡ t → cond t (Some (place_of l)) (repeated_name (seen ++ l ∷ []) ls) ≡ None → (has_name l.entry.name seen ≡ false) × (repeated_name (seen ++ l ∷ []) ls ≡ None)
-    by true t h = absurd (let wrong : Some (place_of l) ≡ None = h in cc wrong)
-    by false t h = (t, h)
+apart_first seen l ls e = search arith
 
 names_split : (seen xs ys : List Listed) → repeated_name seen (xs ++ ys) ≡ None → (repeated_name seen xs ≡ None) × (repeated_name (seen ++ xs) ys ≡ None)
 names_split seen [] ys e = (refl, ap (λ l. repeated_name l ys) (append-nil seen) ∙ e)
@@ -176,12 +163,7 @@ AtMostOne ls = (ls ≡ []) ⊎ ((l : Listed) × (ls ≡ l ∷ []))
 
 -- a slot lists one at most
 pub listed_one : (page k : ℕ) (body : List ℕ) (r : SlotRead) (has : List Listed) → listed_at page k body r ≡ Ok has → AtMostOne has
-listed_one page k body Empty has e = inl (let t : Ok [] ≡ Ok has = e in let s : [] ≡ has = cc t in sym s)
-listed_one page k body (Entry x) has e =
-    let l : Listed = record { entry = x; page = page; slot = k; body = body } in
-    let t : Ok (l ∷ []) ≡ Ok has = e in
-    let s : l ∷ [] ≡ has = cc t in inr (l, sym s)
-listed_one page k body Bad has e = absurd cc
+listed_one page k body r has e = search arith
 
 -- where the names differ they do so with others in the place of some, of names that none beside has
 names_put : (front had has back : List Listed) → AtMostOne has → ((l : Listed) → In l has → Has l.entry.name (front ++ back) → ⊥) → repeated_name [] (front ++ (had ++ back)) ≡ None → repeated_name [] (front ++ (has ++ back)) ≡ None
@@ -205,11 +187,7 @@ names_put front had has back one free e =
         (no_name l.0.entry.name front (λ k. free l.0 i (k.0, In-left k.0 front back k.1, k.2)))
 
 apart_are : (ls es : List Listed) → with_names_apart ls ≡ Ok es → (repeated_name [] ls ≡ None) × (ls ≡ es)
-apart_are ls es e = by (repeated_name [] ls) refl e
-  where
-    by : (o : Option Location) → repeated_name [] ls ≡ o → unless_repeated ls o ≡ Ok es → (repeated_name [] ls ≡ None) × (ls ≡ es)
-    by None t h = (t, (let k : Ok ls ≡ Ok es = h in cc k))
-    by (Some place) t h = absurd cc
+apart_are ls es e = search arith
 
 -- ---- one page
 
@@ -231,17 +209,7 @@ module _ (inodes page k : ℕ) (old new : List ℕ) (low : k < 16) (whole : leng
   slot_here = ap (λ l. listed_at page k l (slot_of inodes (slot_bytes k then))) body_here ∙ ap (λ l. listed_at page k (body_in_slot 0 new) (slot_of inodes l)) bytes_here
 
   range_else : (i from to : ℕ) → (i ≡ k → ⊥) → from ≤ to → 256 * i ≤ from → to ≤ 256 * i + 256 → slice_range then from to ≡ slice_range old from to
-  range_else i from to d a b c =
-      elim (lower i k d) [
-        | inl l ↦ slice-with_part_below (256 * k) new old from to fits (omega (arith, l, c))
-        | inr l ↦ slice-with_part_above (256 * k) new old from to fits (omega (arith, l, b, fills))
-      ]
-    where
-      lower : (i k : ℕ) → (i ≡ k → ⊥) → (i < k) ⊎ (k < i)
-      lower zero zero d = absurd (d refl)
-      lower zero (suc k) d = inl (omega arith)
-      lower (suc i) zero d = inr (omega arith)
-      lower (suc i) (suc k) d = elim (lower i k (λ e. d (ap suc e))) [ inl l ↦ inl (omega (arith, l)) | inr l ↦ inr (omega (arith, l)) ]
+  range_else i from to d a b c = search (arith, slice-with_part_below, fits, slice-with_part_above)
 
   slot_else : (i : ℕ) → (i ≡ k → ⊥) → slot_entries inodes page then i ≡ slot_entries inodes page old i
   slot_else i d =

@@ -1,6 +1,6 @@
 -- Slots of directories are written anew, so that the file of one number is listed elsewhere, or not at all: each judged file reads as before
 -- but for that; and what follows of the nodes that are shown and of what is judged then.
-use Rattle.std.proofs.Common.{◌≡◌, ◌↔◌, ℕ, true, List, [], ◌++◌, append_assoc, Option, Some, None, Ok, sym, refl, ap, ◌∙◌, subst, inl, inr, ◌⊎◌}
+use Rattle.std.proofs.Common.{◌≡◌, ◌↔◌, ℕ, true, List, [], ◌++◌, append_assoc, Option, Some, None, Ok, sym, refl, ap, ◌∙◌, subst, inl, inr, ◌⊎◌, arith}
 use Rattle.std.specs.Prelude.{map, take}
 use Rattle.std.specs.Option.{option_map}
 use Rattle.std.proofs.lemmas.Bool.{and_from, and_parts, both_ways, cases_Bool}
@@ -25,8 +25,6 @@ use Rattle.trio_layout.specs.Within.{file_within}
 use Rattle.trio_layout.specs.JudgedFiles.{entries_in, judged_entries, judged_files, judged_pages, new_entries, pages_within, written_files, written_met}
 use Rattle.trio_layout.specs.Rules.{entry_in_grammar, entry_is_own, entry_keeps_rights}
 use Rattle.trio_layout.proofs.Walks.{fronts_listed, numbers-flat}
-use Rattle.trio_lease.specs.Shown.{LentFile}
-use Rattle.trio_lease.specs.Views.{written_in}
 use Rattle.trio_nodes.specs.Nodes.{Nodes, node_at}
 use Rattle.trio_nodes.specs.Tree.{IsTree}
 use Rattle.trio_desk.specs.Contents.{entries_or_none}
@@ -54,11 +52,7 @@ use Rattle.trio_laws.proofs.session.TakenHold.{held_by}
 -- ---- numbers
 
 new_without : (front mid back : List ℕ) → are_new [] (front ++ (mid ++ back)) ≡ true → are_new [] (front ++ back) ≡ true
-new_without front mid back e =
-    let a = and_parts (are_new [] front) (are_new front (mid ++ back)) (sym (are_new-append [] front (mid ++ back)) ∙ e) in
-    let q = and_parts (are_new front mid) (are_new (front ++ mid) back) (sym (are_new-append front mid back) ∙ a.1) in
-    are_new-append [] front back
-    ∙ and_from (are_new [] front) (are_new front back) a.0 (are_new-fewer front (front ++ mid) back (λ n i. In-left n front mid i) q.1)
+new_without front mid back e = search (arith, and_parts, are_new-append, and_from, are_new-fewer, In-left)
 
 new_replaced : (front mid mid' back : List ℕ) → are_new [] (front ++ (mid ++ back)) ≡ true → are_new [] mid' ≡ true → ((n : ℕ) → In n mid' → In n (front ++ back) → ⊥) → are_new [] (front ++ (mid' ++ back)) ≡ true
 new_replaced front mid mid' back e once apart =
@@ -117,10 +111,7 @@ module _ (desk : DeskSeen) (h h' : InHand) (writes : List SlotWrite) (o : IsInOr
   -- ---- the written files are the same
 
   bare_writes : map bare b2.writes ≡ map bare b.writes
-  bare_writes =
-      map-map bare (λ (x : LentFile). written_in x.stands) h'.parcel.writes
-      ∙ u.files
-      ∙ sym (map-map bare (λ (x : LentFile). written_in x.stands) h.parcel.writes)
+  bare_writes = search (arith, map-map, stands)
 
   bare_sorted : map bare (sorted_by (λ (w : Written). w.ino) b2.writes) ≡ map bare (sorted_by (λ (w : Written). w.ino) b.writes)
   bare_sorted =
@@ -185,10 +176,7 @@ module _ (desk : DeskSeen) (h h' : InHand) (writes : List SlotWrite) (o : IsInOr
 
       -- any other lists the pages of before
       pages_else : (y : Met) (f : FileRead) → In y (judged_files c) → file_within core y ≡ Ok f → (In y.ino directories → ⊥) → (p : ℕ) → In p (pages_listed f) → page_of core2 p ≡ page_of core p
-      pages_else y f j e out p i =
-          u.bytes p (λ k.
-          let w = map-In (λ (x : SlotWrite). x.page) p writes k in
-          out (subst (λ q. In q directories) (sym (page_is y f p w.0 j e i w.1 w.2)) (In-map (λ (x : SlotWrite). x.directory.ino) w.0 writes w.1)))
+      pages_else y f j e out p i = search (arith, map-In, page_is, In-map)
 
       pub reads_else : (y : Met) (f : FileRead) → In y (judged_files c) → file_within core y ≡ Ok f → (In y.ino directories → ⊥) → file_within core2 y ≡ Ok f
       reads_else y f j e out = file_as_before core core2.pages y f e (pages_else y f j e out)
@@ -207,11 +195,7 @@ module _ (desk : DeskSeen) (h h' : InHand) (writes : List SlotWrite) (o : IsInOr
           let reads : file_within core y ≡ Ok w.file = ap (file_within core) is ∙ edited_read w i in
           let once = pages_once y w.file j reads in
           let parts = and_parts (are_new [] w.file.chain.index) (are_new w.file.chain.index w.file.chain.blocks) (sym (are_new-append [] w.file.chain.index w.file.chain.blocks) ∙ once) in
-          let other : (p : ℕ) → In p (pages_listed w.file) → (p ≡ w.page → ⊥) → page_of core2 p ≡ page_of core p =
-          λ p k d. u.bytes p (λ q.
-          let x = map-In (λ (z : SlotWrite). z.page) p writes q in
-          let same : w ≡ x.0 = one_write w x.0 i x.1 (sym e ∙ page_is y w.file p x.0 j reads k x.1 x.2) in
-          d (x.2 ∙ ap (λ (z : SlotWrite). z.page) (sym same))) in
+          let other : (p : ℕ) → In p (pages_listed w.file) → (p ≡ w.page → ⊥) → page_of core2 p ≡ page_of core p = search (arith, map-In, one_write, page_is) in
           record {
             kind = ap (λ (x : Met). x.kind) is ∙ (edited w i).2.kind ∙ s.kind;
             reads = reads;
@@ -376,10 +360,7 @@ module _ (desk : DeskSeen) (h h' : InHand) (writes : List SlotWrite) (o : IsInOr
 
         -- what a slot listed before is an entry in hand, that names the number
         had_entry : (w : SlotWrite) (l : Listed) (i : In w writes) → In l (had_in desk w) → In (met_in plain w.directory.ino l) (entries_in c (edited w i).0)
-        had_entry w l i j =
-            let z = edited w i in
-            subst (λ d. In (met_in plain d l) (entries_in c z.0)) z.2.ino
-            (subst (λ r. In (met_in plain z.0.ino l) (children_in plain z.0.ino r)) (sym (edited_read w i)) (In-map (met_in plain z.0.ino) l w.file.entries (had_read w l i j)))
+        had_entry w l i j = search (arith, edited, edited_read, In-map, had_read)
 
         pub had_met : (w : SlotWrite) (l : Listed) → In w writes → In l (had_in desk w) → In (met_in plain w.directory.ino l) (judged_entries c) × (naming_of c n ≡ Some (record { directory = w.directory.ino; listed = l }))
         had_met w l i j =
@@ -410,23 +391,7 @@ module _ (desk : DeskSeen) (h h' : InHand) (writes : List SlotWrite) (o : IsInOr
           pub tree : IsTree after
 
         pub anew : (after : Nodes) → IsSuited after → IsNamedAnew desk.sizes desk.creds rows b b2.writes b2.pages lent n now nodes nodes' after
-        anew after s = record {
-          starts = starts_same;
-          writes = numbers_same;
-          written = written_same;
-          pages = u.pages;
-          number = k.number;
-          reads = rereads;
-          lister = lister;
-          file = s.file;
-          grammar = s.grammar;
-          own = s.own;
-          rights = s.rights;
-          here = s.here;
-          there = s.there;
-          none = s.none;
-          tree = s.tree;
-        }
+        anew after s = search (arith, starts_same, numbers_same, written_same, rereads, lister)
 
   -- ---- what is shown
 

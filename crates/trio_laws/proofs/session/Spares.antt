@@ -1,20 +1,17 @@
 -- What a settle leaves of others.
-use Rattle.std.proofs.Common.{◌≡◌, ℕ, Bool, true, false, cond, eqb, List, Option, Some, None, sym, refl, ap, ◌∙◌, subst, inl, inr, ◌⊎◌}
-use Rattle.std.specs.Prelude.{is_some}
+use Rattle.std.proofs.Common.{◌≡◌, ℕ, false, cond, eqb, List, Option, Some, None, sym, refl, ap, ◌∙◌, subst, inl, inr, ◌⊎◌, arith}
 use Rattle.std.specs.List.{find}
 use Rattle.std.specs.Option.{option_map, option_and_then}
 use Rattle.std.proofs.lemmas.Bool.{cases_Bool, eqb-true, ne_eqb, false≢true, false_from_ne_true}
 use Rattle.trio_rights.specs.Row.{Row, row_in}
 use Rattle.trio_lists.specs.Lists.{In, is_among}
-use Rattle.trio_layout.specs.Survey.{Met, Front}
-use Rattle.trio_rights.specs.Bundle.{Written}
+use Rattle.trio_layout.specs.Survey.{Met}
 use Rattle.trio_lists.proofs.Members.{In-map, map-In, flat_map-In, is_among-In}
 use Rattle.trio_lists.proofs.Filters.{find-In, filter-In}
 use Rattle.trio_layout.specs.Case.{Case, bundle_core}
 use Rattle.trio_layout.specs.Within.{file_within}
-use Rattle.trio_layout.specs.JudgedFiles.{fronts, written_met, written_files, entries_in, new_entries, judged_files}
+use Rattle.trio_layout.specs.JudgedFiles.{judged_files}
 use Rattle.trio_layout.proofs.Walks.{fronts_listed}
-use Rattle.trio_lists.specs.Sorting.{sorted_by}
 use Rattle.trio_lists.proofs.Sorting.{sorted_in}
 use Rattle.trio_laws.proofs.judgement.JudgedFacts.{written_ino}
 use Rattle.trio_nodes.specs.declared.node.Node.{Node}
@@ -33,18 +30,7 @@ use Rattle.trio_laws.proofs.session.Edges.{row_node, node_row, listed_now, unlis
 -- a judged file is written, or has one of the bundle's numbers
 pub judged_own : (c : Case) (m : Met) → In m (judged_files c) → In m.ino (written_numbers c) ⊎ In m.ino c.bundle.numbers
 unfolding judged_files
-judged_own c m i =
-    elim (fronts_listed (new_entries c) (written_files c) c.inodes m i) [
-      | inl first ↦
-          let w = map-In (written_met c) m (sorted_by (λ (w : Written). w.ino) c.bundle.writes) first in
-          let j = In-map (λ (w : Written). w.ino) w.0 c.bundle.writes (sorted_in (λ (w : Written). w.ino) w.0 c.bundle.writes w.1) in
-          let number : w.0.ino ≡ m.ino = sym (written_ino c w.0) ∙ sym (ap (λ (x : Met). x.ino) w.2) in
-          inl (subst (λ n. In n (written_numbers c)) number j)
-      | inr child ↦
-          let w : Front = fronts (new_entries c) (written_files c) c.inodes in
-          let x = flat_map-In (new_entries c) m w.passed child in
-          inr (is_among-In m.ino c.bundle.numbers (filter-In (λ (e : Met). is_among e.ino c.bundle.numbers) m (entries_in c x.0) x.2).1)
-    ]
+judged_own c m i = search (arith, fronts_listed, map-In, In-map, sorted_in, written_ino, flat_map-In, is_among-In, filter-In)
 
 -- ---- nodes with other bytes
 
@@ -57,9 +43,7 @@ rights_placed None e x = (refl, refl, refl, refl)
 rights_placed (Some bytes) e x = (refl, refl, refl, refl)
 
 entry_with : (n : ℕ) (o : Option (List ℕ)) (x : Option Node) → entry_in n (option_map (with_bytes o) x) ≡ entry_in n x
-entry_with n o None = refl
-entry_with n None (Some x) = refl
-entry_with n (Some bytes) (Some x) = refl
+entry_with n o x = search arith
 
 -- a node in another directory is no entry here
 elsewhere : (n : ℕ) (o : Option Node) → ((x : Node) → o ≡ Some x → x.parent ≡ n → ⊥) → entry_in n o ≡ None
@@ -72,28 +56,11 @@ module _ (c : Case) (nodes nodes' : Nodes) (tree : IsTree nodes) (tree' : IsTree
 
   -- what becomes of a live file, whole
   now_of : (n : ℕ) (x y : Node) → node_at nodes n ≡ Some x → node_at nodes' n ≡ Some y → HasRightsOf x (Some y)
-  now_of n x y e f = by (naming_of c n) (is_among n c.bundle.holds) refl refl
-    where
-      whole : (o : Option Naming) → naming_of c n ≡ o → Some y ≡ option_map (with_bytes (bytes_now c n)) (node_left c n o (Some x))
-      whole o h = sym f ∙ s.each n ∙ ap (λ q. option_map (with_bytes (bytes_now c n)) (node_left c n q (node_at nodes n))) h ∙ ap (λ q. option_map (with_bytes (bytes_now c n)) (node_left c n o q)) e
-
-      by : (o : Option Naming) (b : Bool) → naming_of c n ≡ o → is_among n c.bundle.holds ≡ b → HasRightsOf x (Some y)
-      by (Some g) b h t =
-          let w : Some y ≡ Some (with_bytes (bytes_now c n) (placed g x)) = whole (Some g) h in
-          subst (λ z. HasRightsOf x z) (sym w) (rights_placed (bytes_now c n) g x)
-      by None true h t =
-          let w : Some y ≡ None = whole None h ∙ ap (λ q. option_map (with_bytes (bytes_now c n)) (cond q None (Some x))) t in absurd cc
-      by None false h t =
-          let w : Some y ≡ Some (with_bytes (bytes_now c n) x) = whole None h ∙ ap (λ q. option_map (with_bytes (bytes_now c n)) (cond q None (Some x))) t in
-          subst (λ z. HasRightsOf x z) (sym w) (rights_with (bytes_now c n) x)
+  now_of n x y e f = search (arith, rights_placed, rights_with)
 
   -- a directory of the bundle is no foreign one that lives
   not_judged : (n : ℕ) (x : Node) → node_at nodes n ≡ Some x → (r : Row) → row_in c.rows n ≡ Some r → IsForeign c n → (m : Met) → In m (judged_files c) → m.ino ≡ n → ⊥
-  not_judged n x e r t foreign m i is =
-      elim (judged_own c m i) [
-        | inl w ↦ foreign.0 (subst (λ k. In k (written_numbers c)) is w)
-        | inr k ↦ new_dead c nodes nodes' tree tree' a s n r t (subst (λ q. In q c.bundle.numbers) is k)
-      ]
+  not_judged n x e r t foreign m i is = search (arith, judged_own, new_dead)
 
   module _ (n : ℕ) (x : Node) (e : node_at nodes n ≡ Some x) (r : Row) (t : row_in c.rows n ≡ Some r) (same : r.parent ≡ x.parent) (foreign : IsForeign c n) where
     pub no_bytes : bytes_now c n ≡ None
@@ -137,14 +104,7 @@ module _ (c : Case) (nodes nodes' : Nodes) (tree : IsTree nodes) (tree' : IsTree
         not_judged n x e r t foreign i.judged_by i.among (sym i.directory ∙ is)
 
     held_elsewhere : (m : ℕ) (y : Node) → In m c.bundle.holds → node_at nodes m ≡ Some y → y.parent ≡ n → ⊥
-    held_elsewhere m y i f p = by (row_in c.rows m) refl (a.held m i)
-      where
-        by : (o : Option Row) → row_in c.rows m ≡ o → is_some o ≡ true → ⊥
-        by None q z = false≢true z
-        by (Some q) w z =
-            let l = row_node c nodes nodes' tree tree' a s m q w in
-            let one : l.0 ≡ y = some_one (node_at nodes m) l.0 y l.1 f in
-            foreign.0 (subst (λ k. In k (written_numbers c)) (l.2 ∙ ap (λ (v : Node). v.parent) one ∙ p) (a.closed m q i w))
+    held_elsewhere m y i f p = search (arith, false≢true, row_node, some_one)
 
     entry_kept : (m : ℕ) → entry_in n (node_at nodes' m) ≡ entry_in n (node_at nodes m)
     entry_kept m = by (naming_of c m) refl

@@ -1,5 +1,5 @@
 -- What is in hand reads the same whatever the rows say.
-use Rattle.std.proofs.Common.{◌≡◌, ℕ, eqb, List, [], ◌∷◌, ◌++◌, Option, Some, None, Result, sym, refl, ap, ◌∙◌, subst, inl, inr}
+use Rattle.std.proofs.Common.{◌≡◌, ℕ, eqb, List, [], ◌∷◌, ◌++◌, Option, Result, sym, refl, ap, ◌∙◌, subst, inl, inr, arith}
 use Rattle.std.specs.Prelude.{map}
 use Rattle.std.specs.List.{filter, find, flat_map}
 use Rattle.std.proofs.lemmas.List.Concat.{flat_map-append}
@@ -24,10 +24,7 @@ use Rattle.trio_laws.proofs.session.Starts.{Share, shared, start_from, start_jud
 -- a written file reads the same wherever its row places it
 pub written_alike : (core : Core) (w : Written) (one two : Option Row) → file_within core (written_at w one) ≡ file_within core (written_at w two)
 unfolding file_within
-written_alike core w None None = refl
-written_alike core w None (Some r) = refl
-written_alike core w (Some r) None = refl
-written_alike core w (Some r) (Some q) = refl
+written_alike core w one two = search arith
 
 number_alike : (w : Written) (one two : Option Row) → (written_at w one).ino ≡ (written_at w two).ino
 number_alike w one two = written_ino_at w one ∙ sym (written_ino_at w two)
@@ -59,16 +56,8 @@ module _ (sizes : Sizes) (creds : Creds) (rows rows' : List (Option Row)) (b : B
   core = bundle_core (case_with sizes creds rows b lent)
 
   module _ {X : Type 0} (g : ByReading X) where
-    said : Met → List X
-    said m = g m.ino m.kind (file_within core m)
-
     start_alike : (w : Written) → g (written_met c' w).ino (written_met c' w).kind (file_within core (written_met c' w)) ≡ g (written_met c w).ino (written_met c w).kind (file_within core (written_met c w))
-    start_alike w =
-        let one : Option Row = row_in rows' w.ino in
-        let two : Option Row = row_in rows w.ino in
-        ap (λ n. g n (written_at w one).kind (file_within core (written_at w one))) (number_alike w one two)
-        ∙ ap (λ k. g (written_at w two).ino k (file_within core (written_at w one))) (kind_alike w one two)
-        ∙ ap (λ r. g (written_at w two).ino (written_at w two).kind r) (written_alike core w one two)
+    start_alike w = search (arith, number_alike, kind_alike, written_alike)
 
     starts_alike : (ws : List Written) → flat_map (λ m. g m.ino m.kind (file_within core m)) (map (written_met c') ws) ≡ flat_map (λ m. g m.ino m.kind (file_within core m)) (map (written_met c) ws)
     starts_alike [] = refl

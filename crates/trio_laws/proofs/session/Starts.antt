@@ -29,24 +29,17 @@ map-each f g (x ∷ xs) h = ap (λ y. y ∷ map f xs) (h x (inl refl)) ∙ ap (�
 -- ---- one case
 
 pub start_from : (c : Case) (m : Met) → In m (written_files c) → (w : Written) × In w c.bundle.writes × (m ≡ written_met c w)
-start_from c m i =
-    let q = map-In (written_met c) m (sorted_by (λ (w : Written). w.ino) c.bundle.writes) i in
-    (q.0, sorted_in (λ (w : Written). w.ino) q.0 c.bundle.writes q.1, q.2)
+start_from c m i = search (arith, map-In, sorted_in)
 
 pub start_to : (c : Case) (w : Written) → In w c.bundle.writes → In (written_met c w) (written_files c)
 start_to c w i =
     In-map (written_met c) w (sorted_by (λ (w : Written). w.ino) c.bundle.writes) (in_sorted (λ (w : Written). w.ino) w c.bundle.writes i)
 
 pub start_number : (c : Case) (n : ℕ) → In n (numbers (written_files c)) → In n (map (λ (w : Written). w.ino) c.bundle.writes)
-start_number c n i =
-    let m = map-In (λ (x : Met). x.ino) n (written_files c) i in
-    let w = start_from c m.0 m.1 in
-    subst (λ k. In k (map (λ (w : Written). w.ino) c.bundle.writes)) (sym (m.2 ∙ ap (λ (x : Met). x.ino) w.2 ∙ written_ino c w.0)) (In-map (λ (x : Written). x.ino) w.0 c.bundle.writes w.1)
+start_number c n i = search (arith, map-In, start_from, written_ino, In-map)
 
 pub number_start : (c : Case) (n : ℕ) → In n (map (λ (w : Written). w.ino) c.bundle.writes) → In n (numbers (written_files c))
-number_start c n i =
-    let w = map-In (λ (x : Written). x.ino) n c.bundle.writes i in
-    subst (λ k. In k (numbers (written_files c))) (written_ino c w.0 ∙ sym w.2) (In-map (λ (x : Met). x.ino) (written_met c w.0) (written_files c) (start_to c w.0 w.1))
+number_start c n i = search (arith, map-In, written_ino, In-map, start_to)
 
 pub start_judged : (c : Case) (m : Met) → In m (written_files c) → In m (judged_files c)
 unfolding judged_files
@@ -70,11 +63,7 @@ new_entry c x e i =
     let q = filter-In (λ (e : Met). is_among e.ino c.bundle.numbers) e (entries_in c x) i in (q.0, is_among-In e.ino c.bundle.numbers q.1)
 
 pub among_alike : (n : ℕ) (xs ys : List ℕ) → (In n xs → In n ys) → (In n ys → In n xs) → is_among n xs ≡ is_among n ys
-among_alike n xs ys to from =
-    elim (cases_Bool (is_among n xs)) [
-      | inl t ↦ t ∙ sym (In-is_among n ys (to (is_among-In n xs t)))
-      | inr f ↦ f ∙ sym (false_from_ne_true (is_among n ys) (λ t. false≢true (sym f ∙ In-is_among n xs (from (is_among-In n ys t)))))
-    ]
+among_alike n xs ys to from = search (arith, cases_Bool, In-is_among, is_among-In, false_from_ne_true, false≢true)
 
 -- ---- one case beside another
 
@@ -116,10 +105,7 @@ module _ {X : Type 0} (key : X → ℕ) where
 
   inserted-first : (x : X) (ys : List X) → Above x ys → inserted_by key x ys ≡ x ∷ ys
   inserted-first x [] h = refl
-  inserted-first x (y ∷ ys) h =
-      let l : key x ≤ key y = h y (inl refl) in
-      let t : leb (key x) (key y) ≡ true = grind (arith, nat_tests) in
-      ap (λ b. cond b (x ∷ (y ∷ ys)) (y ∷ inserted_by key x ys)) t
+  inserted-first x (y ∷ ys) h = search (arith, nat_tests)
 
   inserted-above : (w x : X) (ys : List X) → key w ≤ key x → Above w ys → Above w (inserted_by key x ys)
   inserted-above w x [] l h = λ y i. elim i [ inl e ↦ subst (λ z. key w ≤ key z) (sym e) l | inr no' ↦ absurd no' ]

@@ -1,5 +1,5 @@
 -- What leases show holds through the steps of others.
-use Rattle.std.proofs.Common.{◌≡◌, ℕ, true, false, ◌&&◌, eqb, [], ◌∷◌, map, Option, Some, None, sym, refl, ap, ◌∙◌, subst, inl, inr}
+use Rattle.std.proofs.Common.{◌≡◌, ℕ, false, [], ◌∷◌, map, Option, Some, None, sym, refl, ap, ◌∙◌, subst, inl, inr, arith}
 use Rattle.std.proofs.lemmas.Bool.{and_parts, eqb-true}
 use Rattle.trio_rights.specs.Row.{Row}
 use Rattle.trio_lists.specs.Lists.{In}
@@ -10,14 +10,13 @@ use Rattle.trio_nodes.specs.declared.entry.Entry.{Entry}
 use Rattle.trio_nodes.specs.declared.grant.GrantKind.{GrantKind}
 use Rattle.trio_nodes.specs.declared.grant.GrantKind.TheVariants.{Write, Hold}
 use Rattle.trio_nodes.specs.declared.node.Node.{Node}
-use Rattle.trio_nodes.specs.GrantKinds.{is_read, is_write}
+use Rattle.trio_nodes.specs.GrantKinds.{is_read}
 use Rattle.trio_nodes.specs.Legal.{Past}
 use Rattle.trio_nodes.specs.Nodes.{Nodes, node_at}
 use Rattle.trio_nodes.specs.Standing.{Standing}
 use Rattle.trio_nodes.specs.Tree.{IsTree}
 use Rattle.trio_onetree.proofs.Children.{one_node}
 use Rattle.trio_state.specs.Given.{GivenEvent, HasGrant}
-use Rattle.trio_state.specs.Grants.{has_parent_grant}
 use Rattle.trio_state.specs.Kept.{Kept}
 use Rattle.trio_state.specs.State.{OpenGrant, State, settled, creds_of}
 use Rattle.trio_state.specs.Step.{Event, Grant, Allot, Back, Release, Settle, SetMode, CtlAnswer, Step}
@@ -49,12 +48,7 @@ module _ (s : State) (k : Kept s) where
   -- a library with a hold has a write grant on the directory
   pub parent_grant : (g : OpenGrant) (r : Row) → In g s.open_grants → g.kind ≡ Hold → row_at s.home g.ino ≡ Some r
       → (p : OpenGrant) × In p s.open_grants × (p.lib ≡ g.lib) × (p.ino ≡ r.parent) × (p.kind ≡ Write)
-  parent_grant g r i kind row =
-      let has : has_parent_grant s g.lib (Some r) ≡ true = ap (has_parent_grant s g.lib) (sym row) ∙ (k.held g i kind).0 in
-      let p = list_any-In (λ (x : OpenGrant). eqb x.lib g.lib && eqb x.ino r.parent && is_write x.kind) s.open_grants has in
-      let a = and_parts (eqb p.0.lib g.lib && eqb p.0.ino r.parent) (is_write p.0.kind) p.2 in
-      let b = and_parts (eqb p.0.lib g.lib) (eqb p.0.ino r.parent) a.0 in
-      (p.0, p.1, eqb-true p.0.lib g.lib b.0, eqb-true p.0.ino r.parent b.1, write_is p.0.kind a.1)
+  parent_grant g r i kind row = search (arith, list_any-In, and_parts, eqb-true, write_is)
 
   -- the file of an open grant has a node
   pub live_node : (g : OpenGrant) → In g s.open_grants → (r : Row) × (row_at s.home g.ino ≡ Some r) × (node_at (nodes_of s) g.ino ≡ Some (node_of (settled s) g.ino (writer_of s g.ino) r))
@@ -126,12 +120,7 @@ standing_then s s' lib n l h =
 
 -- a change of mode leaves the place
 moded_place : (s : State) (event : Event) (n : ℕ) (r : Row) (after : Option Row) → IsModeSet s event n r after → (q : Row) × (after ≡ Some q) × (q.parent ≡ r.parent) × (q.page ≡ r.page) × (q.slot ≡ r.slot)
-moded_place s (SetMode lib ino mode) n r after m = (record r { mode = record { 0 = mode } }, m.1, refl, refl, refl)
-moded_place s (Grant lib ino kind) n r after m = absurd m
-moded_place s (Allot lib pages numbers) n r after m = absurd m
-moded_place s (Back lib ino) n r after m = absurd m
-moded_place s (Release lib b) n r after m = absurd m
-moded_place s (Settle lib b) n r after m = absurd m
+moded_place s event n r after m = search arith
 
 unread : (kind : GrantKind) → kind ≡ Write → is_read kind ≡ false
 unread kind e = ap is_read e
@@ -140,12 +129,7 @@ module _ (s : State) (k : Kept s) (event : Event) (answer : CtlAnswer) (s' : Sta
     (lib : ℕ) (apart : library_of event ≡ lib → ⊥) where
   -- nobody else holds what lies in a directory that is lent
   not_held : (n : ℕ) (r : Row) → row_at s.home n ≡ Some r → HasStanding (map standing_of s.open_grants) lib r.parent → HasGrant s (library_of event) n Hold → ⊥
-  not_held n r row mine held =
-      let p = parent_grant s k held.grant r held.is_open held.kind (ap (row_at s.home) held.ino ∙ row) in
-      let g = map-In standing_of mine.grant s.open_grants mine.among in
-      let on : g.0.ino ≡ r.parent = ap (λ (x : Standing). x.ino) (sym g.2) ∙ mine.on in
-      let same : p.0 ≡ g.0 = alone s.open_grants p.0 g.0 k.apart p.1 g.1 (unread p.0.kind p.4) (p.3 ∙ sym on) in
-      apart (sym held.lib ∙ sym p.2 ∙ ap (λ (x : OpenGrant). x.lib) same ∙ ap (λ (x : Standing). x.lib) (sym g.2) ∙ mine.of)
+  not_held n r row mine held = search (arith, parent_grant, map-In, alone, unread)
 
   places_then : (sizes : Sizes) (leases : Leases) → AllStand (map standing_of s.open_grants) lib leases → HasPlaces sizes leases s.home.rows → HasPlaces sizes leases s'.home.rows
   places_then sizes leases stand places f l i j =
@@ -156,9 +140,7 @@ module _ (s : State) (k : Kept s) (event : Event) (answer : CtlAnswer) (s' : Sta
         | inr goes ↦
             elim goes [
               | inl held ↦ absurd (not_held n r.0 r.1 (subst (HasStanding (map standing_of s.open_grants) lib) (sym r.2) (stand.files f i)) held.0)
-              | inr moded ↦
-                  let q = moded_place s event n r.0 (row_at s'.home n) moded in
-                  place_from f.ino l.page l.slot (row_at s'.home n) q.0 q.1 (q.2 ∙ r.2) (q.3 ∙ r.3) (q.4 ∙ r.4)
+              | inr moded ↦ search (arith, moded_place, place_from)
             ]
       ]
 

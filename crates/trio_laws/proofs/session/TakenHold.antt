@@ -1,5 +1,5 @@
 -- A hold is taken on a file that a directory in hand lists: the same nodes are shown.
-use Rattle.std.proofs.Common.{◌≡◌, ℕ, Bool, true, false, cond, not, ◌&&◌, ◌||◌, eqb, List, [], ◌∷◌, ◌++◌, Option, Some, None, sym, refl, ap, ◌∙◌, subst, inl, inr, ◌⊎◌}
+use Rattle.std.proofs.Common.{◌≡◌, ℕ, Bool, true, false, cond, not, ◌&&◌, ◌||◌, eqb, List, [], ◌∷◌, ◌++◌, Option, Some, None, sym, refl, ap, ◌∙◌, subst, inl, inr, ◌⊎◌, arith}
 use Rattle.std.specs.Prelude.{map, is_some}
 use Rattle.std.specs.Option.{option_map, option_map_or}
 use Rattle.std.specs.Str.{bytes_eq}
@@ -81,9 +81,7 @@ module _ (desk : DeskSeen) (h : InHand) (calls : List Done) (k : HoldParts) (o :
   lent2 = map held_by h.parcel.holds ++ held_by k ∷ []
 
   case_is : (rows : List (Option Row)) → case_in_hand desk rows (with_hold h k) ≡ case_with desk.sizes desk.creds rows more lent2
-  case_is rows =
-      let by : List ℕ → List Held → Case = λ n l. case_with desk.sizes desk.creds rows (record { writes = hand.writes; holds = n; pages = hand.pages; numbers = hand.numbers }) l in
-      ap (λ n. by n (map held_by (h.parcel.holds ++ k ∷ []))) (map-append (λ (x : HoldParts). x.ino) h.parcel.holds (k ∷ [])) ∙ ap (by (hand.holds ++ k.ino ∷ [])) (map-append held_by h.parcel.holds (k ∷ []))
+  case_is rows = search (arith, map-append)
 
   less : (nodes : Nodes) (rows : List (Option Row)) → ArePossible desk (with_hold h k).parcel h.back nodes rows → ArePossible desk h.parcel h.back nodes rows
   less = possible_with_less desk h.parcel (with_hold h k).parcel h.back h.back (λ f i. i) (λ x i. In-left x h.parcel.holds (k ∷ []) i) (λ n i. i)
@@ -172,24 +170,10 @@ module _ (desk : DeskSeen) (h : InHand) (calls : List Done) (k : HoldParts) (o :
     held_more n t = In-is_among n more.holds (In-left n hand.holds (k.ino ∷ []) (is_among-In n hand.holds t))
 
     held_same : (n : ℕ) → (n ≡ k.ino → ⊥) → is_among n more.holds ≡ is_among n hand.holds
-    held_same n d =
-        is_among-push n k.ino hand.holds ∙ ap (λ t. is_among n hand.holds || t) (ne_eqb k.ino n (λ e. d (sym e))) ∙ or-none (is_among n hand.holds)
-      where
-        or-none : (t : Bool) → (t || false) ≡ t
-        or-none true = refl
-        or-none false = refl
+    held_same n d = search (arith, is_among-push, ne_eqb)
 
     own_more : (e : Met) → entry_is_own c e ≡ true → entry_is_own c2 e ≡ true
-    own_more e t =
-        elim (or_cases (is_kept c e || is_among e.ino hand.holds) (is_among e.ino hand.numbers) t) [
-          | inr new ↦ or_right (is_kept c2 e || is_among e.ino more.holds) (is_among e.ino hand.numbers) new
-          | inl first ↦
-              or_left (is_kept c2 e || is_among e.ino more.holds) (is_among e.ino hand.numbers)
-              (elim (or_cases (is_kept c e) (is_among e.ino hand.holds) first) [
-                | inl kept ↦ or_left (is_kept c2 e) (is_among e.ino more.holds) kept
-                | inr held ↦ or_right (is_kept c2 e) (is_among e.ino more.holds) (held_more e.ino held)
-              ])
-        ]
+    own_more e t = search (arith, or_cases, or_right, or_left, held_more)
 
     rights_more : (e : Met) → entry_is_own c e ≡ true → entry_keeps_rights c e ≡ true → entry_keeps_rights c2 e ≡ true
     rights_more e q t = by (is_kept c e) refl t

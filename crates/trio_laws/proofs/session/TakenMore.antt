@@ -1,5 +1,5 @@
 -- Pages, numbers and read leases are taken: the same nodes are shown. And a session begins in order.
-use Rattle.std.proofs.Common.{◌≡◌, ℕ, true, ◌||◌, List, [], ◌++◌, Option, Some, None, append_assoc, sym, refl, ap, ◌∙◌, subst, inl, inr}
+use Rattle.std.proofs.Common.{◌≡◌, ℕ, true, ◌||◌, List, [], ◌++◌, Option, Some, None, append_assoc, sym, refl, ap, ◌∙◌, subst, inl, inr, arith}
 use Rattle.std.specs.Prelude.{map, is_some}
 use Rattle.std.specs.List.{filter, flat_map}
 use Rattle.std.specs.Option.{option_map}
@@ -8,7 +8,7 @@ use Rattle.std.proofs.lemmas.List.{map-append}
 use Rattle.std.proofs.lemmas.Simd.{map-map}
 use Rattle.trio_rights.specs.Row.{Row, row_in}
 use Rattle.trio_rights.specs.Bundle.{Bundle, Written, bundle_pages, bundle_sheets}
-use Rattle.trio_rights.specs.Sheets.{Sheet, sheet_numbers}
+use Rattle.trio_rights.specs.Sheets.{Sheet}
 use Rattle.trio_lists.specs.Lists.{In, is_among, are_new}
 use Rattle.trio_lists.proofs.Members.{In-flat, In-left, In-right, In-cases, In-is_among, flat_map-same, is_among-In}
 use Rattle.trio_lists.proofs.Filters.{filter-same}
@@ -16,12 +16,11 @@ use Rattle.trio_lists.proofs.Marked.{are_new-append}
 use Rattle.trio_layout.specs.Survey.{Met, numbers, pages_in}
 use Rattle.trio_layout.specs.Case.{Case, Held, bundle_core}
 use Rattle.trio_layout.specs.Within.{file_within}
-use Rattle.trio_layout.specs.JudgedFiles.{entries_in, judged_entries, judged_files, new_entries, written_files, judged_pages, pages_within}
+use Rattle.trio_layout.specs.JudgedFiles.{entries_in, judged_entries, judged_files, new_entries, judged_pages, pages_within}
 use Rattle.trio_layout.specs.Listing.{is_kept}
 use Rattle.trio_layout.specs.Rules.{entry_is_own}
 use Rattle.trio_lease.specs.Views.{fresh_sheet}
 use Rattle.trio_lease.specs.declared.fresh.Allotted.{Allotted}
-use Rattle.trio_lease.specs.declared.parts.InoParts.{InoParts}
 use Rattle.trio_nodes.specs.declared.node.Node.{Node}
 use Rattle.trio_nodes.specs.Nodes.{Nodes, node_at}
 use Rattle.trio_surveys.proofs.Images.{some_of}
@@ -51,18 +50,7 @@ takes_reads desk h more o = record {
 }
 
 pub nothing_is_in_order : NothingIsInOrder
-nothing_is_in_order desk back = record {
-  among = λ nodes rows p. record {
-    same = p.same;
-    written = λ n i. absurd i;
-    held = λ n i. absurd i;
-    apart = λ n i j. i;
-    closed = λ n r i e. absurd i;
-    new = λ n i. absurd i;
-  };
-  pages = refl;
-  files = refl;
-}
+nothing_is_in_order desk back = search arith
 
 -- ---- allotments
 
@@ -84,18 +72,10 @@ module _ (desk : DeskSeen) (h : InHand) (given : Allotted) (o : IsInOrder desk h
   lent = map held_by h.parcel.holds
 
   pub bundle_is : bundle_of (with_allotment h given).parcel ≡ more
-  bundle_is =
-      let by : List Sheet → List ℕ → Bundle = λ p n. record { writes = hand.writes; holds = hand.holds; pages = p; numbers = n } in
-      ap (λ p. by p (map (λ (n : InoParts). n.no) (h.parcel.inodes ++ given.inodes.items))) (map-append fresh_sheet h.parcel.pages given.pages.items)
-      ∙ ap (by (hand.pages ++ map fresh_sheet given.pages.items)) (map-append (λ (n : InoParts). n.no) h.parcel.inodes given.inodes.items)
+  bundle_is = search (arith, map-append)
 
   less : (nodes : Nodes) (rows : List (Option Row)) → ArePossible desk (with_allotment h given).parcel h.back nodes rows → ArePossible desk h.parcel h.back nodes rows
-  less =
-      possible_with_less desk h.parcel (with_allotment h given).parcel h.back h.back (λ f i. i) (λ x i. i)
-      (λ n i. subst (λ l. In n l) (sym (map-append (λ (n : InoParts). n.no) h.parcel.inodes given.inodes.items)) (In-left n (ino_numbers h.parcel.inodes) numbers' i))
-
-  abbrev front : List Sheet
-  front = flat_map (λ (w : Written). w.index ++ w.blocks) hand.writes
+  less = search (arith, possible_with_less, map-append, In-left)
 
   sheets_are : bundle_sheets more ≡ bundle_sheets hand ++ map fresh_sheet given.pages.items
   sheets_are = sym (append_assoc (flat_map (λ (w : Written). w.index ++ w.blocks) hand.writes) hand.pages (map fresh_sheet given.pages.items))
@@ -107,16 +87,10 @@ module _ (desk : DeskSeen) (h : InHand) (given : Allotted) (o : IsInOrder desk h
   once = o.pages
 
   pages_once : are_new [] (bundle_pages more) ≡ true
-  pages_once =
-      ap (λ l. are_new [] (sheet_numbers l)) sheets_are
-      ∙ ap (are_new []) (map-append (λ (x : Sheet). x.page) (bundle_sheets hand) (map fresh_sheet given.pages.items) ∙ ap (λ l. bundle_pages hand ++ l) (map-map (λ (x : Sheet). x.page) fresh_sheet given.pages.items))
-      ∙ are_new-append [] (bundle_pages hand) (page_numbers given.pages.items)
-      ∙ and_from (are_new [] (bundle_pages hand)) (are_new (bundle_pages hand) (page_numbers given.pages.items)) once new
+  pages_once = search (arith, sheets_are, map-append, map-map, are_new-append, and_from, once)
 
   dead : (nodes : Nodes) (rows : List (Option Row)) → ArePossible desk (with_allotment h given).parcel h.back nodes rows → (n : ℕ) → In n numbers' → row_in rows n ≡ None
-  dead nodes rows possible n i =
-      no_row (row_in rows n) (node_at nodes n) (possible.same n)
-      (possible.none n (subst (λ l. In n l) (sym (map-append (λ (n : InoParts). n.no) h.parcel.inodes given.inodes.items)) (In-right n (ino_numbers h.parcel.inodes) numbers' i)))
+  dead nodes rows possible n i = search (arith, no_row, map-append, In-right)
 
   module _ (nodes nodes' : Nodes) (rows : List (Option Row)) (may : MayShow desk h (with_allotment h given) nodes nodes' rows) where
     abbrev c : Case
@@ -160,9 +134,7 @@ module _ (desk : DeskSeen) (h : InHand) (given : Allotted) (o : IsInOrder desk h
         ∙ filter-same (λ (e : Met). is_among e.ino more.numbers) (λ (e : Met). is_among e.ino hand.numbers) (entries_in c m) (λ e j. new_same e (In-flat (entries_in c) m e (judged_files c) i j))
 
     share : Share desk.sizes desk.creds desk.creds rows rows hand more lent lent
-    share =
-        shared desk.sizes desk.creds desk.creds rows rows hand more lent lent
-        (flat_map-same (new_entries c2) (new_entries c) (written_files c) (λ m i. kids_again m (start_judged c m i))) (λ n i. refl) (λ m i l. kids_again m i)
+    share = search (arith, shared, flat_map-same, kids_again, start_judged)
 
     pub judged_same : judged_files c2 ≡ judged_files c
     judged_same = share.new ∙ sym share.old
@@ -184,13 +156,7 @@ module _ (desk : DeskSeen) (h : InHand) (given : Allotted) (o : IsInOrder desk h
     Old m = In m (judged_files c)
 
     own_more : (e : Met) → entry_is_own c e ≡ true → entry_is_own c2 e ≡ true
-    own_more e t =
-        elim (or_cases (is_kept c e || is_among e.ino hand.holds) (is_among e.ino hand.numbers) t) [
-          | inl first ↦ or_left (is_kept c2 e || is_among e.ino hand.holds) (is_among e.ino more.numbers) first
-          | inr n ↦
-              or_right (is_kept c2 e || is_among e.ino hand.holds) (is_among e.ino more.numbers)
-              (In-is_among e.ino more.numbers (In-left e.ino hand.numbers numbers' (is_among-In e.ino hand.numbers n)))
-        ]
+    own_more e t = search (arith, or_cases, or_left, or_right, In-is_among, In-left, is_among-In)
 
     further : IsFurther desk.sizes desk.creds rows hand more lent lent New Old
     further = record {

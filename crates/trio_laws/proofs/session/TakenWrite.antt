@@ -1,5 +1,5 @@
 -- A write lease is taken, untouched: the same nodes are shown.
-use Rattle.std.proofs.Common.{◌≡◌, ℕ, Bool, true, false, cond, ◌&&◌, ◌||◌, eqb, List, [], ◌∷◌, ◌++◌, Option, Some, None, Result, Ok, Err, sym, refl, ap, ◌∙◌, subst, inl, inr, ◌⊎◌}
+use Rattle.std.proofs.Common.{◌≡◌, ℕ, Bool, true, false, cond, eqb, List, [], ◌∷◌, ◌++◌, Option, Some, None, Result, Ok, Err, sym, refl, ap, ◌∙◌, subst, inl, inr, ◌⊎◌, arith}
 use Rattle.std.specs.Prelude.{map, is_some}
 use Rattle.std.specs.List.{filter, find, flat_map}
 use Rattle.std.specs.Option.{option_map}
@@ -18,8 +18,6 @@ use Rattle.trio_lists.proofs.Filters.{filter-none, find-In, In-find, some_one}
 use Rattle.trio_lists.proofs.Marked.{are_new-append}
 use Rattle.trio_lists.proofs.Gathered.{new_beside}
 use Rattle.trio_layout.specs.Allowed.{has_kind}
-use Rattle.trio_layout.specs.declared.body.Body.{Body}
-use Rattle.trio_layout.specs.Body.{body_at}
 use Rattle.trio_layout.specs.Core.{Location}
 use Rattle.trio_layout.specs.Entries.{Listed}
 use Rattle.trio_layout.specs.Proposed.{is_place_of}
@@ -28,15 +26,15 @@ use Rattle.trio_layout.specs.Case.{Case, Held, bundle_core}
 use Rattle.trio_layout.specs.Within.{file_within}
 use Rattle.trio_layout.specs.JudgedFiles.{entries_in, judged_files, new_entries, written_files, written_met, judged_pages, pages_within}
 use Rattle.trio_layout.specs.Listing.{is_kept}
-use Rattle.trio_layout.specs.Rules.{file_keeps_rights, has_rights}
+use Rattle.trio_layout.specs.Rules.{file_keeps_rights}
 use Rattle.trio_lease.specs.Shown.{Shown, LentFile}
-use Rattle.trio_lease.specs.Views.{lent_sheet, written_in}
+use Rattle.trio_lease.specs.Views.{written_in}
 use Rattle.trio_lease.specs.declared.parts.HoldParts.{HoldParts}
 use Rattle.trio_nodes.specs.declared.node.Node.{Node}
 use Rattle.trio_nodes.specs.Nodes.{Nodes, node_at, entry_in}
 use Rattle.trio_surveys.proofs.OwnFiles.{place_parts}
 use Rattle.trio_desk.specs.Contents.{Rights, bytes_shown, entries_shown, rights_in, rights_of}
-use Rattle.trio_desk.specs.Agrees.{HasContent, HasFile, Said, node_says, row_says}
+use Rattle.trio_desk.specs.Agrees.{HasContent, HasFile, node_says, row_says}
 use Rattle.trio_desk.specs.Out.{file_numbers, numbers_of_file}
 use Rattle.trio_desk.specs.Call.{DeskSeen}
 use Rattle.trio_desk.specs.Among.{IsAmong, IsForeign, written_numbers}
@@ -55,9 +53,6 @@ use Rattle.trio_laws.proofs.session.Ruled.{IsFurther, IsNewFile, bytes_new, byte
 use Rattle.trio_laws.proofs.session.Spares.{judged_own, no_bytes, shown_spares}
 use Rattle.trio_laws.proofs.session.Starts.{Share, among_alike, judged_once, number_start, shared, sorted-cut, start_from, start_judged, start_number, start_to}
 
-flat_sheets : Written → List Sheet
-flat_sheets w = w.index ++ w.blocks
-
 module _ (desk : DeskSeen) (h : InHand) (f : LentFile) (o : IsInOrder desk h) (u : IsUntouched desk h f) where
   abbrev b : Bundle
   b = bundle_of h.parcel
@@ -69,18 +64,14 @@ module _ (desk : DeskSeen) (h : InHand) (f : LentFile) (o : IsInOrder desk h) (u
   b2 = record b { writes = b.writes ++ w ∷ [] }
 
   pub bundle_is : bundle_of (with_write h f).parcel ≡ b2
-  bundle_is =
-      ap (λ (ws : List Written). record { writes = ws; holds = b.holds; pages = b.pages; numbers = b.numbers })
-      (map-append (λ (x : LentFile). written_in x.stands) h.parcel.writes (f ∷ []) ∙ ap (λ (x : Shown). b.writes ++ written_in x ∷ []) u.as_lent)
+  bundle_is = search (arith, map-append)
 
   -- ---- what is possible
 
   files_more : (x : Shown) → In x (lent_files h.parcel.writes ++ h.back) → In x (lent_files (h.parcel.writes ++ f ∷ []) ++ h.back)
   files_more x i =
       elim (In-cases x (lent_files h.parcel.writes) h.back i) [
-        | inl a ↦
-            In-left x (lent_files (h.parcel.writes ++ f ∷ [])) h.back
-            (subst (λ l. In x l) (sym (map-append (λ (y : LentFile). y.lent) h.parcel.writes (f ∷ []))) (In-left x (lent_files h.parcel.writes) (f.lent ∷ []) a))
+        | inl a ↦ search (arith, In-left, map-append)
         | inr r ↦ In-right x (lent_files (h.parcel.writes ++ f ∷ [])) h.back r
       ]
 
@@ -95,10 +86,7 @@ module _ (desk : DeskSeen) (h : InHand) (f : LentFile) (o : IsInOrder desk h) (u
   -- ---- pages
 
   sheets_are : bundle_sheets b2 ≡ (flat_map (λ (x : Written). x.index ++ x.blocks) b.writes ++ lent_sheets f.lent) ++ b.pages
-  sheets_are =
-      ap (λ l. l ++ b.pages)
-      (flat_map-append (λ (x : Written). x.index ++ x.blocks) b.writes (w ∷ [])
-      ∙ ap (λ l. flat_map (λ (x : Written). x.index ++ x.blocks) b.writes ++ l) (append-nil (w.index ++ w.blocks) ∙ sym (map-append lent_sheet f.lent.index f.lent.blocks)))
+  sheets_are = search (arith, flat_map-append, append-nil, map-append)
 
   abbrev front : List Sheet
   front = flat_map (λ (x : Written). x.index ++ x.blocks) b.writes
@@ -142,22 +130,9 @@ module _ (desk : DeskSeen) (h : InHand) (f : LentFile) (o : IsInOrder desk h) (u
       (hand_files_once desk h o)
       (new_beside (map (λ (x : Written). x.ino) b.writes) (w.ino ∷ []) refl (λ p i j. elim i [ inl e ↦ unwritten (subst (λ n. In n (map (λ (x : Written). x.ino) b.writes)) e j) | inr no' ↦ no' ]))
 
--- ---- small facts of options
-
-abbrev pub name_kind : Node → List ℕ × Kind
-name_kind x = (x.name, x.kind)
-
 -- a node that a directory lists, by what it lists
 pub node_in : (d : ℕ) (p : Option Node) (x : Node) → x.parent ≡ d → entry_in d (Some x) ≡ entry_in d p → (y : Node) × (p ≡ Some y) × (y.parent ≡ d)
-node_in d p x at e = by p (sym (ap (λ t. cond t (Some (name_kind x)) None) (eq-eqb x.parent d at)) ∙ e)
-  where
-    step : (y : Node) (v : Bool) → eqb y.parent d ≡ v → Some (name_kind x) ≡ cond v (Some (name_kind y)) None → (z : Node) × (Some y ≡ Some z) × (z.parent ≡ d)
-    step y true is j = (y, refl, eqb-true y.parent d is)
-    step y false is j = absurd (let wrong : Some (name_kind x) ≡ None = j in cc wrong)
-
-    by : (q : Option Node) → Some (name_kind x) ≡ entry_in d q → (y : Node) × (q ≡ Some y) × (y.parent ≡ d)
-    by None k = absurd (let wrong : Some (name_kind x) ≡ None = k in cc wrong)
-    by (Some y) k = step y (eqb y.parent d) refl k
+node_in d p x at e = search (arith, eq-eqb, eqb-true)
 
 pub child_parent : (d : ℕ) (r : Result FileRead Location) (e : Met) → In e (children_in plain d r) → e.parent ≡ d
 child_parent d (Err place) e i = absurd i
@@ -168,9 +143,7 @@ find-skip p [] x e = ap (λ t. cond t (Some x) None) e
 find-skip p (y ∷ ys) x e = ap (λ l. cond (p y) (Some y) l) (find-skip p ys x e)
 
 pub placed_there : (g : Naming) (x : Node) → g.directory ≡ x.parent → g.listed.entry.name ≡ x.name → placed g x ≡ x
-placed_there g x at name =
-    let by : ℕ → List ℕ → Node = λ d m. record x { parent = d; name = m } in
-    ap (λ d. by d g.listed.entry.name) at ∙ ap (by x.parent) name
+placed_there g x at name = search arith
 
 module _ (desk : DeskSeen) (h : InHand) (f : LentFile) (o : IsInOrder desk h) (u : IsUntouched desk h f) (nodes nodes' : Nodes) (rows : List (Option Row)) (may : MayShow desk h (with_write h f) nodes nodes' rows) where
   abbrev hand : Bundle
@@ -219,11 +192,7 @@ module _ (desk : DeskSeen) (h : InHand) (f : LentFile) (o : IsInOrder desk h) (u
   foreign = (apart_written, u.unheld)
 
   judged_apart : (m : Met) → In m (judged_files c) → m.ino ≡ taken.ino → ⊥
-  judged_apart m i e =
-      elim (judged_own c m i) [
-        | inl j ↦ apart_written (subst (λ n. In n (written_numbers c)) e j)
-        | inr k ↦ new_dead c nodes nodes' p.tree may.tree a s taken.ino row.0 row.1 (subst (λ n. In n hand.numbers) e k)
-      ]
+  judged_apart m i e = search (arith, judged_own, apart_written, new_dead, p, a, row)
 
   -- ---- the file
 
@@ -352,18 +321,10 @@ module _ (desk : DeskSeen) (h : InHand) (f : LentFile) (o : IsInOrder desk h) (u
       subst (λ n. In n (bundle_pages more)) (sym k.2) (In-map (λ (x : Sheet). x.page) k.0 (bundle_sheets more) (lent_sub desk h f o u k.0 k.1))
 
   entry_kept : (e : Met) → In e (met_entries M F) → is_kept c2 e ≡ true
-  entry_kept e i =
-      let q = met_listed e i in
-      subst (λ z. is_kept c2 z ≡ true) (sym q.2) (ap (λ d. is_place_of d q.0.page q.0.slot (row_in rows q.0.entry.ino)) number ∙ place q.0 q.1)
+  entry_kept e i = search (arith, met_listed, number, place)
 
   entry_kind : (e : Met) → In e (met_entries M F) → has_kind e.kind (row_in rows e.ino) ≡ true
-  entry_kind e i =
-      let q = met_listed e i in
-      let r = entry_row q.0 q.1 in
-      let x = listed_node q.0 q.1 in
-      let same : row_says r.0 ≡ node_says x.0 = said_alike rows nodes q.0.entry.ino r.0 x.0 a.same r.1 x.1 in
-      let kind : q.0.entry.kind ≡ r.0.kind = sym (ap (λ (z : Rights). z.kind) x.4) ∙ sym (ap (λ (z : Said). z.rights.kind) same) in
-      subst (λ (z : Met). has_kind z.kind (row_in rows z.ino) ≡ true) (sym q.2) (ap (has_kind q.0.entry.kind) r.1 ∙ same_kind_from q.0.entry.kind r.0.kind kind)
+  entry_kind e i = search (arith, met_listed, entry_row, listed_node, said_alike, a, same_kind_from)
 
   entries_once : are_new [] (numbers (met_entries M F)) ≡ true
   entries_once =
@@ -376,17 +337,7 @@ module _ (desk : DeskSeen) (h : InHand) (f : LentFile) (o : IsInOrder desk h) (u
       let r = entry_row l k in
       let parent : e.parent ≡ x.ino = child_parent x.ino (file_within (bundle_core c) x) e j in
       let q = entry_own desk.sizes desk.creds rows hand more lent lent nodes nodes' s e (In-flat (entries_in c) x e (judged_files c) i j) in
-      elim (or_cases (is_kept c e || is_among e.ino hand.holds) (is_among e.ino hand.numbers) q) [
-        | inl first ↦
-            elim (or_cases (is_kept c e) (is_among e.ino hand.holds) first) [
-              | inl kept ↦
-                  let t = place_parts e.parent e.page e.slot (row_in rows e.ino) kept in
-                  let one : t.0 ≡ r.0 = some_one (row_in rows e.ino) t.0 r.0 t.1 (ap (row_in rows) (sym same) ∙ r.1) in
-                  judged_apart x i (sym parent ∙ sym t.2 ∙ ap (λ (z : Row). z.parent) one ∙ r.2)
-              | inr held ↦ entry_unheld l k (subst (λ n. In n hand.holds) (sym same) (is_among-In e.ino hand.holds held))
-            ]
-        | inr new ↦ entry_new l k (subst (λ n. In n hand.numbers) (sym same) (is_among-In e.ino hand.numbers new))
-      ]
+      search (arith, or_cases, first, place_parts, some_one, judged_apart, entry_unheld, is_among-In, entry_new)
 
   file_written : is_written more M.ino ≡ true
   file_written =
@@ -394,19 +345,7 @@ module _ (desk : DeskSeen) (h : InHand) (f : LentFile) (o : IsInOrder desk h) (u
       ap (is_written more) number ∙ ap is_some r.1
 
   file_rights : file_keeps_rights c2 M (Ok F) ≡ true
-  file_rights =
-      let r : Row = row.0 in
-      let same : (row_says r).rights ≡ rights_in f.lent.kind f.lent.body = ap (λ (z : Said). z.rights) said ∙ node.2 in
-      let body : F.body ≡ body_at f.lent.body = lent_file-body desk.sizes f.lent u.well in
-      let mode : r.mode.0 ≡ F.body.mode.0 = ap (λ (z : Rights). z.mode.0) same ∙ sym (ap (λ (z : Body). z.mode.0) body) in
-      let uid : r.uid ≡ F.body.uid = ap (λ (z : Rights). z.uid) same ∙ sym (ap (λ (z : Body). z.uid) body) in
-      let gid : r.gid ≡ F.body.gid = ap (λ (z : Rights). z.gid) same ∙ sym (ap (λ (z : Body). z.gid) body) in
-      let there : row_in rows M.ino ≡ Some r = ap (row_in rows) number ∙ row.1 in
-      ap (λ t. cond t (has_rights (row_in rows M.ino) F.body) (eqb F.body.uid desk.creds.uid && eqb F.body.gid desk.creds.gid)) file_written
-      ∙ ap (λ q. has_rights q F.body) there
-      ∙ and_from (eqb r.mode.0 F.body.mode.0 && eqb r.uid F.body.uid) (eqb r.gid F.body.gid)
-      (and_from (eqb r.mode.0 F.body.mode.0) (eqb r.uid F.body.uid) (eq-eqb r.mode.0 F.body.mode.0 mode) (eq-eqb r.uid F.body.uid uid))
-      (eq-eqb r.gid F.body.gid gid)
+  file_rights = search (arith, row, said, node, lent_file-body, number, file_written, and_from, eq-eqb)
 
   file_new : IsNewFile desk.sizes desk.creds rows hand more lent lent New Old M
   file_new = record {
@@ -480,14 +419,7 @@ module _ (desk : DeskSeen) (h : InHand) (f : LentFile) (o : IsInOrder desk h) (u
           ap (λ l. Some (record y { bytes = l })) (fit y refl) ∙ ap (λ r. Some (with_bytes r y)) (sym e)
 
   left_bytes : (g : Option Naming) (y : Node) → node_left c taken.ino g (Some node.0) ≡ Some y → y.bytes ≡ node.0.bytes
-  left_bytes (Some g) y e =
-      let t : Some (placed g node.0) ≡ Some y = e in
-      let same : placed g node.0 ≡ y = cc t in sym (ap (λ (x : Node). x.bytes) same)
-  left_bytes None y e = by (is_among taken.ino hand.holds) e
-    where
-      by : (t : Bool) → cond t None (Some node.0) ≡ Some y → y.bytes ≡ node.0.bytes
-      by true e = absurd (let wrong : None ≡ Some y = e in cc wrong)
-      by false e = let same : node.0 ≡ y = (let t : Some node.0 ≡ Some y = e in cc t) in sym (ap (λ (x : Node). x.bytes) same)
+  left_bytes g y e = search (arith, node)
 
   named : (n : ℕ) → ((l : Listed) × In l F.entries × (l.entry.ino ≡ n)) ⊎ ((l : Listed) → In l F.entries → l.entry.ino ≡ n → ⊥)
   named n = by (find (λ (l : Listed). eqb l.entry.ino n) F.entries) refl
@@ -602,9 +534,7 @@ module _ (desk : DeskSeen) (h : InHand) (f : LentFile) (o : IsInOrder desk h) (u
 
 -- a live file has a row
 pub row_there : (desk : DeskSeen) (h : InHand) (nodes : Nodes) (rows : List (Option Row)) (n : ℕ) (rights : Rights) → ArePossible desk h.parcel h.back nodes rows → option_map rights_of (node_at nodes n) ≡ Some rights → (r : Row) × (row_in rows n ≡ Some r)
-row_there desk h nodes rows n rights p e =
-    let x = mapped rights_of (node_at nodes n) rights e in
-    let q = mapped row_says (row_in rows n) (node_says x.0) (p.same n ∙ ap (option_map node_says) x.1) in (q.0, q.1)
+row_there desk h nodes rows n rights p e = search (arith, p, mapped)
 
 module _ (desk : DeskSeen) (h : InHand) (f : LentFile) (o : IsInOrder desk h) (u : IsUntouched desk h f) where
   among_then : (nodes : Nodes) (rows : List (Option Row)) → ArePossible desk (with_write h f).parcel h.back nodes rows → IsAmong (case_in_hand desk rows (with_write h f)) nodes
