@@ -1,8 +1,9 @@
 //! Lent things by their numbers, in lists.
 
-ghost use Rattle.std.specs.Prelude.{◌≡◌, ◌+◌, ◌==◌, ◌≤◌, ◌++◌, ℕ, vec_capacity, vec_len};
+ghost use Rattle.std.specs.Prelude.{◌≡◌, ◌+◌, ◌==◌, ◌≤◌, ◌++◌, ℕ, map, vec_capacity, vec_len};
 ghost use Rattle.std.specs.List.{find, position};
 ghost use Rattle.std.specs.Option.{option_copied};
+ghost use Rattle.trio_lists.specs.Lists.{is_among};
 
 use crate::fresh::{FreshIno, FreshPage};
 use crate::hold::HoldLease;
@@ -94,6 +95,13 @@ pub fn thing_of<T: Lent>(things: &[T], number: u32) -> Option<&T>
     ensures { option_copied result ≡ find (λ x. T.number_of x == number) things.now }
 {
     things.iter().find(|thing| thing.number() == number)
+}
+
+/// Whether there is a thing of this number.
+pub fn has_one<T: Lent>(things: &[T], number: u32) -> bool
+    ensures { result ≡ is_among number (map T.number_of things.now) }
+{
+    thing_of(things, number).is_some()
 }
 
 /// Moves all things of a list to the end of another, which has room for them.

@@ -1,5 +1,0 @@
-use Rattle.std.proofs.Common.{vec_len}
-use Rattle.trio_raw.proofs.lent.let_go_all.Given as goal
-
-abbrev pub decreases-loop-thing : goal.decreases-loop-thing
-decreases-loop-thing g l = vec_len l.things
