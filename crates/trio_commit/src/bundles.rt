@@ -13,7 +13,8 @@ ghost use Rattle.trio_commit.specs.Listed.{written_pages};
 ghost use Rattle.trio_commit.specs.inner.Files.{IsWithinImage, file_sheets, lent_sheets, uncovered_sheets};
 
 use trio_allot::Allotments;
-use trio_lease::{Allotted, Bundle, BundleParts, HoldLease, LentPage, WriteLease, WriteParts};
+use trio_lease::things::let_go_all;
+use trio_lease::{Allotted, Bundle, BundleParts, LentPage, WriteLease, WriteParts};
 use trio_page::Home;
 use trio_rights::Kind;
 use trio_tables::Owners;
@@ -41,7 +42,7 @@ pub(crate) fn bring_home(
     } = bundle.parts();
     bring_files(home, owners, writes);
     allotments.put_back(home, Allotted { pages, inodes });
-    discard_holds(holds);
+    let_go_all(holds);
 }
 
 /// Brings home what no checkpoint covers of a bundle: the blocks of regular files,
@@ -63,7 +64,7 @@ pub(crate) fn bring_uncovered(home: &mut Home, allotments: &mut Allotments, bund
     } = bundle.parts();
     bring_uncovered_blocks(home, writes);
     allotments.put_back(home, Allotted { pages, inodes });
-    discard_holds(holds);
+    let_go_all(holds);
 }
 
 /// Brings all pages of written files home, file by file; they are nobody's then.
@@ -136,12 +137,4 @@ fn bring_pages(home: &mut Home, pages: Vec<LentPage>)
     for lent in pages {
         home.put(lent.no, lent.page);
     }
-}
-
-/// Lets the holds go.
-fn discard_holds(mut holds: Vec<HoldLease>) {
-    while let Some(hold) = holds.pop() {
-        hold.discard();
-    }
-    holds.destroy_empty();
 }

@@ -7,7 +7,6 @@ use Rattle.trio_rights.specs.declared.rights.LibNo.{LibNo}
 use Rattle.trio_rights.specs.declared.kind.Kind.{Kind}
 use Rattle.trio_lease.specs.declared.parts.LentPage.{LentPage}
 use Rattle.trio_lease.specs.declared.parts.WriteParts.{WriteParts}
-use Rattle.trio_lease.specs.declared.parts.ReadParts.{ReadParts}
 
 -- the library, the file's inode number and kind, the entry of the history that opened the grant, and the file's bytes: its body, its index pages in the order of the chain, and the pages that they list
 pub record Shown : Type 0 where
@@ -28,13 +27,9 @@ pub record LentFile : Type 0 where
 abbrev pub KeepsUntouched : LentFile → Type 0
 KeepsUntouched f = (p : LentPage) → In p f.stands.blocks → (p.touched ≡ true) ⊎ In p f.lent.blocks
 
--- what the parts of a write lease show
+-- what the parts of a lease show
 abbrev pub shown : WriteParts → Shown
 shown p = record { lib = p.lib; ino = p.ino; kind = p.kind; entry = p.entry; body = p.body; index = p.index.items; blocks = p.blocks.items }
-
--- what the parts of a read lease show
-abbrev pub shown_read : ReadParts → Shown
-shown_read p = record { lib = p.lib; ino = p.ino; kind = p.kind; entry = p.entry; body = p.body; index = p.index.items; blocks = p.blocks.items }
 
 -- the bytes of page i of the list; None past its end
 abbrev pub page_at : List LentPage → ℕ → Option (List ℕ)

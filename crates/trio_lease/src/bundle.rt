@@ -1,7 +1,6 @@
 //! Bundles.
 
-ghost use Rattle.std.specs.Prelude.{◌≡◌, ◌++◌, ◌∷◌, ◌<◌, ◌≤◌, ◌↔◌, ◌==◌, [], OnOk, IfErr, OnErr, IsOk, IfSome, IsSome, Some, length, map, slice_get, slice_set};
-ghost use Rattle.std.specs.List.{position};
+ghost use Rattle.std.specs.Prelude.{◌≡◌, ◌++◌, ◌∷◌, ◌<◌, ◌≤◌, ◌↔◌, [], OnOk, IfErr, OnErr, IsOk, IfSome, IsSome, Some, length, map, slice_get, slice_set, vec_capacity, vec_len};
 ghost use Rattle.std.specs.Option.{option_copied_mut};
 ghost use Rattle.std.specs.Borrow.{sem, LendsIf};
 ghost use Rattle.trio_page.specs.contracts.page.Page.{the_row as page_row};
@@ -11,9 +10,10 @@ ghost use Rattle.trio_lease.specs.Bundles.{HasRoom, NoRoomLost, bundled};
 ghost use Rattle.trio_lease.specs.Shown.{all_touched};
 ghost use Rattle.trio_lease.specs.Places.{bytes_at, bytes_of, place_in, with_bytes, with_bytes_at};
 
-use crate::fresh::{FreshIno, FreshPage, discard_inodes, discard_pages};
-use crate::hold::{HoldLease, discard_holds};
-use crate::write::{WriteLease, discard_writes, touch_writes};
+use crate::fresh::{FreshIno, FreshPage};
+use crate::hold::HoldLease;
+use crate::things::{let_go_all, place_of};
+use crate::write::{WriteLease, touch_writes};
 use std::alloc::Global;
 use std::marker::Model;
 use trio_page::{NoMemory, Page, PageNo};
@@ -32,19 +32,15 @@ pub struct BundleParts {
 /// Contracts see the four lists and, as `room`, how many of each the bundle has places for
 /// (`Bundled`).
 pub struct Bundle {
-    writes: Vec<WriteLease>,
-    holds: Vec<HoldLease>,
-    pages: Vec<FreshPage>,
-    inodes: Vec<FreshIno>,
+    parts: BundleParts,
 }
 
 impl Model for Bundle {
-    ghost use Rattle.std.specs.Prelude.{vec_capacity};
-    ghost use Rattle.trio_lease.specs.Bundles.{Bundled};
+    ghost use Rattle.trio_lease.specs.Bundles.{Bundled, bundled};
 
     ghost Value = { Bundled };
 
-    ghost view = { λ b. record { writes = b.writes.items; holds = b.holds.items; pages = b.pages.items; inodes = b.inodes.items; room = record { writes = vec_capacity b.writes; holds = vec_capacity b.holds; pages = vec_capacity b.pages; inodes = vec_capacity b.inodes } } };
+    ghost view = { λ b. bundled b.parts };
 }
 
 /// Where a page of a bundle stands. Each number is counted from 0.
@@ -67,10 +63,12 @@ impl Bundle {
         ensures { result ≡ record { writes = []; holds = []; pages = []; inodes = []; room = record { writes = 0; holds = 0; pages = 0; inodes = 0 } } }
     {
         Bundle {
-            writes: Vec::new(alloc),
-            holds: Vec::new(alloc),
-            pages: Vec::new(alloc),
-            inodes: Vec::new(alloc),
+            parts: BundleParts {
+                writes: Vec::new(alloc),
+                holds: Vec::new(alloc),
+                pages: Vec::new(alloc),
+                inodes: Vec::new(alloc),
+            },
         }
     }
 
@@ -78,51 +76,30 @@ impl Bundle {
     pub fn of(parts: BundleParts) -> Bundle
         ensures { result ≡ bundled parts }
     {
-        let BundleParts {
-            writes,
-            holds,
-            pages,
-            inodes,
-        } = parts;
-        Bundle {
-            writes,
-            holds,
-            pages,
-            inodes,
-        }
+        Bundle { parts }
     }
 
     /// What the bundle is made of.
     pub fn parts(self) -> BundleParts
         ensures { bundled result ≡ self }
     {
-        let Bundle {
-            writes,
-            holds,
-            pages,
-            inodes,
-        } = self;
-        BundleParts {
-            writes,
-            holds,
-            pages,
-            inodes,
-        }
+        let Bundle { parts } = self;
+        parts
     }
 
     /// Lets all of it go. Its grants and allotments stay out for good, so that others find the
     /// files busy, and the pages and inode numbers not free.
     pub fn discard(self) {
-        let Bundle {
+        let BundleParts {
             writes,
             holds,
             pages,
             inodes,
-        } = self;
-        discard_writes(writes);
-        discard_holds(holds);
-        discard_pages(pages);
-        discard_inodes(inodes);
+        } = self.parts();
+        let_go_all(writes);
+        let_go_all(holds);
+        let_go_all(pages);
+        let_go_all(inodes);
     }
 
     /// Makes room for so many more write leases, holds, pages and inode numbers: after `Ok` so many
@@ -143,10 +120,10 @@ impl Bundle {
         ensures grows { NoRoomLost self.old.room self.new.room }
         ensures succeeds { HasRoom self.old writes holds pages inodes → IsOk result }
     {
-        self.writes.reserve(writes as usize)?;
-        self.holds.reserve(holds as usize)?;
-        self.pages.reserve(pages as usize)?;
-        self.inodes.reserve(inodes as usize)?;
+        self.parts.writes.reserve(writes as usize)?;
+        self.parts.holds.reserve(holds as usize)?;
+        self.parts.pages.reserve(pages as usize)?;
+        self.parts.inodes.reserve(inodes as usize)?;
         Ok(())
     }
 
@@ -161,10 +138,7 @@ impl Bundle {
         ensures grows { self.old.room.writes ≤ self.new.room.writes }
         ensures succeeds { length self.old.writes < self.old.room.writes → IsOk result }
     {
-        match self.writes.push(lease) {
-            Ok(()) => Ok(()),
-            Err(failed) => Err((failed.value, NoMemory)),
-        }
+        push_one(&mut self.parts.writes, lease)
     }
 
     /// Adds a hold as the last one. Where the bundle has room for it
@@ -178,10 +152,7 @@ impl Bundle {
         ensures grows { self.old.room.holds ≤ self.new.room.holds }
         ensures succeeds { length self.old.holds < self.old.room.holds → IsOk result }
     {
-        match self.holds.push(lease) {
-            Ok(()) => Ok(()),
-            Err(failed) => Err((failed.value, NoMemory)),
-        }
+        push_one(&mut self.parts.holds, lease)
     }
 
     /// Adds an allotted page as the last one. Where the bundle has room for it
@@ -195,10 +166,7 @@ impl Bundle {
         ensures grows { self.old.room.pages ≤ self.new.room.pages }
         ensures succeeds { length self.old.pages < self.old.room.pages → IsOk result }
     {
-        match self.pages.push(page) {
-            Ok(()) => Ok(()),
-            Err(failed) => Err((failed.value, NoMemory)),
-        }
+        push_one(&mut self.parts.pages, page)
     }
 
     /// Adds an allotted inode number as the last one. Where the bundle has room for it
@@ -212,17 +180,14 @@ impl Bundle {
         ensures grows { self.old.room.inodes ≤ self.new.room.inodes }
         ensures succeeds { length self.old.inodes < self.old.room.inodes → IsOk result }
     {
-        match self.inodes.push(ino) {
-            Ok(()) => Ok(()),
-            Err(failed) => Err((failed.value, NoMemory)),
-        }
+        push_one(&mut self.parts.inodes, ino)
     }
 
     /// The write leases, in the order in which they were added.
     pub fn writes(&self) -> &[WriteLease]
         ensures { result.now ≡ self.now.writes }
     {
-        &self.writes
+        &self.parts.writes
     }
 
     /// Tells what is so of every lease, of each write lease of the bundle: a block that isn't marked
@@ -230,7 +195,7 @@ impl Bundle {
     pub fn keeps_untouched(&self)
         ensures { (f : LentFile) → In f self.now.writes → KeepsUntouched f }
     {
-        for lease in &self.writes {
+        for lease in &self.parts.writes {
             lease.keeps_untouched();
         }
     }
@@ -240,28 +205,28 @@ impl Bundle {
     pub fn touch_blocks(&mut self)
         ensures { self.new ≡ record self.old { writes = map all_touched self.old.writes } }
     {
-        touch_writes(&mut self.writes);
+        touch_writes(&mut self.parts.writes);
     }
 
     /// The holds, in the order in which they were added.
     pub fn holds(&self) -> &[HoldLease]
         ensures { result.now ≡ self.now.holds }
     {
-        &self.holds
+        &self.parts.holds
     }
 
     /// The allotted pages, in the order in which they were added.
     pub fn pages(&self) -> &[FreshPage]
         ensures { result.now ≡ self.now.pages }
     {
-        &self.pages
+        &self.parts.pages
     }
 
     /// The allotted inode numbers, in the order in which they were added.
     pub fn inodes(&self) -> &[FreshIno]
         ensures { result.now ≡ self.now.inodes }
     {
-        &self.inodes
+        &self.parts.inodes
     }
 
     /// The page of this number in the image, lent or allotted, for writing. `None` exactly where the
@@ -286,8 +251,8 @@ impl Bundle {
     fn place_of(&self, no: PageNo) -> Option<PagePlace>
         ensures { result ≡ place_in self.now no }
     {
-        for file in 0..self.writes.len() {
-            let lease = &self.writes[file];
+        for file in 0..self.parts.writes.len() {
+            let lease = &self.parts.writes[file];
             if let Some(at) = lease.index_place(no) {
                 return Some(PagePlace::Index { file, at });
             }
@@ -295,15 +260,8 @@ impl Bundle {
                 return Some(PagePlace::Block { file, at });
             }
         }
-        let at = self.fresh_place(no)?;
+        let at = place_of(&self.parts.pages, no.0)?;
         Some(PagePlace::Fresh { at })
-    }
-
-    /// The place of the first allotted page of this number.
-    fn fresh_place(&self, no: PageNo) -> Option<usize>
-        ensures { result ≡ position (λ p. p.no.0 == no.0) self.now.pages }
-    {
-        self.pages.iter().position(|page| page.no().0 == no.0)
     }
 
     /// The page at a place, for writing. `None` exactly where there is none. A lent block is marked
@@ -326,7 +284,7 @@ impl Bundle {
         ensures lease { option_copied_mut result ≡ slice_get self.old.writes file }
         ensures* lends { sem 𝓛 (LendsIf the_row lease_row self.entry result (λ l. record self.old { writes = slice_set self.old.writes file l }) self.old) }
     {
-        self.writes.get_mut(file)
+        self.parts.writes.get_mut(file)
     }
 
     /// Allotted page `at`. `None` exactly where there is none.
@@ -334,6 +292,21 @@ impl Bundle {
         ensures page { option_copied_mut result ≡ slice_get self.old.pages at }
         ensures* lends { sem 𝓛 (LendsIf the_row fresh_row self.entry result (λ p. record self.old { pages = slice_set self.old.pages at p }) self.old) }
     {
-        self.pages.get_mut(at)
+        self.parts.pages.get_mut(at)
+    }
+}
+
+/// Adds a thing as the last one of a list. With [`NoMemory`] it comes back, and the list has what it
+/// had.
+fn push_one<T>(things: &mut Vec<T>, thing: T) -> Result<(), (T, NoMemory)>
+    ensures added { OnOk result (things.new.items ≡ things.old.items ++ thing ∷ []) }
+    ensures kept { OnErr result (things.new.items ≡ things.old.items) }
+    ensures back { IfErr result (λ e. e.0 ≡ thing) }
+    ensures grows { vec_capacity things.old ≤ vec_capacity things.new }
+    ensures succeeds { vec_len things.old < vec_capacity things.old → IsOk result }
+{
+    match things.push(thing) {
+        Ok(()) => Ok(()),
+        Err(failed) => Err((failed.value, NoMemory)),
     }
 }

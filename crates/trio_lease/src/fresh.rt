@@ -5,6 +5,7 @@ ghost use Rattle.std.specs.Borrow.{sem, Lends};
 ghost use Rattle.trio_page.specs.contracts.page.Page.{the_row as page_row};
 
 use crate::parts::{FreshParts, InoParts};
+use crate::things::let_go_all;
 use std::marker::Model;
 use trio_page::{Page, PageNo};
 use trio_rights::LibNo;
@@ -138,23 +139,7 @@ impl Allotted {
     /// others don't find them free.
     pub fn discard(self) {
         let Allotted { pages, inodes } = self;
-        discard_pages(pages);
-        discard_inodes(inodes);
+        let_go_all(pages);
+        let_go_all(inodes);
     }
-}
-
-/// Lets each of these pages go.
-pub(crate) fn discard_pages(mut pages: Vec<FreshPage>) {
-    while let Some(page) = pages.pop() {
-        page.discard();
-    }
-    pages.destroy_empty();
-}
-
-/// Lets each of these inode numbers go.
-pub(crate) fn discard_inodes(mut inodes: Vec<FreshIno>) {
-    while let Some(ino) = inodes.pop() {
-        ino.discard();
-    }
-    inodes.destroy_empty();
 }

@@ -93,11 +93,3 @@ impl HoldLease {
         self.parts.children
     }
 }
-
-/// Lets each of these holds go.
-pub(crate) fn discard_holds(mut holds: Vec<HoldLease>) {
-    while let Some(hold) = holds.pop() {
-        hold.discard();
-    }
-    holds.destroy_empty();
-}

@@ -54,14 +54,14 @@ impl LentPages {
     pub fn page(&self, i: usize) -> Option<&Page>
         ensures { option_copied result ≡ page_at self.now i }
     {
-        Some(&self.pages.get(i)?.page)
+        page_in(&self.pages, i)
     }
 
     /// The number of page `i` in the image. `None` exactly where the list has no such page.
     pub fn no(&self, i: usize) -> Option<PageNo>
         ensures { result ≡ no_at self.now i }
     {
-        Some(self.pages.get(i)?.no)
+        no_in(&self.pages, i)
     }
 
     /// Whether page `i` is marked as touched. `None` exactly where the list has no such page.
@@ -116,6 +116,20 @@ impl LentPages {
     {
         self.pages.get_mut(i)
     }
+}
+
+/// Page `i` of these. `None` exactly where there is no such page.
+pub(crate) fn page_in(pages: &[LentPage], i: usize) -> Option<&Page>
+    ensures { option_copied result ≡ page_at pages.now i }
+{
+    Some(&pages.get(i)?.page)
+}
+
+/// The number of page `i` of these in the image. `None` exactly where there is no such page.
+pub(crate) fn no_in(pages: &[LentPage], i: usize) -> Option<PageNo>
+    ensures { result ≡ no_at pages.now i }
+{
+    Some(pages.get(i)?.no)
 }
 
 fn page_of(lent: &mut LentPage) -> &mut Page

@@ -19,6 +19,8 @@
 //! The `parts` of a lent value and `of`, which makes one of its parts, are for the controller,
 //! which is several crates. A value that somebody else makes isn't one that the controller gave.
 //!
+//! In lists lent things go by their numbers ([`things`]).
+//!
 //! Only [`Bundle::reserve`] and the `add_` calls of a [`Bundle`] take memory.
 //!
 //! `specs/Shown.antt` has what contracts see of a lease, `specs/Bundles.antt` what they see of a
@@ -32,6 +34,7 @@ mod lease;
 mod lent;
 mod parts;
 mod read;
+pub mod things;
 mod write;
 
 pub use bundle::{Bundle, BundleParts};

@@ -37,17 +37,8 @@ pub struct WriteParts {
     pub blocks: Vec<LentPage>,
 }
 
-/// What a [`ReadLease`](crate::ReadLease) is made of: the fields of [`WriteParts`].
-#[derive(Drop)]
-pub struct ReadParts {
-    pub lib: LibNo,
-    pub ino: u32,
-    pub kind: Kind,
-    pub entry: u64,
-    pub body: [u8; 64],
-    pub index: Vec<LentPage>,
-    pub blocks: Vec<LentPage>,
-}
+/// What a [`ReadLease`](crate::ReadLease) is made of.
+pub type ReadParts = WriteParts;
 
 /// What a [`HoldLease`](crate::HoldLease) is made of.
 #[derive(Drop)]

@@ -2,9 +2,9 @@
 
 ghost use Rattle.std.specs.Prelude.{◌≡◌, length};
 ghost use Rattle.std.specs.Option.{option_copied};
-ghost use Rattle.trio_lease.specs.Shown.{shown_read, page_at, no_at};
+ghost use Rattle.trio_lease.specs.Shown.{shown, page_at, no_at};
 
-use crate::lent::LentPages;
+use crate::lent::{no_in, page_in};
 use crate::parts::{ReadParts, whole};
 use std::marker::Model;
 use trio_page::{Page, PageNo};
@@ -15,70 +15,31 @@ use trio_rights::{Kind, LibNo};
 /// Contracts see the file that it shows (`Shown`), which never changes: what stands in it is what
 /// was lent.
 pub struct ReadLease {
-    lib: LibNo,
-    ino: u32,
-    kind: Kind,
-    entry: u64,
-    body: [u8; 64],
-    index: LentPages,
-    blocks: LentPages,
+    parts: ReadParts,
 }
 
 impl Model for ReadLease {
-    ghost use Rattle.trio_lease.specs.Shown.{Shown};
+    ghost use Rattle.trio_lease.specs.Shown.{Shown, shown};
 
     ghost Value = { Shown };
 
-    ghost view = { λ l. record { lib = l.lib; ino = l.ino; kind = l.kind; entry = l.entry; body = l.body; index = l.index; blocks = l.blocks } };
+    ghost view = { λ l. shown l.parts };
 }
 
 impl ReadLease {
     /// The lease that has these parts.
     pub fn of(parts: ReadParts) -> ReadLease
-        ensures { result ≡ shown_read parts }
+        ensures { result ≡ shown parts }
     {
-        let ReadParts {
-            lib,
-            ino,
-            kind,
-            entry,
-            body,
-            index,
-            blocks,
-        } = parts;
-        ReadLease {
-            lib,
-            ino,
-            kind,
-            entry,
-            body,
-            index: LentPages::of(index),
-            blocks: LentPages::of(blocks),
-        }
+        ReadLease { parts }
     }
 
     /// What the lease is made of.
     pub fn parts(self) -> ReadParts
-        ensures { shown_read result ≡ self }
+        ensures { shown result ≡ self }
     {
-        let ReadLease {
-            lib,
-            ino,
-            kind,
-            entry,
-            body,
-            index,
-            blocks,
-        } = self;
-        ReadParts {
-            lib,
-            ino,
-            kind,
-            entry,
-            body,
-            index: index.into_pages(),
-            blocks: blocks.into_pages(),
-        }
+        let ReadLease { parts } = self;
+        parts
     }
 
     /// Lets the lease go. Its grant stays out for good, so that others find the file busy.
@@ -90,28 +51,28 @@ impl ReadLease {
     pub fn ino(&self) -> u32
         ensures { result ≡ self.now.ino }
     {
-        self.ino
+        self.parts.ino
     }
 
     /// The library that the file is lent to.
     pub fn lib(&self) -> LibNo
         ensures { result ≡ self.now.lib }
     {
-        self.lib
+        self.parts.lib
     }
 
     /// What the file is.
     pub fn kind(&self) -> Kind
         ensures { result ≡ self.now.kind }
     {
-        self.kind
+        self.parts.kind
     }
 
     /// The number of the entry of the history that opened the grant, counted from 0.
     pub fn entry(&self) -> u64
         ensures { result ≡ self.now.entry }
     {
-        self.entry
+        self.parts.entry
     }
 
     /// The 64 bytes of the file's body.
@@ -119,7 +80,7 @@ impl ReadLease {
         ensures body { result.now ≡ self.now.body }
         ensures len { length self.now.body ≡ 64 }
     {
-        whole(&self.body)
+        whole(&self.parts.body)
     }
 
     /// Index page `i`, counted from 0 in the order of the chain. `None` exactly where the lease
@@ -127,27 +88,27 @@ impl ReadLease {
     pub fn index(&self, i: usize) -> Option<&Page>
         ensures { option_copied result ≡ page_at self.now.index i }
     {
-        self.index.page(i)
+        page_in(&self.parts.index, i)
     }
 
     /// The number in the image of index page `i`. `None` exactly where the lease has no such page.
     pub fn index_no(&self, i: usize) -> Option<PageNo>
         ensures { result ≡ no_at self.now.index i }
     {
-        self.index.no(i)
+        no_in(&self.parts.index, i)
     }
 
     /// Block `i` of the file, counted from 0. `None` exactly where the lease has no such page.
     pub fn block(&self, i: usize) -> Option<&Page>
         ensures { option_copied result ≡ page_at self.now.blocks i }
     {
-        self.blocks.page(i)
+        page_in(&self.parts.blocks, i)
     }
 
     /// The number in the image of block `i`. `None` exactly where the lease has no such page.
     pub fn block_no(&self, i: usize) -> Option<PageNo>
         ensures { result ≡ no_at self.now.blocks i }
     {
-        self.blocks.no(i)
+        no_in(&self.parts.blocks, i)
     }
 }

@@ -254,11 +254,3 @@ pub(crate) fn touch_writes(leases: &mut [WriteLease])
         lease.touch_blocks();
     }
 }
-
-/// Lets each of these leases go.
-pub(crate) fn discard_writes(mut leases: Vec<WriteLease>) {
-    while let Some(lease) = leases.pop() {
-        lease.discard();
-    }
-    leases.destroy_empty();
-}

@@ -23,7 +23,8 @@ use Rattle.trio_desk.specs.Call.{Given, NotJudged, TellsClosed}
 use Rattle.trio_raw.specs.Has.{Has, HasLeases, OnList, has_read, keeps_allotted, read_on, with_reads, without_read}
 use Rattle.trio_raw.specs.Asked.{AfterAllot}
 use Rattle.trio_raw.specs.inner.Stock.{with_given}
-use Rattle.trio_raw.proofs.Places.{found_among, without-same}
+use Rattle.trio_lease.proofs.Numbered.{found_among}
+use Rattle.trio_raw.proofs.Places.{without-same}
 use Rattle.trio_raw.proofs.Standing.{stands-allotted}
 
 -- where no lease is given back, all that is out stays so

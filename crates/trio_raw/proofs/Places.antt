@@ -1,13 +1,12 @@
 -- The first things of their numbers, and steps through the numbers that are named.
-use Rattle.std.proofs.Common.{Bor, ◌≡◌, ℕ, suc, ◌+◌, ◌<◌, ◌≤◌, Bool, true, false, cond, ◌&&◌, eqb, ltb, List, [], ◌∷◌, ◌++◌, length, drop, get_or, Option, Some, None, sym, refl, ap, ◌∙◌, subst, inl, inr, arith}
-use Rattle.std.specs.Prelude.{map, is_some, slice_get}
+use Rattle.std.proofs.Common.{◌≡◌, ℕ, suc, ◌+◌, ◌<◌, ◌≤◌, Bool, true, false, cond, ◌&&◌, eqb, ltb, List, [], ◌∷◌, ◌++◌, length, drop, get_or, Some, None, sym, refl, ap, ◌∙◌, subst, inl, inr, arith}
+use Rattle.std.specs.Prelude.{slice_get}
 use Rattle.std.specs.List.{find, list_all, cons_option, position, position_or_len, remove}
-use Rattle.std.specs.Option.{option_copied}
 use Rattle.std.proofs.lemmas.Bool.{eqb-true, ne_eqb, ltb-true, ltb-false, cases_Bool}
 use Rattle.std.proofs.lemmas.List.{append_assoc, drop_more}
 use Rattle.std.proofs.lemmas.List.Folds.{find_at}
 use Rattle.std.proofs.lemmas.Option.{slice_get-get_or, slice_get_past}
-use Rattle.trio_lists.specs.Lists.{In, is_among, are_new}
+use Rattle.trio_lists.specs.Lists.{In, are_new}
 use Rattle.trio_raw.specs.Has.{named, without, without_all}
 use Rattle.trio_lists.proofs.New.{are_new-first}
 
@@ -125,19 +124,6 @@ all_more p names i within same pass =
 pub all_fails : (p : ℕ → Bool) (names : List ℕ) (i : ℕ) → i < length names → list_all p (drop i names) ≡ list_all p names → p (get_or names i 0) ≡ false → list_all p names ≡ false
 all_fails p names i within same fail =
     sym same ∙ ap (list_all p) (drop_more names i 0 within) ∙ ap (λ b. b && list_all p (drop (i + 1) names)) fail
-
-pub copied_some : {X : Type 0} (o : Option (Bor X)) → is_some o ≡ is_some (option_copied o)
-copied_some None = refl
-copied_some (Some x) = refl
-
--- a thing is found exactly where its number is among those of the things
-pub found_among : {X : Type 0} (number : X → ℕ) (xs : List X) (n : ℕ) → is_some (find (λ x. eqb (number x) n) xs) ≡ is_among n (map number xs)
-found_among number [] n = refl
-found_among number (x ∷ xs) n =
-    elim (cases_Bool (eqb (number x) n)) [
-      | inl t ↦ rw t refl
-      | inr f ↦ rw f (found_among number xs n)
-    ]
 
 module _ {X : Type 0} (number : X → ℕ) (xs after : List X) (names : List ℕ) (i : ℕ) (within : i < length names) (once : are_new [] (drop i names) ≡ true) (rest : after ≡ without number xs (get_or names i 0)) where
   now_once : are_new [] (get_or names i 0 ∷ drop (i + 1) names) ≡ true

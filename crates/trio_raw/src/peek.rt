@@ -6,7 +6,7 @@ ghost use Rattle.std.specs.Option.{option_and_then, option_copied, option_map};
 ghost use Rattle.trio_lease.specs.Shown.{page_at};
 ghost use Rattle.trio_raw.specs.Has.{body_of, lent_as, nothing, peeked_bytes};
 
-use crate::lent::thing_of;
+use trio_lease::things::thing_of;
 use trio_lease::{FreshPage, HoldLease, ReadLease, WriteLease};
 
 /// So many of these bytes, from an offset on. `None` exactly where they leave them.

@@ -8,16 +8,13 @@ ghost use Rattle.trio_raw.specs.Asked.{children_in};
 ghost use Rattle.trio_raw.specs.Has.{bytes_at, has_all_of, has_nothing, keeps_lease, nothing, parcel_named, peeked, poked, poked_block, poked_body, poked_fresh, poked_index, read_on, rest_of, whole_parcel, with_file, with_fresh, with_parcel, with_reads, without_read};
 ghost use Rattle.trio_raw.specs.inner.Stock.{HasNumbersFor, HasPlaceFor, HasPlacesFor, HasRoomFor, HasSpare, with_given};
 
-use crate::lent::{
-    append_all, have_all, have_either, let_go_all, move_all, numbers_of, place_of, take_one,
-};
+use crate::lent::{have_all, have_either, move_all, numbers_of, take_one};
 use crate::peek::{peek_bytes, shown_block, shown_body, shown_fresh, shown_index};
 use crate::poke::{poke_block, poke_body, poke_fresh, poke_index};
 use std::alloc::Global;
 use std::marker::Model;
-use trio_lease::{
-    Allotted, Bundle, BundleParts, FreshIno, FreshPage, HoldLease, Lease, ReadLease, WriteLease,
-};
+use trio_lease::things::{append_all, let_go_all, place_of};
+use trio_lease::{Allotted, Bundle, BundleParts, Lease, ReadLease};
 use trio_nodes::{AllotAnswer, List, Spot};
 use trio_page::NoMemory;
 
@@ -26,11 +23,8 @@ use trio_page::NoMemory;
 ///
 /// Contracts see what is had and, as `room`, how many of each kind have a place (`Stock`).
 pub(crate) struct Things {
-    writes: Vec<WriteLease>,
+    parts: BundleParts,
     reads: Vec<ReadLease>,
-    holds: Vec<HoldLease>,
-    pages: Vec<FreshPage>,
-    inodes: Vec<FreshIno>,
 }
 
 impl Model for Things {
@@ -40,8 +34,8 @@ impl Model for Things {
     ghost Value = { Stock };
 
     ghost view = { λ t. record {
-      has = record { writes = t.writes.items; reads = t.reads.items; holds = t.holds.items; pages = t.pages.items; inodes = t.inodes.items };
-      room = record { writes = vec_capacity t.writes; reads = vec_capacity t.reads; holds = vec_capacity t.holds; pages = vec_capacity t.pages; inodes = vec_capacity t.inodes };
+      has = record { writes = t.parts.writes.items; reads = t.reads.items; holds = t.parts.holds.items; pages = t.parts.pages.items; inodes = t.parts.inodes.items };
+      room = record { writes = vec_capacity t.parts.writes; reads = vec_capacity t.reads; holds = vec_capacity t.parts.holds; pages = vec_capacity t.parts.pages; inodes = vec_capacity t.parts.inodes };
     } };
 }
 
@@ -60,11 +54,8 @@ impl Things {
         ensures { result.has ≡ nothing }
     {
         Things {
-            writes: Vec::new(alloc),
+            parts: Bundle::new(alloc).parts(),
             reads: Vec::new(alloc),
-            holds: Vec::new(alloc),
-            pages: Vec::new(alloc),
-            inodes: Vec::new(alloc),
         }
     }
 
@@ -73,9 +64,9 @@ impl Things {
         ensures kept { self.new.has ≡ self.old.has }
         ensures room { OnOk result (HasSpare self.new) }
     {
-        self.writes.reserve(1)?;
+        self.parts.writes.reserve(1)?;
         self.reads.reserve(1)?;
-        self.holds.reserve(1)
+        self.parts.holds.reserve(1)
     }
 
     /// Adds a lease as the last one of its kind. Returns the number of children that it tells.
@@ -86,7 +77,7 @@ impl Things {
     {
         match lease {
             Lease::Write(lease) => {
-                self.writes.push_reserved(lease);
+                self.parts.writes.push_reserved(lease);
                 0
             }
             Lease::Read(lease) => {
@@ -95,7 +86,7 @@ impl Things {
             }
             Lease::Hold(lease) => {
                 let children = lease.children();
-                self.holds.push_reserved(lease);
+                self.parts.holds.push_reserved(lease);
                 children
             }
         }
@@ -113,8 +104,8 @@ impl Things {
         ensures places { OnOk result (HasPlacesFor self.new pages inodes) }
         ensures numbers { IfOk result (λ numbers. HasNumbersFor numbers pages inodes) }
     {
-        self.pages.reserve(pages)?;
-        self.inodes.reserve(inodes)?;
+        self.parts.pages.reserve(pages)?;
+        self.parts.inodes.reserve(inodes)?;
         numbers_for(alloc, pages, inodes)
     }
 
@@ -131,8 +122,8 @@ impl Things {
             inodes: List::from_vec(numbers_of(&given.inodes, numbers.inodes)),
         };
         let Allotted { pages, inodes } = given;
-        append_all(pages, &mut self.pages);
-        append_all(inodes, &mut self.inodes);
+        append_all(pages, &mut self.parts.pages);
+        append_all(inodes, &mut self.parts.inodes);
         answer
     }
 
@@ -154,8 +145,8 @@ impl Things {
         ensures poked { with_file (poked_body offset bytes.now) ino self.old.has ≡ (if result then Some self.new.has else None) }
         ensures kept { IsFalse result → self.new.has ≡ self.old.has }
     {
-        match place_of(&self.writes, ino) {
-            Some(i) => poke_body(&mut self.writes[i], offset, bytes),
+        match place_of(&self.parts.writes, ino) {
+            Some(i) => poke_body(&mut self.parts.writes[i], offset, bytes),
             None => false,
         }
     }
@@ -164,8 +155,8 @@ impl Things {
         ensures poked { with_file (poked_index page offset bytes.now) ino self.old.has ≡ (if result then Some self.new.has else None) }
         ensures kept { IsFalse result → self.new.has ≡ self.old.has }
     {
-        match place_of(&self.writes, ino) {
-            Some(i) => poke_index(&mut self.writes[i], page, offset, bytes),
+        match place_of(&self.parts.writes, ino) {
+            Some(i) => poke_index(&mut self.parts.writes[i], page, offset, bytes),
             None => false,
         }
     }
@@ -174,8 +165,8 @@ impl Things {
         ensures poked { with_file (poked_block block offset bytes.now) ino self.old.has ≡ (if result then Some self.new.has else None) }
         ensures kept { IsFalse result → self.new.has ≡ self.old.has }
     {
-        match place_of(&self.writes, ino) {
-            Some(i) => poke_block(&mut self.writes[i], block, offset, bytes),
+        match place_of(&self.parts.writes, ino) {
+            Some(i) => poke_block(&mut self.parts.writes[i], block, offset, bytes),
             None => false,
         }
     }
@@ -184,8 +175,8 @@ impl Things {
         ensures poked { with_fresh (poked_fresh offset bytes.now) page self.old.has ≡ (if result then Some self.new.has else None) }
         ensures kept { IsFalse result → self.new.has ≡ self.old.has }
     {
-        match place_of(&self.pages, page) {
-            Some(i) => poke_fresh(&mut self.pages[i], offset, bytes),
+        match place_of(&self.parts.pages, page) {
+            Some(i) => poke_fresh(&mut self.parts.pages[i], offset, bytes),
             None => false,
         }
     }
@@ -203,10 +194,10 @@ impl Things {
         ensures { option_copied result ≡ bytes_at self.now.has at }
     {
         match at {
-            Spot::Body(ino) => shown_body(&self.writes, &self.reads, &self.holds, ino),
-            Spot::Index(ino, page) => shown_index(&self.writes, &self.reads, ino, page),
-            Spot::Block(ino, block) => shown_block(&self.writes, &self.reads, ino, block),
-            Spot::Fresh(page) => shown_fresh(&self.pages, page),
+            Spot::Body(ino) => shown_body(&self.parts.writes, &self.reads, &self.parts.holds, ino),
+            Spot::Index(ino, page) => shown_index(&self.parts.writes, &self.reads, ino, page),
+            Spot::Block(ino, block) => shown_block(&self.parts.writes, &self.reads, ino, block),
+            Spot::Fresh(page) => shown_fresh(&self.parts.pages, page),
         }
     }
 
@@ -233,13 +224,13 @@ impl Things {
     pub(crate) fn has_all_of(&self, inos: &[u32], pages: &[u32], inodes: &[u32]) -> bool
         ensures { result ≡ has_all_of self.now.has inos.now pages.now inodes.now }
     {
-        if !have_either(&self.writes, &self.holds, inos) {
+        if !have_either(&self.parts.writes, &self.parts.holds, inos) {
             return false;
         }
-        if !have_all(&self.pages, pages) {
+        if !have_all(&self.parts.pages, pages) {
             return false;
         }
-        have_all(&self.inodes, inodes)
+        have_all(&self.parts.inodes, inodes)
     }
 
     /// Takes all that is named out, as a bundle of just these in the order in which they are named.
@@ -260,10 +251,10 @@ impl Things {
         ensures kept { OnErr result (self.new.has ≡ self.old.has) }
     {
         let mut parts = room_for(alloc, inos.len(), pages.len(), inodes.len())?;
-        move_all(&mut self.writes, inos, &mut parts.writes);
-        move_all(&mut self.holds, inos, &mut parts.holds);
-        move_all(&mut self.pages, pages, &mut parts.pages);
-        move_all(&mut self.inodes, inodes, &mut parts.inodes);
+        move_all(&mut self.parts.writes, inos, &mut parts.writes);
+        move_all(&mut self.parts.holds, inos, &mut parts.holds);
+        move_all(&mut self.parts.pages, pages, &mut parts.pages);
+        move_all(&mut self.parts.inodes, inodes, &mut parts.inodes);
         Ok(Bundle::of(parts))
     }
 
@@ -278,20 +269,20 @@ impl Things {
             pages,
             inodes,
         } = bundle.parts();
-        append_all(writes, &mut self.writes);
-        append_all(holds, &mut self.holds);
-        append_all(pages, &mut self.pages);
-        append_all(inodes, &mut self.inodes);
+        append_all(writes, &mut self.parts.writes);
+        append_all(holds, &mut self.parts.holds);
+        append_all(pages, &mut self.parts.pages);
+        append_all(inodes, &mut self.parts.inodes);
     }
 
     /// Whether there is nothing but read leases.
     pub(crate) fn has_nothing(&self) -> bool
         ensures { result ≡ has_nothing self.now.has }
     {
-        self.writes.is_empty()
-            && self.holds.is_empty()
-            && self.pages.is_empty()
-            && self.inodes.is_empty()
+        self.parts.writes.is_empty()
+            && self.parts.holds.is_empty()
+            && self.parts.pages.is_empty()
+            && self.parts.inodes.is_empty()
     }
 
     /// All of it as one bundle, in the order in which it came, where there is no read lease. It takes
@@ -300,55 +291,26 @@ impl Things {
         requires { self.has.reads ≡ [] }
         ensures { parcel_of result ≡ whole_parcel self.has }
     {
-        let Things {
-            writes,
-            reads,
-            holds,
-            pages,
-            inodes,
-        } = self;
+        let Things { parts, reads } = self;
         reads.destroy_empty();
-        Bundle::of(BundleParts {
-            writes,
-            holds,
-            pages,
-            inodes,
-        })
+        Bundle::of(parts)
     }
 
     /// What a bundle has. It takes no memory.
     pub(crate) fn of_bundle(alloc: Global, bundle: Bundle) -> Things
         ensures { result.has ≡ record { writes = bundle.writes; reads = []; holds = bundle.holds; pages = bundle.pages; inodes = bundle.inodes } }
     {
-        let BundleParts {
-            writes,
-            holds,
-            pages,
-            inodes,
-        } = bundle.parts();
         Things {
-            writes,
+            parts: bundle.parts(),
             reads: Vec::new(alloc),
-            holds,
-            pages,
-            inodes,
         }
     }
 
     /// Lets all of it go. It stays out for good.
     pub(crate) fn discard(self) {
-        let Things {
-            writes,
-            reads,
-            holds,
-            pages,
-            inodes,
-        } = self;
-        let_go_all(writes);
+        let Things { parts, reads } = self;
+        Bundle::of(parts).discard();
         let_go_all(reads);
-        let_go_all(holds);
-        let_go_all(pages);
-        let_go_all(inodes);
     }
 }
 
@@ -375,25 +337,14 @@ fn room_for(
 ) -> Result<BundleParts, NoMemory>
     ensures { IfOk result (λ parts. HasRoomFor parts files pages inodes) }
 {
-    let mut writes = Vec::new(alloc);
-    let mut holds = Vec::new(alloc);
-    let mut fresh = Vec::new(alloc);
-    let mut numbers = Vec::new(alloc);
-    if writes.reserve(files).is_err()
-        || holds.reserve(files).is_err()
-        || fresh.reserve(pages).is_err()
-        || numbers.reserve(inodes).is_err()
+    let mut parts = Bundle::new(alloc).parts();
+    if parts.writes.reserve(files).is_err()
+        || parts.holds.reserve(files).is_err()
+        || parts.pages.reserve(pages).is_err()
+        || parts.inodes.reserve(inodes).is_err()
     {
-        writes.destroy_empty();
-        holds.destroy_empty();
-        fresh.destroy_empty();
-        numbers.destroy_empty();
+        Bundle::of(parts).discard();
         return Err(NoMemory);
     }
-    Ok(BundleParts {
-        writes,
-        holds,
-        pages: fresh,
-        inodes: numbers,
-    })
+    Ok(parts)
 }

@@ -6,9 +6,9 @@ ghost use Rattle.trio_desk.specs.Out.{parcel_of};
 ghost use Rattle.trio_session.specs.inner.Giving.{Allots, Grants};
 
 use crate::laid::Laid;
-use crate::lent::{append_inodes, append_pages};
 use std::alloc::Global;
 use trio_desk::Desk;
+use trio_lease::things::append_all;
 use trio_lease::{Allotted, BundleParts, Lease, ReadLease};
 use trio_nodes::{AllotFault, GrantFault, GrantKind};
 
@@ -29,8 +29,8 @@ pub(crate) fn allot_into<D: Desk>(
     match desk.allot(pages, inodes) {
         Ok(given) => {
             let Allotted { pages, inodes } = given;
-            append_pages(pages, &mut parts.pages);
-            append_inodes(inodes, &mut parts.inodes);
+            append_all(pages, &mut parts.pages);
+            append_all(inodes, &mut parts.inodes);
             Ok(())
         }
         Err(fault) => Err(fault),

@@ -1,10 +1,10 @@
 //! Bytes written into lent things.
 
-ghost use Rattle.std.specs.Prelude.{◌≡◌, ◌+◌, ◌≤◌, ◌<◌, ◌++◌, length, vec_capacity};
+ghost use Rattle.std.specs.Prelude.{◌≡◌, ◌+◌, ◌≤◌, ◌<◌, length};
 ghost use Rattle.trio_page.specs.Field.{with_part};
 ghost use Rattle.trio_lease.specs.Shown.{lent_at, with_page, with_touched};
 
-use trio_lease::{FreshIno, FreshPage, WriteLease};
+use trio_lease::{FreshPage, WriteLease};
 use trio_page::field::put_bytes_in;
 
 /// Writes bytes into index page `at` of the lease.
@@ -48,34 +48,4 @@ pub(crate) fn put_lent_body(lease: &mut WriteLease, body: &[u8; 64])
     ensures { lease.new ≡ record lease.old { stands = record lease.old.stands { body = body.now } } }
 {
     *lease.body_mut() = *body;
-}
-
-/// Moves allotted pages to the end of a list that has room for them.
-pub(crate) fn append_pages(mut more: Vec<FreshPage>, pages: &mut Vec<FreshPage>)
-    requires { length pages.old.items + length more.items ≤ vec_capacity pages.old }
-    ensures { pages.new.items ≡ pages.old.items ++ more.items }
-{
-    if pages.append(&mut more).is_err() {
-        while let Some(page) = more.pop() {
-            page.discard();
-        }
-        more.destroy_empty();
-        unreachable!()
-    }
-    more.destroy_empty();
-}
-
-/// Moves allotted inode numbers to the end of a list that has room for them.
-pub(crate) fn append_inodes(mut more: Vec<FreshIno>, inodes: &mut Vec<FreshIno>)
-    requires { length inodes.old.items + length more.items ≤ vec_capacity inodes.old }
-    ensures { inodes.new.items ≡ inodes.old.items ++ more.items }
-{
-    if inodes.append(&mut more).is_err() {
-        while let Some(ino) = more.pop() {
-            ino.discard();
-        }
-        more.destroy_empty();
-        unreachable!()
-    }
-    more.destroy_empty();
 }

@@ -21,6 +21,7 @@ use std::marker::Model;
 use trio_auxdir::{Finds, Place};
 use trio_layout::{EntryPart, Slot, SlotRead};
 use trio_lease::ReadLease;
+use trio_lease::things::{let_go_all, thing_of};
 use trio_names::Name;
 use trio_nodes::{Done, GrantKind};
 use trio_page::{NoMemory, Page};
@@ -127,24 +128,21 @@ impl Session {
             laid: _,
             made: _,
             cleared: _,
-            mut reads,
+            reads,
             dirs: _,
             calls: _,
             placed: _,
             finds: _,
         } = self;
         stock.discard();
-        while let Some(lease) = reads.pop() {
-            lease.discard();
-        }
-        reads.destroy_empty();
+        let_go_all(reads);
     }
 
     /// The first read lease on this file.
     pub(crate) fn read_on(&self, ino: u32) -> Option<&ReadLease>
         ensures { option_copied result ≡ find (λ f. f.ino == ino) self.now.reads }
     {
-        self.reads.iter().find(|lease| lease.ino() == ino)
+        thing_of(&self.reads, ino)
     }
 
     /// Where a file stands that the session writes or made. `None` exactly where it has no such file.

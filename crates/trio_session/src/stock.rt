@@ -18,7 +18,8 @@ use crate::laid::{FilePlace, Laid, PagePlace};
 use crate::lent::{put_in_block, put_in_fresh, put_in_index, put_lent_body};
 use std::alloc::Global;
 use std::marker::Model;
-use trio_lease::{Bundle, BundleParts, FreshIno, FreshPage, HoldLease, WriteLease};
+use trio_lease::things::{has_one, place_of, thing_of};
+use trio_lease::{Bundle, BundleParts, FreshIno, HoldLease, WriteLease};
 use trio_page::{Page, PageNo};
 
 /// Write leases, holds, and allotted pages and inode numbers, each kind in the order in which it came.
@@ -26,22 +27,20 @@ use trio_page::{Page, PageNo};
 /// Contracts see the parcel that they make. No page stands in it at two places, and no file is
 /// written twice.
 pub(crate) struct Stock {
-    pub(crate) writes: Vec<WriteLease>,
-    pub(crate) holds: Vec<HoldLease>,
-    pub(crate) pages: Vec<FreshPage>,
-    pub(crate) inodes: Vec<FreshIno>,
+    parts: BundleParts,
 }
 
 impl Model for Stock {
-    ghost use Rattle.trio_desk.specs.Out.{Parcel};
+    ghost use Rattle.trio_desk.specs.Out.{Parcel, parcel_of};
+    ghost use Rattle.trio_lease.specs.Bundles.{bundled};
 
     ghost Value = { Parcel };
 
     ghost use Rattle.trio_session.specs.inner.Places.{AreApart};
 
-    ghost view = { λ s. record { writes = s.writes.items; holds = s.holds.items; pages = s.pages.items; inodes = s.inodes.items } };
+    ghost view = { λ s. parcel_of (bundled s.parts) };
 
-    ghost invariant = { λ s. AreApart (record { writes = s.writes.items; holds = s.holds.items; pages = s.pages.items; inodes = s.inodes.items }) };
+    ghost invariant = { λ s. AreApart (parcel_of (bundled s.parts)) };
 }
 
 impl Stock {
@@ -52,10 +51,7 @@ impl Stock {
         ensures { result ≡ nothing }
     {
         Stock {
-            writes: Vec::new(alloc),
-            holds: Vec::new(alloc),
-            pages: Vec::new(alloc),
-            inodes: Vec::new(alloc),
+            parts: Bundle::new(alloc).parts(),
         }
     }
 
@@ -63,67 +59,50 @@ impl Stock {
     pub(crate) fn pages_len(&self) -> usize
         ensures { result ≡ length self.now.pages }
     {
-        self.pages.len()
+        self.parts.pages.len()
     }
 
     /// The place of the first write lease on this file.
     pub(crate) fn file_of(&self, ino: u32) -> Option<usize>
         ensures { result ≡ position (λ f. f.stands.ino == ino) self.now.writes }
     {
-        self.writes.iter().position(|lease| lease.ino() == ino)
+        place_of(&self.parts.writes, ino)
     }
 
     /// The first write lease on this file.
     pub(crate) fn write_on(&self, ino: u32) -> Option<&WriteLease>
         ensures { option_copied result ≡ find (λ f. f.stands.ino == ino) self.now.writes }
     {
-        self.writes.iter().find(|lease| lease.ino() == ino)
+        thing_of(&self.parts.writes, ino)
     }
 
     /// The first hold on this file.
     pub(crate) fn hold_on(&self, ino: u32) -> Option<&HoldLease>
         ensures { option_copied result ≡ find (λ h. h.ino == ino) self.now.holds }
     {
-        self.holds.iter().find(|lease| lease.ino() == ino)
+        thing_of(&self.parts.holds, ino)
     }
 
     /// The inode numbers that were allotted.
     pub(crate) fn inodes(&self) -> &[FreshIno]
         ensures { result.now ≡ self.now.inodes }
     {
-        &self.inodes
+        &self.parts.inodes
     }
 
     /// Whether a number is one of the allotted inode numbers.
     pub(crate) fn has_ino(&self, ino: u32) -> bool
         ensures { result ≡ is_among ino (ino_numbers self.now.inodes) }
     {
-        self.ino_place(ino).is_some()
-    }
-
-    /// The place of the first of the allotted inode numbers that is this one.
-    fn ino_place(&self, ino: u32) -> Option<usize>
-        ensures { result ≡ position (λ n. n.no == ino) self.now.inodes }
-    {
-        self.inodes.iter().position(|allotted| allotted.no() == ino)
+        has_one(&self.parts.inodes, ino)
     }
 
     /// All of it as one bundle. It takes no memory.
     pub(crate) fn into_bundle(self) -> Bundle
         ensures { parcel_of result ≡ self }
     {
-        let Stock {
-            writes,
-            holds,
-            pages,
-            inodes,
-        } = self;
-        Bundle::of(BundleParts {
-            writes,
-            holds,
-            pages,
-            inodes,
-        })
+        let Stock { parts } = self;
+        Bundle::of(parts)
     }
 
     /// What a bundle has. It takes no memory.
@@ -131,17 +110,8 @@ impl Stock {
         requires { AreApart (parcel_of bundle) }
         ensures { result ≡ parcel_of bundle }
     {
-        let BundleParts {
-            writes,
-            holds,
-            pages,
-            inodes,
-        } = bundle.parts();
         Stock {
-            writes,
-            holds,
-            pages,
-            inodes,
+            parts: bundle.parts(),
         }
     }
 
@@ -150,18 +120,8 @@ impl Stock {
         ensures parts { parcel_of (bundled result) ≡ self }
         ensures apart { AreApart self }
     {
-        let Stock {
-            writes,
-            holds,
-            pages,
-            inodes,
-        } = self;
-        BundleParts {
-            writes,
-            holds,
-            pages,
-            inodes,
-        }
+        let Stock { parts } = self;
+        parts
     }
 
     /// The stock that has these parts.
@@ -169,18 +129,7 @@ impl Stock {
         requires { AreApart (parcel_of (bundled parts)) }
         ensures { result ≡ parcel_of (bundled parts) }
     {
-        let BundleParts {
-            writes,
-            holds,
-            pages,
-            inodes,
-        } = parts;
-        Stock {
-            writes,
-            holds,
-            pages,
-            inodes,
-        }
+        Stock { parts }
     }
 
     /// Lets all of it go.
@@ -194,9 +143,9 @@ impl Stock {
         ensures { result.now ≡ page_in self.now (number_at self.now place) }
     {
         match place {
-            PagePlace::Index { file, at } => self.writes[file].index(at).unwrap(),
-            PagePlace::Block { file, at } => self.writes[file].block(at).unwrap(),
-            PagePlace::Fresh { at } => self.pages[at].page(),
+            PagePlace::Index { file, at } => self.parts.writes[file].index(at).unwrap(),
+            PagePlace::Block { file, at } => self.parts.writes[file].block(at).unwrap(),
+            PagePlace::Fresh { at } => self.parts.pages[at].page(),
         }
     }
 
@@ -218,9 +167,9 @@ impl Stock {
         ensures { result.0 ≡ number_at self.now place }
     {
         match place {
-            PagePlace::Index { file, at } => self.writes[file].index_no(at).unwrap(),
-            PagePlace::Block { file, at } => self.writes[file].block_no(at).unwrap(),
-            PagePlace::Fresh { at } => self.pages[at].no(),
+            PagePlace::Index { file, at } => self.parts.writes[file].index_no(at).unwrap(),
+            PagePlace::Block { file, at } => self.parts.writes[file].block_no(at).unwrap(),
+            PagePlace::Fresh { at } => self.parts.pages[at].no(),
         }
     }
 
@@ -242,7 +191,7 @@ impl Stock {
         requires within { offset + length bytes.now ≤ 4096 }
         ensures { self.new ≡ with_page (number_at self.old (Index file at)) (with_part offset bytes.now (page_in self.old (number_at self.old (Index file at)))) self.old }
     {
-        put_in_index(&mut self.writes[file], at, offset, bytes);
+        put_in_index(&mut self.parts.writes[file], at, offset, bytes);
     }
 
     fn put_block(&mut self, file: usize, at: usize, offset: usize, bytes: &[u8])
@@ -250,7 +199,7 @@ impl Stock {
         requires within { offset + length bytes.now ≤ 4096 }
         ensures { self.new ≡ with_page (number_at self.old (Block file at)) (with_part offset bytes.now (page_in self.old (number_at self.old (Block file at)))) self.old }
     {
-        put_in_block(&mut self.writes[file], at, offset, bytes);
+        put_in_block(&mut self.parts.writes[file], at, offset, bytes);
     }
 
     fn put_fresh(&mut self, at: usize, offset: usize, bytes: &[u8])
@@ -258,7 +207,7 @@ impl Stock {
         requires within { offset + length bytes.now ≤ 4096 }
         ensures { self.new ≡ with_page (number_at self.old (Fresh at)) (with_part offset bytes.now (page_in self.old (number_at self.old (Fresh at)))) self.old }
     {
-        put_in_fresh(&mut self.pages[at], offset, bytes);
+        put_in_fresh(&mut self.parts.pages[at], offset, bytes);
     }
 
     /// Writes a number of 8 bytes into the page at a place.
@@ -279,10 +228,10 @@ impl Stock {
         ensures whole { IsWholeAt self.now file }
     {
         match file {
-            FilePlace::Leased { at } => self.writes[at].body(),
+            FilePlace::Leased { at } => self.parts.writes[at].body(),
             FilePlace::InSlot { page, slot } => {
                 // a look into the stock, in which no page stands at two places
-                let _pages = self.pages.len();
+                let _pages = self.parts.pages.len();
                 body_on(self.page(page), slot)
             }
         }
@@ -300,7 +249,7 @@ impl Stock {
             FilePlace::Leased { at } => self.put_lent_body(at, body),
             FilePlace::InSlot { page, slot } => {
                 // a look into the stock, in which no page stands at two places
-                let _pages = self.pages.len();
+                let _pages = self.parts.pages.len();
                 let _whole = self.page(page).bytes();
                 self.put_part(page, 256 * slot + 192, body)
             }
@@ -314,7 +263,7 @@ impl Stock {
         ensures has { body_at self.new (Leased at) ≡ body.now }
         ensures others { (i : ℕ) → i ≢ at → body_at self.new (Leased i) ≡ body_at self.old (Leased i) }
     {
-        put_lent_body(&mut self.writes[at], body);
+        put_lent_body(&mut self.parts.writes[at], body);
     }
 }
 

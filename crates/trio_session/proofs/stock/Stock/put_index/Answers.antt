@@ -2,7 +2,8 @@ use Rattle.std.proofs.Common.{sym, subst}
 use Rattle.std.specs.Prelude.{IsTrue}
 use Rattle.std.specs.Option.{is_some}
 use Rattle.trio_page.specs.Field.{with_part}
-use Rattle.trio_desk.specs.Out.{Parcel}
+use Rattle.trio_lease.specs.Bundles.{bundled}
+use Rattle.trio_desk.specs.Out.{Parcel, parcel_of}
 use Rattle.trio_session.specs.Layout.{page_in}
 use Rattle.trio_session.specs.inner.Places.{AreApart, number_at, sheet_at}
 use Rattle.trio_session.specs.declared.laid.PagePlace.TheVariants.{Index}
@@ -11,14 +12,14 @@ use Rattle.trio_session.proofs.stock.Stock.put_index.Goals as goal
 
 pub invariant_of-self : goal.invariant_of-self
 invariant_of-self c =
-    let b : Parcel = record { writes = c.self.inside.writes.items; holds = c.self.inside.holds.items; pages = c.self.inside.pages.items; inodes = c.self.inside.inodes.items } in
+    let b = parcel_of (bundled c.self.inside.parts) in
     let there : IsTrue (is_some (sheet_at b (Index c.args.file c.args.at))) = subst (λ (s : Parcel). IsTrue (is_some (sheet_at s (Index c.args.file c.args.at)))) (sym c.self.view_is) c.requires.there in
     let done = put_index b c.args.file c.args.at c.index_mut.result.now c.put_in_index.new.lease c.args.offset c.args.bytes.now c.self.invariant there c.index_mut.ensures.value c.put_in_index.ensures in
     subst AreApart (sym done) (apart_stays (number_at b (Index c.args.file c.args.at)) (with_part c.args.offset c.args.bytes.now (page_in b (number_at b (Index c.args.file c.args.at)))) b c.self.invariant)
 
 pub returns : goal.returns
 returns c =
-    let b : Parcel = record { writes = c.self.inside.writes.items; holds = c.self.inside.holds.items; pages = c.self.inside.pages.items; inodes = c.self.inside.inodes.items } in
+    let b = parcel_of (bundled c.self.inside.parts) in
     let there : IsTrue (is_some (sheet_at b (Index c.args.file c.args.at))) = subst (λ (s : Parcel). IsTrue (is_some (sheet_at s (Index c.args.file c.args.at)))) (sym c.self.view_is) c.requires.there in
     let done = put_index b c.args.file c.args.at c.index_mut.result.now c.put_in_index.new.lease c.args.offset c.args.bytes.now c.self.invariant there c.index_mut.ensures.value c.put_in_index.ensures in
     rw (← c.self.view_is) done

@@ -1,5 +1,6 @@
-use Rattle.std.proofs.Common.{ℕ, ◌<◌, ◌∙◌, length, List, sym, subst, ap}
-use Rattle.trio_desk.specs.Out.{Parcel}
+use Rattle.std.proofs.Common.{◌<◌, ◌∙◌, length, sym, subst, ap}
+use Rattle.trio_lease.specs.Bundles.{bundled}
+use Rattle.trio_desk.specs.Out.{Parcel, parcel_of}
 use Rattle.trio_lease.specs.Shown.{LentFile}
 use Rattle.trio_session.specs.inner.Places.{AreApart, ino_at}
 use Rattle.trio_session.proofs.Places.{body_put, body_set, body_others, apart_body}
@@ -7,25 +8,25 @@ use Rattle.trio_session.proofs.stock.Stock.put_lent_body.Goals as goal
 
 pub invariant_of-self : goal.invariant_of-self
 invariant_of-self c =
-    let b : Parcel = record { writes = c.self.inside.writes.items; holds = c.self.inside.holds.items; pages = c.self.inside.pages.items; inodes = c.self.inside.inodes.items } in
+    let b = parcel_of (bundled c.self.inside.parts) in
     let lt : c.args.at < length b.writes = rw (ap (λ (s : Parcel). length s.writes) c.self.view_is) c.requires in
     let done = body_put b c.args.at c.args.body.now c.index_mut.result.now c.put_lent_body.new.lease c.self.invariant lt c.index_mut.ensures.value c.put_lent_body.ensures in
     subst AreApart (sym done) (apart_body (ino_at b c.args.at) c.args.body.now b c.self.invariant)
 
 pub returns-clause-written : goal.returns-clause-written
 returns-clause-written c =
-    let b : Parcel = record { writes = c.self.inside.writes.items; holds = c.self.inside.holds.items; pages = c.self.inside.pages.items; inodes = c.self.inside.inodes.items } in
+    let b = parcel_of (bundled c.self.inside.parts) in
     let lt : c.args.at < length b.writes = rw (ap (λ (s : Parcel). length s.writes) c.self.view_is) c.requires in
     let done = body_put b c.args.at c.args.body.now c.index_mut.result.now c.put_lent_body.new.lease c.self.invariant lt c.index_mut.ensures.value c.put_lent_body.ensures in
     rw (← c.self.view_is) done
 
 pub returns-clause-has : goal.returns-clause-has
 returns-clause-has c =
-    let b : Parcel = record { writes = c.self.inside.writes.items; holds = c.self.inside.holds.items; pages = c.self.inside.pages.items; inodes = c.self.inside.inodes.items } in
+    let b = parcel_of (bundled c.self.inside.parts) in
     let lt : c.args.at < length b.writes = rw (ap (λ (s : Parcel). length s.writes) c.self.view_is) c.requires in
     body_set b c.args.at c.put_lent_body.new.lease lt ∙ ap (λ (f : LentFile). f.stands.body) c.put_lent_body.ensures
 
 pub returns-clause-others : goal.returns-clause-others
 returns-clause-others c =
-    let b : Parcel = record { writes = c.self.inside.writes.items; holds = c.self.inside.holds.items; pages = c.self.inside.pages.items; inodes = c.self.inside.inodes.items } in
+    let b = parcel_of (bundled c.self.inside.parts) in
     rw (← c.self.view_is) (λ i ne. body_others b c.args.at i c.put_lent_body.new.lease ne)

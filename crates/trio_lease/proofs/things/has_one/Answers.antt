@@ -1,7 +1,7 @@
 use Rattle.std.proofs.Common.{ap, ◌∙◌}
 use Rattle.std.specs.Prelude.{is_some}
-use Rattle.trio_raw.proofs.Places.{copied_some, found_among}
-use Rattle.trio_raw.proofs.lent.has_one.Goals as goal
+use Rattle.trio_lease.proofs.Numbered.{copied_some, found_among}
+use Rattle.trio_lease.proofs.things.has_one.Goals as goal
 
 pub returns : goal.returns
 returns g c =
