@@ -117,8 +117,4 @@ fn main(rt: HostRuntime) -> ExitCode {
 }
 
 #[cfg(test)]
-mod faults;
-#[cfg(test)]
-mod sessions;
-#[cfg(test)]
 mod tests;

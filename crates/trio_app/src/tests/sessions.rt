@@ -1,6 +1,6 @@
 //! Scripts and their reports: what libraries do on an image, and what each line is told.
 
-use crate::tests::{IMAGE_SIZE, Kept, RUN, Row, Start, TURNS, all_end};
+use crate::tests::rows::{IMAGE_SIZE, Kept, RUN, Row, Start, TURNS, all_end};
 use std::process::Abort;
 use std::sync::Wait;
 use std::thread::Threads;

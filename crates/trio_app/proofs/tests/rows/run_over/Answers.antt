@@ -1,7 +1,7 @@
 use Rattle.std.proofs.Common.{◌≡◌, rules}
 use Rattle.std.proofs.lemmas.List.Elements.{All-contains_itself}
 use Rattle.trio_io.specs.Names.{texts_of}
-use Rattle.trio_app.proofs.tests.run_over.Goals as goal
+use Rattle.trio_app.proofs.tests.rows.run_over.Goals as goal
 
 pub trio_main-status-requires-after_bounds : goal.trio_main-status-requires-after_bounds
 trio_main-status-requires-after_bounds g c κs within =

@@ -1,7 +1,7 @@
 //! Runs that meet a fault of a file or of the sink, a damaged image or a bad script, by tables of rows: how
 //! each ends.
 
-use crate::tests::{
+use crate::tests::rows::{
     BEFORE, CHECK, IMAGE_SIZE, JSON, Kept, NEW, Out, RUN, RUNS, Row, Start, TREE, TURNS, all_end,
     row_ends,
 };
