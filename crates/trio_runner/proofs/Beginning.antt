@@ -7,11 +7,7 @@ use Rattle.trio_rights.specs.declared.rights.Creds.{Creds}
 use Rattle.trio_nodes.specs.Libraries.{creds_in as creds_listed}
 use Rattle.trio_nodes.specs.declared.entry.Entry.{Entry}
 use Rattle.trio_desk.specs.Call.{DeskSeen}
-use Rattle.trio_ctl.specs.Desk.{desk_of, out_of}
-use Rattle.trio_raw.specs.Has.{nothing}
-use Rattle.trio_session.specs.Seen.{Room}
-use Rattle.trio_state.specs.State.{creds_of}
-use Rattle.trio_edit_laws.specs.Calls.{MayCall}
+use Rattle.trio_ctl.specs.Desk.{desk_of}
 use Rattle.trio_turn.specs.declared.seat.LibSeat.{LibSeat}
 use Rattle.trio_turn.specs.Marks.{Mark}
 use Rattle.trio_turn.specs.Origins.{Origin}
@@ -21,14 +17,15 @@ use Rattle.trio_shared.specs.declared.held.Held.{Held}
 use Rattle.trio_shared.specs.Left.{desk_left, started}
 use Rattle.trio_shared.specs.Seats.{desk, library_of, seated}
 use Rattle.trio_shared.specs.Turns.{Seated}
-use Rattle.trio_script.specs.declared.Lines.TheVariants.{Raw, Honest}
+use Rattle.trio_script.specs.declared.Lines.{Lines}
 use Rattle.trio_script.specs.declared.ScriptLib.{ScriptLib}
 use Rattle.trio_runner.specs.Courses.{CourseGoes, Place, arrives}
-use Rattle.trio_runner.specs.Play.{Heard, InSession, IsLibraryOf, Things, creds_in, new_session, untold}
+use Rattle.trio_runner.specs.Play.{BeginsWith, Heard, IsLibraryOf, Share, creds_in, untold}
 use Rattle.trio_runner.specs.Rounds.{Ends, line_turns}
+use Rattle.trio_runner.specs.inner.Ready.{HoldsAll}
 use Rattle.trio_runner.specs.inner.Threads.{Arrives, MayGoOn, RanAll, WentThrough, place_at}
-use Rattle.trio_runner.proofs.Calling.{nothing_on_list}
 use Rattle.trio_runner.proofs.EndFree.{begins_all, creds_at}
+use Rattle.trio_runner.proofs.Seats.{begun_goes}
 
 -- the credentials of one library more
 pub creds_more : (libs : List ScriptLib) (i : ℕ) (lib : ScriptLib) (before after : List Creds) → i < length libs → get_or libs i lib ≡ lib
@@ -41,22 +38,12 @@ creds_more libs i lib before after lt is first more =
     ∙ ap creds_in (sym (take-suc libs i lib lt))
     ∙ ap (λ n. creds_in (take n libs)) up
 
-module _ (seat : LibSeat Held) (none : seen seat ≡ []) where
-  -- what is seen of its desk is so at the start
-  began : desk seat ≡ desk_of (started (first seat)) (library_of seat)
-  began = ap (λ (log : List Entry). desk_left (first seat) log (library_of seat)) none
-
-  pub raw_may : MayGoOn (desk seat) (Things nothing)
-  raw_may =
-      subst (λ (d : DeskSeen). MayGoOn d (Things nothing)) (sym began) (
-        nothing_on_list (out_of (started (first seat)) (library_of seat)),
-        begins_all (first seat).image (first seat).creds (library_of seat) (creds_of (started (first seat)) (library seat)) (Raw []) (Things nothing) refl refl,
-      )
-
-  pub honest_may : (creds : Creds) (room : Room) → (desk seat).creds ≡ creds → MayGoOn (desk seat) (InSession (new_session (library_of seat) creds room))
-  honest_may creds room same =
-      subst (λ (d : DeskSeen). MayCall d (new_session (library_of seat) creds room)) (sym began)
-      (begins_all (first seat).image (first seat).creds (library_of seat) creds (Honest []) (InSession (new_session (library_of seat) creds room)) (sym same) (room, refl))
+-- a library may go on from what it begins with
+pub begins_may : (seat : LibSeat Held) (creds : Creds) (lines : Lines) (share : Share) → seen seat ≡ [] → (desk seat).creds ≡ creds → BeginsWith (library_of seat) creds lines share → MayGoOn (desk seat) share
+begins_may seat creds lines share none same begins =
+    let began : desk seat ≡ desk_of (started (first seat)) (library_of seat) = ap (λ (log : List Entry). desk_left (first seat) log (library_of seat)) none in
+    let all = subst (λ (d : DeskSeen). HoldsAll d share) (sym began) (begins_all (first seat).image (first seat).creds (library_of seat) creds lines share (sym same) begins) in
+    (begun_goes (desk seat) (library_of seat) creds lines share begins all, all)
 
 module _ (shared : Shared) (libs : List ScriptLib) (seat : LibSeat Held) (a : Arrives shared libs seat) where
   -- it is the seat of a library of the script

@@ -1,5 +1,5 @@
 -- What each line comes to at a desk.
-use Rattle.std.proofs.Common.{◌≡◌, ℕ, List, [], ◌∷◌, ◌++◌, length, Option, Some, None, Result, Ok, Err, IfOk, OnOk, IsErr, sym, refl, ap, ◌∙◌, subst, inl, inr}
+use Rattle.std.proofs.Common.{◌≡◌, ℕ, List, [], ◌∷◌, Option, Some, None, Result, Ok, Err, IfOk, OnOk, IsErr, sym, refl, ap, ◌∙◌, subst, inl, inr}
 use Rattle.std.specs.Prelude.{MatchOption, IsFalse, if◌then◌else◌}
 use Rattle.std.proofs.lemmas.Bool.{false≢true, true_from_ne_false}
 use Rattle.std.specs.Option.{option_map}
@@ -16,9 +16,9 @@ use Rattle.trio_nodes.specs.declared.entry.AllotAnswer.{AllotAnswer}
 use Rattle.trio_nodes.specs.declared.entry.AllotAnswer.TheVariants.{Given as GivenAnswer, Refused as RefusedAnswer}
 use Rattle.trio_lease.specs.Shown.{Shown}
 use Rattle.trio_desk.specs.Call.{Ask, Told, Grant, Allot, GiveBack, Release, SetMode, Lent, NotLent, Given, NotGiven, Done, Judged, NotJudged, Settled, NotSettled, ModeSet, NotModeSet}
-use Rattle.trio_desk.specs.Calls.{Call, Calls, OneCall, Made, NotMade}
+use Rattle.trio_desk.specs.Calls.{Call, OneCall, Made, NotMade}
 use Rattle.trio_raw.specs.Asked.{AfterAllot, AfterBack, AfterGrant, AfterMode, AfterRelease, Back, IsRefusal, NoAllot, NoGrant, NoRelease, children_in}
-use Rattle.trio_raw.specs.Has.{Has, OnList, nothing, has_all_of, keeps_allotted, parcel_named, read_on}
+use Rattle.trio_raw.specs.Has.{Has, OnList, nothing, has_all_of, parcel_named, read_on}
 use Rattle.trio_raw.specs.declared.raw.RawFault.{RawFault}
 use Rattle.trio_raw.specs.declared.raw.RawFault.TheVariants.{Absent, NotClosed, NoMemory}
 use Rattle.trio_script.specs.declared.line.RawLine.{RawLine}
@@ -26,25 +26,18 @@ use Rattle.trio_script.specs.declared.line.RawLine.TheVariants.{Grant as GrantLi
 use Rattle.trio_report.specs.declared.answer.LineAnswer.{LineAnswer}
 use Rattle.trio_report.specs.declared.answer.LineAnswer.TheVariants as answered
 use Rattle.trio_runner.specs.Line.{Alone, Asks, ask_of, has_after, told_fault, told_grant, told_of, told_unmoded, told_verdict, told_want}
-use Rattle.trio_report.specs.declared.report.EndAnswer.{EndAnswer}
-use Rattle.trio_script.specs.declared.ScriptLine.{ScriptLine}
-use Rattle.trio_script.specs.declared.honest.HonestLine.{HonestLine}
-use Rattle.trio_session.specs.Seen.{SessionSeen}
-use Rattle.trio_edit_laws.specs.Calls.{MayCall}
-use Rattle.trio_walk.specs.Asks.{Settles}
-use Rattle.trio_report.specs.declared.report.EndAnswer.TheVariants.{Settled as EndSettled}
-use Rattle.trio_state.specs.Run.{Move}
+use Rattle.trio_desk.specs.Call.{DeskSeen}
 use Rattle.trio_desk.specs.Out.{LibOut}
 use Rattle.trio_ctl.specs.Ctl.{Controller}
-use Rattle.trio_ctl.specs.Desk.{Happens, LogsCall, desk_of, out_of}
-use Rattle.trio_runner.specs.Rounds.{Says, SaysHonest, Ends}
-use Rattle.trio_runner.specs.Honest.{HonestComes, unnoted}
-use Rattle.trio_runner.specs.Moves.{AreMoves, entries_of}
-use Rattle.trio_runner.specs.Play.{Heard, InSession, Things, TurnComes, with_answer, with_end}
-use Rattle.trio_runner.proofs.Noting.{begins, line_noted, settle_noted}
-use Rattle.trio_runner.specs.inner.Calling.{LineCalled, EndCalled}
-use Rattle.trio_runner.specs.inner.Ready.{TookTurn}
-use Rattle.trio_runner.proofs.Moves.{moves_made}
+use Rattle.trio_ctl.specs.Desk.{Happens, LogsCall, desk_of}
+use Rattle.trio_runner.specs.Rounds.{Turn, Says, SaysHonest, Ends}
+use Rattle.trio_runner.specs.Honest.{Noted, unnoted}
+use Rattle.trio_runner.specs.Moves.{AreMoves}
+use Rattle.trio_runner.specs.Play.{Heard, InSession, Share, Things, TurnComes, with_end}
+use Rattle.trio_runner.specs.Players.{Answer, Ended, GoesOn, LineCalled, Said, TurnMade, with_told}
+use Rattle.trio_runner.specs.inner.Ready.{TookNext, TookTurn, TurnTaken}
+use Rattle.trio_runner.proofs.Noting.{Stands, begins, line_noted, settle_noted}
+use Rattle.trio_runner.proofs.Moves.{MovesMade, moves_made}
 
 -- what follows of an answer
 pub if_ok : {T E : Type 0} (r : Result T E) (P Q : T → Type 0) → ((x : T) → P x → Q x) → IfOk r P → IfOk r Q
@@ -54,6 +47,10 @@ if_ok (Err e) P Q f h = h
 pub on_ok : {T E : Type 0} (r : Result T E) (A B : Type 0) → (A → B) → OnOk r A → OnOk r B
 on_ok (Ok x) A B f h = f h
 on_ok (Err e) A B f h = h
+
+pub on_both : {T E : Type 0} (r : Result T E) (A B C : Type 0) → (A → B → C) → OnOk r A → OnOk r B → OnOk r C
+on_both (Ok x) A B C f a b = f a b
+on_both (Err e) A B C f a b = a
 
 pub ok_is : {T E : Type 0} (r : Result T E) (x : T) (A : Type 0) → r ≡ Ok x → OnOk r A → A
 ok_is (Ok y) x A e h = h
@@ -176,22 +173,22 @@ module _ {D : Type 0} (called : D → Ask → Told → D → Type 0) (d d' : D) 
       asked (AllotLine pages numbers) (Allot pages numbers) (NotGiven (NoInodes wanted free)) told refl c (subst (λ x. AllotTold x told) a t) same
   allot_refused E pages numbers NoAllotMemory answer told c same is t = absurd (false≢true is)
 
-  pub allot_called : (E : Type 0) (seen_lib : LibNo) (pages numbers : ℕ) (answer : AllotAnswer) (told : LineAnswer) → seen_lib ≡ lib → OneCall called d (Allot pages numbers) d' (AfterAllot {E = E} seen_lib has (Ok answer) has') (NoAllot {E = E} has (Ok answer) has') → AllotTold answer told → Comes (AllotLine pages numbers) told
-  allot_called E seen_lib pages numbers answer told same_lib (Made (Given ps ns) c after) t =
+  pub allot_called : (E : Type 0) (pages numbers : ℕ) (answer : AllotAnswer) (told : LineAnswer) → OneCall called d (Allot pages numbers) d' (AfterAllot {E = E} lib has (Ok answer) has') (NoAllot {E = E} has (Ok answer) has') → AllotTold answer told → Comes (AllotLine pages numbers) told
+  allot_called E pages numbers answer told (Made (Given ps ns) c after) t =
       let a : answer ≡ GivenAnswer ps ns = cc (after.0) in
       let is : told ≡ answered.Allotted ps ns = subst (λ x. AllotTold x told) a t in
-      asked (AllotLine pages numbers) (Allot pages numbers) (Given ps ns) told refl c (ap Some (sym is)) (after.1 ∙ ap (λ (l : LibNo). keeps_allotted l has ps ns) same_lib)
-  allot_called E seen_lib pages numbers answer told same_lib (Made (NotGiven fault) c after) t = allot_refused E pages numbers fault answer told c after.1 after.0 t
-  allot_called E seen_lib pages numbers answer told same_lib (Made (Lent l) c after) t = absurd after
-  allot_called E seen_lib pages numbers answer told same_lib (Made (NotLent fault) c after) t = absurd after
-  allot_called E seen_lib pages numbers answer told same_lib (Made Done c after) t = absurd after
-  allot_called E seen_lib pages numbers answer told same_lib (Made (Judged verdict) c after) t = absurd after
-  allot_called E seen_lib pages numbers answer told same_lib (Made (NotJudged fault) c after) t = absurd after
-  allot_called E seen_lib pages numbers answer told same_lib (Made ModeSet c after) t = absurd after
-  allot_called E seen_lib pages numbers answer told same_lib (Made Settled c after) t = absurd after
-  allot_called E seen_lib pages numbers answer told same_lib (Made NotSettled c after) t = absurd after
-  allot_called E seen_lib pages numbers answer told same_lib (Made (NotModeSet fault) c after) t = absurd after
-  allot_called E seen_lib pages numbers answer told same_lib (NotMade same alone) t = absurd (false≢true alone.0)
+      asked (AllotLine pages numbers) (Allot pages numbers) (Given ps ns) told refl c (ap Some (sym is)) after.1
+  allot_called E pages numbers answer told (Made (NotGiven fault) c after) t = allot_refused E pages numbers fault answer told c after.1 after.0 t
+  allot_called E pages numbers answer told (Made (Lent l) c after) t = absurd after
+  allot_called E pages numbers answer told (Made (NotLent fault) c after) t = absurd after
+  allot_called E pages numbers answer told (Made Done c after) t = absurd after
+  allot_called E pages numbers answer told (Made (Judged verdict) c after) t = absurd after
+  allot_called E pages numbers answer told (Made (NotJudged fault) c after) t = absurd after
+  allot_called E pages numbers answer told (Made ModeSet c after) t = absurd after
+  allot_called E pages numbers answer told (Made Settled c after) t = absurd after
+  allot_called E pages numbers answer told (Made NotSettled c after) t = absurd after
+  allot_called E pages numbers answer told (Made (NotModeSet fault) c after) t = absurd after
+  allot_called E pages numbers answer told (NotMade same alone) t = absurd (false≢true alone.0)
 
   pub release_called : (inos pages numbers : List ℕ) (r : Result ReleaseAnswer RawFault) (told : LineAnswer) → (IsFalse (has_all_of has inos pages numbers) → r ≡ Err Absent) → OneCall called d (Release (parcel_named has inos pages numbers)) d' (AfterRelease has inos pages numbers r has') (NoRelease has inos pages numbers r has') → ReleaseTold r told → Comes (ReleaseLine inos pages numbers) told
   release_called inos pages numbers r told absent call is = by call
@@ -235,99 +232,53 @@ module _ {D : Type 0} (called : D → Ask → Told → D → Type 0) (d d' : D) 
 
 -- a desk each of whose calls happens on the controller behind it and is logged there, and keeps its reference and library
 module _ {D N : Type 0} (called : D → Ask → Told → D → Type 0) (ctl : D → Controller) (name : D → N) (lib : D → LibNo) (is : (d : D) (ask : Ask) (told : Told) (d' : D) → called d ask told d' → Happens (ctl d).state (lib d) ask told (ctl d').state × (name d' ≡ name d) × (lib d' ≡ lib d) × LogsCall (ctl d) (lib d) ask told (ctl d')) where
-  pub line_name : (d d' : D) (own : LibNo) (has : Has) (said : RawLine) (told : LineAnswer) (has' : Has) → LineCalled called d own has said told d' has' → name d' ≡ name d
-  line_name d d' own has said told has' l = (moves_made called ctl name lib is l.calls d d' l.made).same
+  abbrev seen_at : D → DeskSeen
+  seen_at d = desk_of (ctl d).state (lib d)
 
-  pub end_name : (d d' : D) (has : Has) (end : EndAnswer) → EndCalled called d has end d' → name d' ≡ name d
-  end_name d d' has end l = (moves_made called ctl name lib is l.calls d d' l.made).same
+  -- a turn, as the definitions note it: the desk stands where the notes end
+  record IsNoted (d d' : D) (turn : Turn) (share : Share) (told : Heard) (share' : Share) (told' : Heard) : Type 0 where
+    notes : Noted
+    comes : TurnComes (lib d) turn (unnoted (ctl d).state) share told notes share' told'
+    stands : Stands called ctl name lib is (lib d) (ctl d) (name d) d' notes
 
-  -- what these calls of the library made of one controller, they made of another name of it
-  record Happened (own : LibNo) (x x' : Controller) (calls : List Call) : Type 0 where
-    moves : List Move
-    happen : AreMoves own x.state calls moves x'.state
-    log_is : x'.log ≡ x.log ++ entries_of own calls moves
-    first : x'.first ≡ x.first
-    begun : x'.begun ≡ x.begun
+  calls_stand : (d d' : D) (calls : List Call) (m : MovesMade called ctl name lib is d calls d')
+      → Stands called ctl name lib is (lib d) (ctl d) (name d) d' (record { state = (ctl d').state; calls = calls; moves = m.moves })
+  calls_stand d d' calls m = record { state = refl; happen = m.happen; log_is = m.log_is; first = m.first; begun = m.begun; same = m.same; same_lib = m.same_lib }
 
-  happened : (d d' : D) (own : LibNo) (x x' : Controller) (calls : List Call) → lib d ≡ own → ctl d ≡ x → x' ≡ ctl d' → Calls called d calls d' → Happened own x x' calls
-  happened d d' own x x' calls of at to made =
-      let m = moves_made called ctl name lib is calls d d' made in
-      subst (λ y. Happened own x y calls) (sym to)
-      (subst (λ y. Happened own y (ctl d') calls) at
-      (subst (λ (l : LibNo). Happened l (ctl d) (ctl d') calls) of
-      (record { moves = m.moves; happen = m.happen; log_is = m.log_is; first = m.first; begun = m.begun })))
-
-  pub line_took : (d d' : D) (own : LibNo) (x x' : Controller) (has : Has) (line : ScriptLine RawLine) (answer : LineAnswer) (has' : Has) (told told' : Heard) → lib d ≡ own → ctl d ≡ x → x' ≡ ctl d' → LineCalled called d own has line.line answer d' has' → OnList (out_of (ctl d').state (lib d')) has' → told' ≡ with_answer told answer → TookTurn own (Says line) x (Things has) told x' (Things has') told'
-  line_took d d' own x x' has line answer has' told told' of at to l on heard =
+  turn_noted : (d d' : D) (turn : Turn) (share : Share) (answer : Answer) (share' : Share) (told told' : Heard) → TurnMade called seen_at turn d share answer d' share' → told' ≡ with_told told answer → IsNoted d d' turn share told share' told'
+  turn_noted d d' (Says line) (Things has) (Said answer) (Things has') told told' l heard =
       let m = moves_made called ctl name lib is l.calls d d' l.made in
-      let h = happened d d' own x x' l.calls of at to l.made in
-      record {
-        calls = l.calls;
-        moves = h.moves;
-        comes = (answer, l.comes, heard);
-        happen = h.happen;
-        log_is = h.log_is;
-        first = h.first;
-        begun = h.begun;
-        goes = subst (λ (y : Controller). OnList (out_of y.state own) has') (sym to) (subst (λ (n : LibNo). OnList (out_of (ctl d').state n) has') (m.same_lib ∙ of) on);
-      }
+      record { notes = record { state = (ctl d').state; calls = l.calls; moves = m.moves }; comes = (answer, l.comes, heard); stands = calls_stand d d' l.calls m }
+  turn_noted d d' (SaysHonest line) (InSession s) (Said answer) (InSession s') told told' c heard =
+      let n = line_noted called ctl name lib is (lib d) (ctl d) (name d) d d' s s' line.line answer (begins called ctl name lib is (lib d) (ctl d) (name d) d refl refl refl) c in
+      record { notes = n.0; comes = (answer, n.1, heard); stands = n.2 }
+  turn_noted d d' Ends (Things has) (Ended end) (Things has') told told' l heard =
+      let m = moves_made called ctl name lib is l.0.calls d d' l.0.made in
+      record { notes = record { state = (ctl d').state; calls = l.0.calls; moves = m.moves }; comes = (end, l.0.comes, l.1, heard); stands = calls_stand d d' l.0.calls m }
+  turn_noted d d' Ends (InSession s) (Ended end) (InSession s') told told' c heard =
+      let n = settle_noted called ctl name lib is (lib d) (ctl d) (name d) d d' s s' (begins called ctl name lib is (lib d) (ctl d) (name d) d refl refl refl) c.0 in
+      record { notes = n.0; comes = (n.1, heard ∙ ap (with_end told) c.1); stands = n.2 }
+  turn_noted d d' turn share answer share' told told' c heard = absurd c
 
-  pub end_took : (d d' : D) (own : LibNo) (x x' : Controller) (has : Has) (end : EndAnswer) (has' : Has) (told told' : Heard) → lib d ≡ own → ctl d ≡ x → x' ≡ ctl d' → has' ≡ nothing → EndCalled called d has end d' → told' ≡ with_end told end → TookTurn own Ends x (Things has) told x' (Things has') told'
-  end_took d d' own x x' has end has' told told' of at to none l heard =
-      let h = happened d d' own x x' l.calls of at to l.made in
-      record {
-        calls = l.calls;
-        moves = h.moves;
-        comes = (end, l.comes, none, heard);
-        happen = h.happen;
-        log_is = h.log_is;
-        first = h.first;
-        begun = h.begun;
-        goes = subst (OnList (out_of x'.state own)) (sym none) (nothing_on_list (out_of x'.state own));
-      }
+  pub turn_name : (d d' : D) (o : Option Turn) (share share' : Share) (told told' : Heard) → TurnTaken called seen_at o d share told d' share' told' → name d' ≡ name d
+  turn_name d d' None share share' told told' t = ap name t.0
+  turn_name d d' (Some turn) share share' told told' t = (turn_noted d d' turn share t.0 share' told told' t.1 t.2).stands.same
 
-  -- a line of a session, and its settle
-  pub honest_name : (d d' : D) (s s' : SessionSeen) (line : HonestLine) (told : LineAnswer) → HonestComes called (λ y. desk_of (ctl y).state (lib y)) d s line told d' s' → name d' ≡ name d
-  honest_name d d' s s' line told c =
-      (line_noted called ctl name lib is (lib d) (ctl d) (name d) d d' s s' line told (begins called ctl name lib is (lib d) (ctl d) (name d) d refl refl refl) c).2.same
-
-  pub honest_lib : (d d' : D) (s s' : SessionSeen) (line : HonestLine) (told : LineAnswer) → HonestComes called (λ y. desk_of (ctl y).state (lib y)) d s line told d' s' → lib d' ≡ lib d
-  honest_lib d d' s s' line told c =
-      (line_noted called ctl name lib is (lib d) (ctl d) (name d) d d' s s' line told (begins called ctl name lib is (lib d) (ctl d) (name d) d refl refl refl) c).2.same_lib
-
-  pub settle_name : (d d' : D) (s s' : SessionSeen) → Settles called d s d' s' → name d' ≡ name d
-  settle_name d d' s s' c =
-      (settle_noted called ctl name lib is (lib d) (ctl d) (name d) d d' s s' (begins called ctl name lib is (lib d) (ctl d) (name d) d refl refl refl) c).2.same
-
-  pub honest_took : (d d' : D) (own : LibNo) (x x' : Controller) (s : SessionSeen) (line : ScriptLine HonestLine) (answer : LineAnswer) (s' : SessionSeen) (told told' : Heard) → lib d ≡ own → ctl d ≡ x → x' ≡ ctl d'
-      → HonestComes called (λ y. desk_of (ctl y).state (lib y)) d s line.line answer d' s' → MayCall (desk_of (ctl d').state (lib d')) s' → told' ≡ with_answer told answer → TookTurn own (SaysHonest line) x (InSession s) told x' (InSession s') told'
-  honest_took d d' own x x' s line answer s' told told' of at to c may heard =
-      let n = line_noted called ctl name lib is own x (name d) d d' s s' line.line answer (begins called ctl name lib is own x (name d) d at refl of) c in
-      let end : x'.state ≡ n.0.state = ap (λ (y : Controller). y.state) to ∙ n.2.state in
-      record {
-        calls = n.0.calls;
-        moves = n.0.moves;
-        comes = subst (λ st. TurnComes own (SaysHonest line) (unnoted x.state) (InSession s) told (record { state = st; calls = n.0.calls; moves = n.0.moves }) (InSession s') told') (sym end) (answer, n.1, heard);
-        happen = subst (λ st. AreMoves own x.state n.0.calls n.0.moves st) (sym end) n.2.happen;
-        log_is = ap (λ (y : Controller). y.log) to ∙ n.2.log_is;
-        first = ap (λ (y : Controller). y.first) to ∙ n.2.first;
-        begun = ap (λ (y : Controller). y.begun) to ∙ n.2.begun;
-        goes = subst (λ (y : Controller). MayCall (desk_of y.state own) s') (sym to) (subst (λ l. MayCall (desk_of (ctl d').state l) s') n.2.same_lib may);
-      }
-
-  pub settle_took : (d d' : D) (own : LibNo) (x x' : Controller) (s s' : SessionSeen) (count : ℕ) (told told' : Heard) → lib d ≡ own → ctl d ≡ x → x' ≡ ctl d'
-      → Settles called d s d' s' → count ≡ length s.calls → MayCall (desk_of (ctl d').state (lib d')) s' → told' ≡ with_end told (EndSettled count) → TookTurn own Ends x (InSession s) told x' (InSession s') told'
-  settle_took d d' own x x' s s' count told told' of at to c counts may heard =
-      let n = settle_noted called ctl name lib is own x (name d) d d' s s' (begins called ctl name lib is own x (name d) d at refl of) c in
-      let end : x'.state ≡ n.0.state = ap (λ (y : Controller). y.state) to ∙ n.2.state in
-      record {
-        calls = n.0.calls;
-        moves = n.0.moves;
-        comes = subst (λ st. TurnComes own Ends (unnoted x.state) (InSession s) told (record { state = st; calls = n.0.calls; moves = n.0.moves }) (InSession s') told') (sym end)
-            (n.1, heard ∙ ap (λ k. with_end told (EndSettled k)) counts);
-        happen = subst (λ st. AreMoves own x.state n.0.calls n.0.moves st) (sym end) n.2.happen;
-        log_is = ap (λ (y : Controller). y.log) to ∙ n.2.log_is;
-        first = ap (λ (y : Controller). y.first) to ∙ n.2.first;
-        begun = ap (λ (y : Controller). y.begun) to ∙ n.2.begun;
-        goes = subst (λ (y : Controller). MayCall (desk_of y.state own) s') (sym to) (subst (λ l. MayCall (desk_of (ctl d').state l) s') n.2.same_lib may);
-      }
+  pub turn_took : (d d' : D) (own : LibNo) (x x' : Controller) (o : Option Turn) (share share' : Share) (told told' : Heard) → lib d ≡ own → ctl d ≡ x → x' ≡ ctl d'
+      → TurnTaken called seen_at o d share told d' share' told' → GoesOn (seen_at d') share' → TookNext own o x share told x' share' told'
+  turn_took d d' own x x' None share share' told told' of at to t goes = (to ∙ ap ctl t.0 ∙ at, t.1, t.2)
+  turn_took d d' own x x' (Some turn) share share' told told' of at to t goes =
+      let n = turn_noted d d' turn share t.0 share' told told' t.1 t.2 in
+      subst (λ l. TookTurn l turn x share told x' share' told') of
+      (subst (λ y. TookTurn (lib d) turn y share told x' share' told') at
+      (subst (λ y. TookTurn (lib d) turn (ctl d) share told y share' told') (sym to)
+      (record {
+        calls = n.notes.calls;
+        moves = n.notes.moves;
+        comes = subst (λ s. TurnComes (lib d) turn (unnoted (ctl d).state) share told (record { state = s; calls = n.notes.calls; moves = n.notes.moves }) share' told') (sym n.stands.state) n.comes;
+        happen = subst (λ s. AreMoves (lib d) (ctl d).state n.notes.calls n.notes.moves s) (sym n.stands.state) n.stands.happen;
+        log_is = n.stands.log_is;
+        first = n.stands.first;
+        begun = n.stands.begun;
+        goes = subst (λ l. GoesOn (desk_of (ctl d').state l) share') n.stands.same_lib goes;
+      })))

@@ -75,11 +75,11 @@ start_has_all image creds lib has = record {
 }
 
 -- a library holds all when it begins
-pub begins_all : (image : Image) (creds : List Creds) (lib : LibNo) (own : Creds) (lines : Lines) (share : Share) → own ≡ creds_of (start image creds) lib.0 → BeginsWith lib own lines share → HoldsAll (start image creds) lib share
+pub begins_all : (image : Image) (creds : List Creds) (lib : LibNo) (own : Creds) (lines : Lines) (share : Share) → own ≡ creds_of (start image creds) lib.0 → BeginsWith lib own lines share → HoldsAll (desk_of (start image creds) lib) share
 begins_all image creds lib own (Raw lines) share same begins =
-    subst (HoldsAll (start image creds) lib) (sym begins) (start_has_all image creds lib nothing)
+    subst (HoldsAll (desk_of (start image creds) lib)) (sym begins) (start_has_all image creds lib nothing)
 begins_all image creds lib own (Honest lines) share same begins =
-    subst (HoldsAll (start image creds) lib) (sym begins.1)
+    subst (HoldsAll (desk_of (start image creds) lib)) (sym begins.1)
     (begins_to_call (desk_of (start image creds) lib) _ (record { lib = refl; creds = same; out = nothing_at_start image creds lib; empty = refl }))
 
 creds_placed : (libs : List ScriptLib) (k : ℕ) (l : ScriptLib) → slice_get libs k ≡ Some l → l.creds ≡ creds_listed (creds_in libs) (suc k)
@@ -119,7 +119,7 @@ start_stands image libs p begins kept =
       all = λ lib is.
           let is' : IsLibrary lib (start image creds) = subst (λ s. IsLibrary lib s) begins.state is in
           let l = script_library image libs lib is' in
-          subst (λ s. HoldsAll s lib (share_of p lib)) at
+          subst (λ s. HoldsAll (desk_of s lib) (share_of p lib)) at
           (begins_all image creds lib l.0.creds l.0.lines (share_of p lib) (creds_at libs lib.0 l.0 l.1.0 l.1.1) (begins.begins lib l.0 l.1));
       nobody_else = λ lib none. subst (λ s. HasAll (out_of s lib) nothing) at (start_has_all image creds lib nothing);
     }

@@ -1,14 +1,10 @@
 -- A library's turns at its seat.
-use Rattle.std.proofs.Common.{◌≡◌, ℕ, suc, ◌+◌, ◌<◌, List, [], ◌∷◌, ◌++◌, length, map, get_or, take, Option, Some, None, sym, refl, ap, ◌∙◌, subst, arith, take-suc}
-use Rattle.std.proofs.lemmas.List.{map-append}
-use Rattle.std.specs.Prelude.{MatchOption}
+use Rattle.std.proofs.Common.{◌≡◌, ℕ, suc, ◌+◌, ◌<◌, List, [], ◌∷◌, ◌++◌, length, get_or, take, Option, Some, sym, refl, ap, ◌∙◌, subst, arith, take-suc}
 use Rattle.trio_rights.specs.declared.rights.LibNo.{LibNo}
 use Rattle.trio_desk.specs.Call.{Ask, DeskSeen, Told}
 use Rattle.trio_desk.specs.Calls.{Call, Calls}
-use Rattle.trio_desk.specs.Out.{IsClosed}
 use Rattle.trio_state.specs.State.{State}
 use Rattle.trio_ctl.specs.Desk.{desk_of}
-use Rattle.trio_raw.specs.Has.{Has, OnList, nothing, whole_parcel}
 use Rattle.trio_session.specs.Seen.{SessionSeen}
 use Rattle.trio_walk.specs.Asks.{Settles}
 use Rattle.trio_turn.specs.Seats.{first, library, seen}
@@ -20,24 +16,19 @@ use Rattle.trio_shared.specs.Laws.{DeskIsLeft, OthersLeave}
 use Rattle.trio_shared.specs.Seats.{IsIdle, IsSeatOf, desk, library_of, seated}
 use Rattle.trio_shared.specs.Turns.{Seated}
 use Rattle.trio_shared.specs.Turns as turns
-use Rattle.trio_script.specs.declared.line.RawLine.{RawLine}
-use Rattle.trio_script.specs.declared.ScriptLine.{ScriptLine}
 use Rattle.trio_script.specs.declared.honest.HonestLine.{HonestLine}
 use Rattle.trio_report.specs.declared.answer.LineAnswer.{LineAnswer}
-use Rattle.trio_report.specs.declared.report.EndAnswer.{EndAnswer}
-use Rattle.trio_report.specs.declared.report.EndAnswer.TheVariants.{Settled as EndSettled}
-use Rattle.trio_runner.specs.Line.{Alone, Asks, LineComes, ask_of}
 use Rattle.trio_runner.specs.Honest.{HonestComes}
 use Rattle.trio_runner.specs.Rounds.{Turn, Says, SaysHonest, Ends}
-use Rattle.trio_runner.specs.Play.{Heard, Share, Things, InSession, with_answer, with_end}
+use Rattle.trio_runner.specs.Play.{Heard, Share, Things, InSession, with_end}
+use Rattle.trio_runner.specs.Players.{Answer, Ended, GoesOn, HasClosed, Said, TurnMade, with_told}
 use Rattle.trio_runner.specs.Courses.{CourseGoes, Goes, Going, Place, TurnGoes, sees_at}
-use Rattle.trio_runner.specs.inner.Calling.{EndCalled, LineCalled}
-use Rattle.trio_runner.specs.inner.Ready.{HasAll}
-use Rattle.trio_runner.specs.inner.Threads.{MayGoOn, Sits, Went, place_at}
-use Rattle.trio_runner.proofs.Held.{CallLeaves, Leave, happens_leaves, line_held}
+use Rattle.trio_runner.specs.inner.Ready.{HasAll, HoldsAll, TurnTaken}
+use Rattle.trio_runner.specs.inner.Threads.{Sits, TookAtSeat, Went, place_at}
+use Rattle.trio_runner.proofs.Held.{CallLeaves, Leave, end_held, happens_leaves, line_held}
 use Rattle.trio_runner.proofs.Leaving.{found_desk, left_stands}
 use Rattle.trio_runner.proofs.Noting.{calls_follow, line_follows, settles_follow}
-use Rattle.trio_runner.proofs.Seats.{all_closed}
+use Rattle.trio_runner.proofs.Seats.{share_closed}
 
 -- ---- turns, and more turns
 
@@ -49,7 +40,7 @@ module _ (shared : Shared) where
   pub went_none : (seat : LibSeat Held) (share : Share) (told : Heard) → Sits shared seat → Went shared [] seat share told seat share told
   went_none seat share told sits = record { goes = λ calls. (calls, refl); sits = sits; library = refl }
 
-  pub went_more : (xs ys : List Turn) (a : LibSeat Held) (sa : Share) (ta : Heard) (b : LibSeat Held) (sb : Share) (tb : Heard) (c : LibSeat Held) (sc : Share) (tc : Heard)
+  went_more : (xs ys : List Turn) (a : LibSeat Held) (sa : Share) (ta : Heard) (b : LibSeat Held) (sb : Share) (tb : Heard) (c : LibSeat Held) (sc : Share) (tc : Heard)
       → Went shared xs a sa ta b sb tb → Went shared ys b sb tb c sc tc → Went shared (xs ++ ys) a sa ta c sc tc
   went_more xs ys a sa ta b sb tb c sc tc one two = record {
     goes = λ calls.
@@ -60,17 +51,16 @@ module _ (shared : Shared) where
     library = two.library ∙ one.library;
   }
 
-  -- the turn of the next line
-  pub went_line : {X : Type 0} (f : X → Turn) (lines : List X) (i : ℕ) (x : X) (a : LibSeat Held) (sa : Share) (ta : Heard) (b : LibSeat Held) (sb : Share) (tb : Heard) (c : LibSeat Held) (sc : Share) (tc : Heard)
-      → i < length lines → x ≡ get_or lines i x → Went shared (map f (take i lines)) a sa ta b sb tb → Went shared (f x ∷ []) b sb tb c sc tc → Went shared (map f (take (i + 1) lines)) a sa ta c sc tc
-  went_line f lines i x a sa ta b sb tb c sc tc low is one two =
+  -- the next one of some turns
+  pub went_next : (turns : List Turn) (i : ℕ) (a : LibSeat Held) (sa : Share) (ta : Heard) (b : LibSeat Held) (sb : Share) (tb : Heard) (c : LibSeat Held) (sc : Share) (tc : Heard)
+      → i < length turns → Went shared (take i turns) a sa ta b sb tb → Went shared (get_or turns i Ends ∷ []) b sb tb c sc tc → Went shared (take (i + 1) turns) a sa ta c sc tc
+  went_next turns i a sa ta b sb tb c sc tc low one two =
       let n : i + 1 ≡ suc i = omega arith in
-      let more : take (i + 1) lines ≡ take i lines ++ x ∷ [] = ap (λ m. take m lines) n ∙ take-suc lines i x low ∙ ap (λ y. take i lines ++ y ∷ []) (sym is) in
-      subst (λ ts. Went shared ts a sa ta c sc tc) (sym (ap (map f) more ∙ map-append f (take i lines) (x ∷ [])))
-      (went_more (map f (take i lines)) (f x ∷ []) a sa ta b sb tb c sc tc one two)
+      subst (λ ts. Went shared ts a sa ta c sc tc) (sym (ap (λ m. take m turns) n ∙ take-suc turns i Ends low))
+      (went_more (take i turns) (get_or turns i Ends ∷ []) a sa ta b sb tb c sc tc one two)
 
   -- one turn
-  pub went_one : (turn : Turn) (a : LibSeat Held) (sa : Share) (ta : Heard) (b : LibSeat Held) (sb : Share) (tb : Heard)
+  went_one : (turn : Turn) (a : LibSeat Held) (sa : Share) (ta : Heard) (b : LibSeat Held) (sb : Share) (tb : Heard)
       → ((calls : List Call) → (calls' : List Call) × TurnGoes turn (record { seat = seated a; calls = calls }) sa ta (record { seat = seated b; calls = calls' }) sb tb)
       → Sits shared b → library b ≡ library a → Went shared (turn ∷ []) a sa ta b sb tb
   went_one turn a sa ta b sb tb goes sits same = record {
@@ -133,89 +123,22 @@ module _ {D N : Type 0} (called : D → Ask → Told → D → Type 0) (shared :
     settle_goes : (d d' : D) (g : Going) (s s' : SessionSeen) → Is d g → Settles called d s d' s' → (g' : Going) × Settles Goes g s g' s' × Is d' g'
     settle_goes d d' g s s' i c = settles_follow called Goes seen_at sees_at Is same_seen step d d' g s s' i c
 
-  -- calls keep the controller, the reference and the library
-  pub record SameDesk (d d' : D) : Type 0 where
-    pub same_shared : shared d' ≡ shared d
-    pub same_name : name d' ≡ name d
-    pub same_lib : library_of (seat d') ≡ library_of (seat d)
-
-  same_of : (d d' : D) (g : Going) → Stands (shared d) (name d) (library_of (seat d)) d' g → SameDesk d d'
-  same_of d d' g s = record { same_shared = s.same_shared; same_name = s.same_name; same_lib = s.same_lib }
-
-  pub line_same : (d d' : D) (l0 : IsLeft d) (lib : LibNo) (has : Has) (said : RawLine) (told : LineAnswer) (has' : Has) → LineCalled called d lib has said told d' has' → SameDesk d d'
-  line_same d d' l0 lib has said told has' l = (let g = calls_go (shared d) (name d) (library_of (seat d)) l.calls d d' _ (stands d [] l0) l.made in same_of d d' g.0 g.2)
-
-  pub end_same : (d d' : D) (l0 : IsLeft d) (has : Has) (end : EndAnswer) → EndCalled called d has end d' → SameDesk d d'
-  end_same d d' l0 has end l = (let g = calls_go (shared d) (name d) (library_of (seat d)) l.calls d d' _ (stands d [] l0) l.made in same_of d d' g.0 g.2)
-
-  pub honest_same : (d d' : D) (l0 : IsLeft d) (s s' : SessionSeen) (line : HonestLine) (told : LineAnswer) → HonestComes called seen_at d s line told d' s' → SameDesk d d'
-  honest_same d d' l0 s s' line told c = (let g = line_goes (shared d) (name d) (library_of (seat d)) d d' _ s s' line told (stands d [] l0) c in same_of d d' g.0 g.2)
-
-  pub settle_same : (d d' : D) (l0 : IsLeft d) (s s' : SessionSeen) → Settles called d s d' s' → SameDesk d d'
-  settle_same d d' l0 s s' c = (let g = settle_goes (shared d) (name d) (library_of (seat d)) d d' _ s s' (stands d [] l0) c in same_of d d' g.0 g.2)
-
-  -- ---- what is left of the seat
-
-  module _ (d d' : D) (l0 : IsLeft d) (sh : Shared) (old new : LibSeat Held) (of : shared d ≡ sh) (at : seat d ≡ old) (to : new ≡ seat d') (same : SameDesk d d') (is_seat : IsSeatOf (shared d') (seat d')) (is_idle : IsIdle (seat d')) where
-    seat_sits : IsLeft d' → Sits sh new
-    seat_sits l = record {
-      is_seat = subst (IsSeatOf sh) (sym to) (subst (λ (x : Shared). IsSeatOf x (seat d')) (same.same_shared ∙ of) is_seat);
-      is_idle = subst IsIdle (sym to) is_idle;
-      state = l.state;
-      left = subst (λ (x : LibSeat Held). Leaves (first x) (seen x) l.state) (sym to) l.left;
-    }
-
-    same_library : library new ≡ library old
-    same_library = ap library to ∙ ap (λ (l : LibNo). l.0) same.same_lib ∙ ap library at
-
-    abbrev WentHere : Turn → Share → Heard → Share → Heard → Type 0
-    WentHere turn share told share' told' = Went sh (turn ∷ []) old share told new share' told'
-
-    -- a turn that comes to this at the desk
-    went : (turn : Turn) (share : Share) (told : Heard) (share' : Share) (told' : Heard)
-        → ((calls : List Call) → (g' : Going) × TurnGoes turn (record { seat = seated (seat d); calls = calls }) share told g' share' told' × Stands (shared d) (name d) (library_of (seat d)) d' g')
-        → WentHere turn share told share' told'
-    went turn share told share' told' goes =
-        went_one sh turn old share told new share' told'
-        (λ calls.
-        let g = goes calls in
-        let end : g.0.seat ≡ seated new = sym g.2.at ∙ sym (ap seated to) in (
-          g.0.calls,
-          subst (λ (x : Seated). TurnGoes turn (record { seat = seated old; calls = calls }) share told (record { seat = x; calls = g.0.calls }) share' told') end
-              (subst (λ (x : LibSeat Held). TurnGoes turn (record { seat = seated x; calls = calls }) share told g.0 share' told') at g.1),
-        )) (seat_sits (goes []).2.left) same_library
-
-    pub line_went : (has : Has) (line : ScriptLine RawLine) (answer : LineAnswer) (has' : Has) (told told' : Heard) (own : LibNo) → own ≡ library_of old → LineCalled called d own has line.line answer d' has' → told' ≡ with_answer told answer
-        → WentHere (Says line) (Things has) told (Things has') told'
-    line_went has line answer has' told told' own of_old l heard =
-        went (Says line) (Things has) told (Things has') told'
-        (λ calls.
-        let g = calls_go (shared d) (name d) (library_of (seat d)) l.calls d d' (record { seat = seated (seat d); calls = calls }) (stands d calls l0) l.made in
-        (g.0, (l.calls, answer, subst (λ n. LineComes n has line.line l.calls answer has') (of_old ∙ sym (ap (λ (x : LibSeat Held). library_of x) at)) l.comes, g.1, heard), g.2))
-
-    pub end_went : (has : Has) (end : EndAnswer) (told told' : Heard) → EndCalled called d has end d' → told' ≡ with_end told end → WentHere Ends (Things has) told (Things nothing) told'
-    end_went has end told told' l heard =
-        went Ends (Things has) told (Things nothing) told'
-        (λ calls.
-        let g = calls_go (shared d) (name d) (library_of (seat d)) l.calls d d' (record { seat = seated (seat d); calls = calls }) (stands d calls l0) l.made in
-        (g.0, (l.calls, end, l.comes, g.1, refl, heard), g.2))
-
-    -- a session's
-    pub honest_went : (s s' : SessionSeen) (line : ScriptLine HonestLine) (answer : LineAnswer) (told told' : Heard) → HonestComes called seen_at d s line.line answer d' s' → told' ≡ with_answer told answer
-        → WentHere (SaysHonest line) (InSession s) told (InSession s') told'
-    honest_went s s' line answer told told' c heard =
-        went (SaysHonest line) (InSession s) told (InSession s') told'
-        (λ calls.
-        let g = line_goes (shared d) (name d) (library_of (seat d)) d d' (record { seat = seated (seat d); calls = calls }) s s' line.line answer (stands d calls l0) c in
-        (g.0, (answer, g.1, heard), g.2))
-
-    pub settle_went : (s s' : SessionSeen) (count : ℕ) (told told' : Heard) → Settles called d s d' s' → count ≡ length s.calls → told' ≡ with_end told (EndSettled count)
-        → WentHere Ends (InSession s) told (InSession s') told'
-    settle_went s s' count told told' c counts heard =
-        went Ends (InSession s) told (InSession s') told'
-        (λ calls.
-        let g = settle_goes (shared d) (name d) (library_of (seat d)) d d' (record { seat = seated (seat d); calls = calls }) s s' (stands d calls l0) c in
-        (g.0, (g.1, heard ∙ ap (λ k. with_end told (EndSettled k)) counts), g.2))
+  -- a turn at the desk is one of its library
+  turn_goes : (d d' : D) (calls : List Call) (l0 : IsLeft d) (turn : Turn) (share : Share) (answer : Answer) (share' : Share) (told told' : Heard) → TurnMade called seen_at turn d share answer d' share' → told' ≡ with_told told answer
+      → (g' : Going) × TurnGoes turn (record { seat = seated (seat d); calls = calls }) share told g' share' told' × Stands (shared d) (name d) (library_of (seat d)) d' g'
+  turn_goes d d' calls l0 (Says line) (Things has) (Said answer) (Things has') told told' l heard =
+      let g = calls_go (shared d) (name d) (library_of (seat d)) l.calls d d' _ (stands d calls l0) l.made in
+      (g.0, (l.calls, answer, l.comes, g.1, heard), g.2)
+  turn_goes d d' calls l0 (SaysHonest line) (InSession s) (Said answer) (InSession s') told told' c heard =
+      let g = line_goes (shared d) (name d) (library_of (seat d)) d d' _ s s' line.line answer (stands d calls l0) c in
+      (g.0, (answer, g.1, heard), g.2)
+  turn_goes d d' calls l0 Ends (Things has) (Ended end) (Things has') told told' l heard =
+      let g = calls_go (shared d) (name d) (library_of (seat d)) l.0.calls d d' _ (stands d calls l0) l.0.made in
+      (g.0, (l.0.calls, end, l.0.comes, g.1, l.1, heard), g.2)
+  turn_goes d d' calls l0 Ends (InSession s) (Ended end) (InSession s') told told' c heard =
+      let g = settle_goes (shared d) (name d) (library_of (seat d)) d d' _ s s' (stands d calls l0) c.0 in
+      (g.0, (g.1, heard ∙ ap (with_end told) c.1), g.2)
+  turn_goes d d' calls l0 turn share answer share' told told' c heard = absurd c
 
   -- ---- by what is known of each state
 
@@ -224,57 +147,70 @@ module _ {D N : Type 0} (called : D → Ask → Told → D → Type 0) (shared :
     here : (d : D) (l : IsLeft d) → desk_of l.state (library_of (seat d)) ≡ seen_at d
     here d l = is_left (first (seat d)) (seen (seat d)) l.state (library_of (seat d)) l.left
 
-    -- all that a raw library has is closed
-    pub has_closed : (d : D) (sh : Shared) (old : LibSeat Held) (has : Has) → seat d ≡ old → Sits sh old → HasAll (desk old).out has → IsClosed (seen_at d).out (whole_parcel has)
-    has_closed d sh old has at sits all =
-        let lib : LibNo = library_of old in
-        let same : desk_of sits.state lib ≡ desk old = is_left (first old) (seen old) sits.state lib sits.left in
-        let o = left_stands (first old) (seen old) sits.state sits.left in
-        subst (λ (x : LibSeat Held). IsClosed (desk x).out (whole_parcel has)) (sym at)
-        (subst (λ (x : DeskSeen). IsClosed x.out (whole_parcel has)) same
-        (all_closed sits.state lib has o.kept o.as_told (subst (λ (x : DeskSeen). HasAll x.out has) (sym same) all)))
+    -- a library that has all that is out to it may come to its end
+    pub has_closed : (d : D) (l : IsLeft d) (share : Share) → HoldsAll (seen_at d) share → HasClosed (seen_at d) share
+    has_closed d l share all =
+        let o = left_stands (first (seat d)) (seen (seat d)) l.state l.left in
+        subst (λ (x : DeskSeen). HasClosed x share) (here d l)
+        (share_closed l.state (library_of (seat d)) share o.kept o.as_told (subst (λ (x : DeskSeen). HoldsAll x share) (sym (here d l)) all))
 
     module _ (others_leave : OthersLeave) where
-      -- after a line it has all that is out to it
-      module _ (d d' : D) (has has' : Has) (said : RawLine) (told : LineAnswer) (l0 : IsLeft d) (all : HasAll (seen_at d).out has) where
-        by_alone : (calls : List Call) → calls ≡ [] → LineComes (library_of (seat d)) has said calls told has' → Calls called d calls d' → HasAll (seen_at d').out has'
-        by_alone calls none comes made =
-            let same : d' ≡ d = subst (λ (cs : List Call). Calls called d cs d') none made in
-            let leave : Leave (seen_at d).out calls (seen_at d').out =
-            subst (λ (cs : List Call). Leave (seen_at d).out cs (seen_at d').out) (sym none) (ap (λ x. (seen_at x).out) same) in
-            line_held (library_of (seat d)) (seen_at d).out (seen_at d').out has has' calls told all leave said comes
-
-        by_one : (calls : List Call) (c : Call) → calls ≡ c ∷ [] → LineComes (library_of (seat d)) has said calls told has' → Calls called d calls d' → HasAll (seen_at d').out has'
-        by_one calls c one comes made =
-            let made1 : Calls called d (c ∷ []) d' = subst (λ (cs : List Call). Calls called d cs d') one made in
-            let called1 : called d c.ask c.told d' = subst (called d c.ask c.told) (sym made1.2) made1.1 in
-            let lib : LibNo = library_of (seat d) in
-            let t = (is d c.ask c.told d' called1).0 in
-            let found = found_desk is_left others_leave (first (seat d)) (seen (seat d)) t.others t.before lib t.found t.not_its_own in
-            let l1 : IsLeft d' = record { state = t.after; left = t.left } in
-            let then' : desk_of t.after lib ≡ seen_at d' = ap (desk_of t.after) (sym t.lib) ∙ here d' l1 in
-            let kept = (left_stands (first (seat d)) (seen (seat d) ++ t.others) t.before t.found).kept in
-            let leaves : CallLeaves (seen_at d).out c.ask c.told (seen_at d').out =
+      -- what calls leave out to the library
+      leaves : (calls : List Call) (d d' : D) → IsLeft d → Calls called d calls d' → Leave (seen_at d).out calls (seen_at d').out
+      leaves [] d d' l made = ap (λ x. (seen_at x).out) made
+      leaves (c ∷ calls) d d' l made =
+          let lib : LibNo = library_of (seat d) in
+          let t = (is d c.ask c.told made.0 made.1).0 in
+          let found = found_desk is_left others_leave (first (seat d)) (seen (seat d)) t.others t.before lib t.found t.not_its_own in
+          let l1 : IsLeft made.0 = record { state = t.after; left = t.left } in
+          let then' : desk_of t.after lib ≡ seen_at made.0 = ap (desk_of t.after) (sym t.lib) ∙ here made.0 l1 in
+          let kept = (left_stands (first (seat d)) (seen (seat d) ++ t.others) t.before t.found).kept in (
+            (seen_at made.0).out,
             subst (λ (x : DeskSeen). CallLeaves (seen_at d).out c.ask c.told x.out) then'
-            (subst (λ (x : DeskSeen). CallLeaves x.out c.ask c.told (desk_of t.after lib).out) found
-            (happens_leaves t.before lib c.ask c.told t.after kept t.did)) in
-            let leave : Leave (seen_at d).out calls (seen_at d').out =
-            subst (λ (cs : List Call). Leave (seen_at d).out cs (seen_at d').out) (sym one) ((seen_at d').out, leaves, refl) in
-            line_held lib (seen_at d).out (seen_at d').out has has' calls told all leave said comes
-
-        has_all : (calls : List Call) → LineComes (library_of (seat d)) has said calls told has' → Calls called d calls d' → HasAll (seen_at d').out has'
-        has_all calls comes made = by (ask_of has said) refl comes
-          where
-            by : (o : Option Ask) → ask_of has said ≡ o → MatchOption o (Alone has said calls told has') (λ ask. Asks (library_of (seat d)) has said ask calls told has') → HasAll (seen_at d').out has'
-            by None e a = by_alone calls a.calls_are comes made
-            by (Some ask) e a = by_one calls (record { ask = ask; told = a.answer }) a.calls_are comes made
-
-      pub line_may : (d d' : D) (sh : Shared) (old new : LibSeat Held) (has : Has) (line : RawLine) (answer : LineAnswer) (has' : Has) → seat d ≡ old → new ≡ seat d' → Sits sh old → HasAll (desk old).out has
-          → (own : LibNo) → own ≡ library_of old → LineCalled called d own has line answer d' has' → OnList (seen_at d').out has' → MayGoOn (desk new) (Things has')
-      line_may d d' sh old new has line answer has' at to sits all own of_old l on =
-          let l0 : IsLeft d = left_of d sh old at sits in (
-            subst (λ (x : LibSeat Held). OnList (desk x).out has') (sym to) on,
-            subst (λ (x : LibSeat Held). HasAll (desk x).out has') (sym to)
-                (has_all d d' has has' line answer l0 (subst (λ (x : LibSeat Held). HasAll (desk x).out has) (sym at) all)
-                l.calls (subst (λ n. LineComes n has line l.calls answer has') (of_old ∙ sym (ap (λ (x : LibSeat Held). library_of x) at)) l.comes) l.made),
+                (subst (λ (x : DeskSeen). CallLeaves x.out c.ask c.told (desk_of t.after lib).out) found
+                (happens_leaves t.before lib c.ask c.told t.after kept t.did)),
+            leaves calls made.0 d' l1 made.2,
           )
+
+      -- after a turn it has all that is out to it
+      turn_holds : (d d' : D) (l : IsLeft d) (turn : Turn) (share : Share) (answer : Answer) (share' : Share) → TurnMade called seen_at turn d share answer d' share' → HoldsAll (seen_at d) share → GoesOn (seen_at d') share' → HoldsAll (seen_at d') share'
+      turn_holds d d' l (Says line) (Things has) (Said answer) (Things has') m all goes =
+          line_held (library_of (seat d)) (seen_at d).out (seen_at d').out has has' m.calls answer all (leaves m.calls d d' l m.made) line.line m.comes
+      turn_holds d d' l Ends (Things has) (Ended end) (Things has') m all goes =
+          subst (HasAll (seen_at d').out) (sym m.1) (end_held has m.0.calls end (seen_at d).out (seen_at d').out all m.0.comes (leaves m.0.calls d d' l m.0.made))
+      turn_holds d d' l (SaysHonest line) (InSession s) (Said answer) (InSession s') m all goes = goes
+      turn_holds d d' l Ends (InSession s) (Ended end) (InSession s') m all goes = goes
+      turn_holds d d' l turn share answer share' m all goes = absurd m
+
+      -- a turn at the desk of a seat, which may be let go then
+      module _ (d d' : D) (sh : Shared) (old : LibSeat Held) (of : shared d ≡ sh) (at : seat d ≡ old) (sits : Sits sh old) (turn : Turn) (o : Option Turn) (there : o ≡ Some turn) (share share' : Share) (told told' : Heard) (took : TurnTaken called seen_at o d share told d' share' told') where
+        taken : TurnTaken called seen_at (Some turn) d share told d' share' told'
+        taken = subst (λ t. TurnTaken called seen_at t d share told d' share' told') there took
+
+        left : IsLeft d
+        left = left_of d sh old at sits
+
+        goes_on : (calls : List Call) → (g' : Going) × TurnGoes turn (record { seat = seated (seat d); calls = calls }) share told g' share' told' × Stands (shared d) (name d) (library_of (seat d)) d' g'
+        goes_on calls = turn_goes d d' calls left turn share taken.0 share' told told' taken.1 taken.2
+
+        pub turn_name : name d' ≡ name d
+        turn_name = (goes_on []).2.same_name
+
+        pub turn_took : (new : LibSeat Held) → new ≡ seat d' → IsSeatOf (shared d') (seat d') → IsIdle (seat d') → HoldsAll (desk old) share → GoesOn (seen_at d') share' → TookAtSeat sh turn old share told new share' told'
+        turn_took new to is_seat is_idle all goes =
+            subst (λ (x : LibSeat Held). TookAtSeat sh turn old share told x share' told') (sym to)
+            (subst (λ (x : LibSeat Held). TookAtSeat sh turn x share told (seat d') share' told') at
+            (record {
+              went = went_one sh turn (seat d) share told (seat d') share' told'
+                  (λ calls.
+                  let g = goes_on calls in
+                  (g.0.calls, subst (λ (x : Seated). TurnGoes turn (record { seat = seated (seat d); calls = calls }) share told (record { seat = x; calls = g.0.calls }) share' told') (sym g.2.at) g.1))
+                  (record {
+                    is_seat = subst (λ (x : Shared). IsSeatOf x (seat d')) ((goes_on []).2.same_shared ∙ of) is_seat;
+                    is_idle = is_idle;
+                    state = (goes_on []).2.left.state;
+                    left = (goes_on []).2.left.left;
+                  })
+                  (ap (λ (l : LibNo). l.0) (goes_on []).2.same_lib);
+              may = (goes, turn_holds d d' left turn share taken.0 share' taken.1 (subst (λ (x : LibSeat Held). HoldsAll (desk x) share) (sym at) all) goes);
+            }))

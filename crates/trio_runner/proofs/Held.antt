@@ -326,7 +326,7 @@ module _ (lib : LibNo) (s : State) (d' : Noted) (k : Stands s) where
   honest_held x x' (CallLine call) told may c = c.may
   honest_held x x' SettleLine told may c = settled_may (desk_of s lib) (desk_of d'.state lib) x x' may (seen_then x x' may c.0) c.0.empty
 
-turn_held : (lib : LibNo) (turn : Turn) (s : State) (share : Share) (told : Heard) (d' : Noted) (share' : Share) (told' : Heard) → Stands s → HoldsAll s lib share → TurnComes lib turn (unnoted s) share told d' share' told' → AreMoves lib s d'.calls d'.moves d'.state → HoldsAll d'.state lib share'
+turn_held : (lib : LibNo) (turn : Turn) (s : State) (share : Share) (told : Heard) (d' : Noted) (share' : Share) (told' : Heard) → Stands s → HoldsAll (desk_of s lib) share → TurnComes lib turn (unnoted s) share told d' share' told' → AreMoves lib s d'.calls d'.moves d'.state → HoldsAll (desk_of d'.state lib) share'
 turn_held lib (Says line) s (Things has) told d' (Things has') told' k h c am =
     line_held lib (out_of s lib) (out_of d'.state lib) has has' d'.calls c.0 h (moves_leave lib s d'.calls d'.moves d'.state k am) line.line c.1
 turn_held lib (SaysHonest line) s (InSession x) told d' (InSession x') told' k h c am = honest_held lib s d' k x x' line.line c.0 h c.1
@@ -343,7 +343,7 @@ is_end (SaysHonest line) = false
 is_end Ends = true
 
 -- after its end nothing is out to a library
-pub end_none : (lib : LibNo) (turn : Turn) (s : State) (share : Share) (told : Heard) (d' : Noted) (share' : Share) (told' : Heard) → is_end turn ≡ true → Stands s → HoldsAll s lib share → TurnComes lib turn (unnoted s) share told d' share' told' → AreMoves lib s d'.calls d'.moves d'.state → HasAll (out_of d'.state lib) nothing
+pub end_none : (lib : LibNo) (turn : Turn) (s : State) (share : Share) (told : Heard) (d' : Noted) (share' : Share) (told' : Heard) → is_end turn ≡ true → Stands s → HoldsAll (desk_of s lib) share → TurnComes lib turn (unnoted s) share told d' share' told' → AreMoves lib s d'.calls d'.moves d'.state → HasAll (out_of d'.state lib) nothing
 end_none lib (Says line) s share told d' share' told' e k h c am = absurd (false≢true e)
 end_none lib (SaysHonest line) s share told d' share' told' e k h c am = absurd (false≢true e)
 end_none lib Ends s (Things has) told d' (Things has') told' e k h c am =
@@ -351,11 +351,6 @@ end_none lib Ends s (Things has) told d' (Things has') told' e k h c am =
 end_none lib Ends s (InSession x) told d' (InSession x') told' e k h c am =
     nothing_settled (desk_of s lib) (desk_of d'.state lib) x x' h (seen_then lib s d' k x x' h c.0) c.0.empty
 end_none lib Ends s share told d' share' told' e k h c am = absurd c
-
--- what is seen of its desk stays for a library, and so all that it has
-pub holds_same : (s s' : State) (lib : LibNo) (share : Share) → desk_of s' lib ≡ desk_of s lib → HoldsAll s lib share → HoldsAll s' lib share
-holds_same s s' lib (Things has) same h = subst (λ (o : LibOut). HasAll o has) (sym (ap (λ (d : DeskSeen). d.out) same)) h
-holds_same s s' lib (InSession x) same h = subst (λ (d : DeskSeen). MayCall d x) (sym same) h
 
 -- a library by its number
 pub same_library : (a b : LibNo) → a.0 ≡ b.0 → a ≡ b
@@ -406,8 +401,8 @@ pub held_after : (p : Players) (t : Placed) (moves : List Move) (p' : Players) �
 held_after p t moves p' h is takes =
     let stands = moves_stand t.lib p.state takes.calls moves p'.state (held_stands p h) takes.happen in
     let creds = same_creds p t moves p' takes in
-    let own : HoldsAll p'.state t.lib (share_of p' t.lib) =
-    subst (HoldsAll p'.state t.lib) (sym (own_after p t moves p' h is takes))
+    let own : HoldsAll (desk_of p'.state t.lib) (share_of p' t.lib) =
+    subst (HoldsAll (desk_of p'.state t.lib)) (sym (own_after p t moves p' h is takes))
     (turn_held t.lib t.turn p.state (share_of p t.lib) (told_to p t.lib) (noted_of p' takes.calls moves) takes.share' takes.told' (held_stands p h) (h.all t.lib is) takes.comes takes.happen) in
     record {
       kept = stands.kept;
@@ -415,12 +410,12 @@ held_after p t moves p' h is takes =
       whole = stands.whole;
       places = ap length takes.shares_are ∙ length-set p.shares (t.lib.0 - 1) takes.share' ∙ h.places ∙ ap length (sym creds);
       all = λ other there. elim (cases_Bool (eqb other.0 t.lib.0)) [
-        | inl e ↦ subst (λ l. HoldsAll p'.state l (share_of p' l)) (sym (same_library other t.lib (eqb-true other.0 t.lib.0 e))) own
+        | inl e ↦ subst (λ l. HoldsAll (desk_of p'.state l) (share_of p' l)) (sym (same_library other t.lib (eqb-true other.0 t.lib.0 e))) own
         | inr f ↦
             (let apart : other.0 ≡ t.lib.0 → ⊥ = λ e. both_ways (eqb other.0 t.lib.0) f (eq-eqb other.0 t.lib.0 e) in
             let before = library_before other p.state p'.state creds there in
-            holds_same p.state p'.state other (share_of p' other) (others_seen p t moves p' other h apart takes)
-            (subst (HoldsAll p.state other) (sym (other_after p t moves p' other is.0 before.0 apart takes)) (h.all other before)))
+            subst (λ (d : DeskSeen). HoldsAll d (share_of p' other)) (sym (others_seen p t moves p' other h apart takes))
+            (subst (HoldsAll (desk_of p.state other)) (sym (other_after p t moves p' other is.0 before.0 apart takes)) (h.all other before)))
       ];
       nobody_else = λ other none.
           let before : IsLibrary other p.state → ⊥ = λ l. none (library_after other p.state p'.state creds l) in

@@ -22,7 +22,7 @@ use Rattle.trio_laws.specs.Known.{Known, known, SameAnswer}
 use Rattle.trio_laws.proofs.KnownSteps.{same_event_same_answer}
 use Rattle.trio_ctl.proofs.DeskSteps.{plain_step}
 use Rattle.trio_runner.proofs.Plain.{ask_plain, backs_plain, turn_plain}
-use Rattle.trio_ctl.specs.Desk.{LeaseIs, answer_of, event_of, out_of}
+use Rattle.trio_ctl.specs.Desk.{LeaseIs, answer_of, desk_of, event_of, out_of}
 use Rattle.trio_raw.specs.Has.{Has, has_nothing, nothing}
 use Rattle.trio_raw.specs.Asked.{back_calls, release_call}
 use Rattle.trio_script.specs.declared.line.RawLine.{RawLine}
@@ -299,7 +299,7 @@ abbrev ShareOut : State → LibNo → Share → Type 0
 ShareOut s lib (Things has) = Unit {0}
 ShareOut s lib (InSession x) = HasOut (out_of s lib) x
 
-share_out : (s : State) (lib : LibNo) (share : Share) → HoldsAll s lib share → ShareOut s lib share
+share_out : (s : State) (lib : LibNo) (share : Share) → HoldsAll (desk_of s lib) share → ShareOut s lib share
 share_out s lib (Things has) h = tt
 share_out s lib (InSession x) h = may_has s lib x h
 

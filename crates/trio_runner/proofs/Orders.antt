@@ -1,10 +1,11 @@
 -- The turns of each library in a script.
-use Rattle.std.proofs.Common.{◌≡◌, ℕ, zero, suc, ◌+◌, ◌<◌, ◌≤◌, max, Bool, true, false, cond, eqb, ltb, List, [], ◌∷◌, ◌++◌, length, map, Option, Some, None, sym, refl, ap, ◌∙◌, subst, inl, inr, ◌⊎◌, arith, ltb-true, ltb-false, get_or, drop, drop-cons, take, nat_cmp, is_lt, Less, Equal, Greater}
+use Rattle.std.proofs.Common.{◌≡◌, ℕ, zero, suc, ◌+◌, ◌<◌, ◌≤◌, max, Bool, true, false, cond, eqb, ltb, List, [], ◌∷◌, ◌++◌, length, Option, Some, None, sym, refl, ap, ◌∙◌, subst, inl, inr, ◌⊎◌, arith, ltb-true, ltb-false, get_or, drop, drop-cons, take, nat_cmp, is_lt, Less, Equal, Greater}
 use Rattle.std.specs.Ordering.{ord_max}
 use Rattle.std.specs.Prelude.{slice_get}
 use Rattle.std.specs.List.{filter}
+use Rattle.std.specs.Option.{option_map}
 use Rattle.std.proofs.lemmas.Bool.{eq-eqb, ne_eqb, cases_Bool}
-use Rattle.std.proofs.lemmas.List.{append-nil, length-map, take_all}
+use Rattle.std.proofs.lemmas.List.{append-nil, take_all}
 use Rattle.std.proofs.lemmas.List.Elements.{filter-append}
 use Rattle.trio_lists.specs.Lists.{In}
 use Rattle.trio_lists.proofs.Members.{In-cases}
@@ -47,51 +48,12 @@ course_past m [] (suc k) lt = refl
 course_past m (l ∷ lines) zero lt = absurd (omega (arith, lt))
 course_past m (l ∷ lines) (suc k) lt = course_past m lines k (omega (arith, lt))
 
-pub course_line : (m : ℕ) (turns : List Turn) (k : ℕ) (turn : Turn) → slice_get turns k ≡ Some turn → slice_get (course m turns) k ≡ Some (placed m turn)
-course_line m [] k turn e = absurd (cc e)
-course_line m (l ∷ turns) zero turn e = ap (λ (o : Option Turn). turn_of o) e
-  where
-    turn_of : Option Turn → Option Placed
-    turn_of None = None
-    turn_of (Some x) = Some (placed m x)
-course_line m (l ∷ turns) (suc k) turn e = course_line m turns k turn e
-
--- the turns of lines
-map_at : {L : Type 0} (f : L → Turn) (lines : List L) (k : ℕ) (line : L) → slice_get lines k ≡ Some line → slice_get (map f lines) k ≡ Some (f line)
-map_at f [] k line e = absurd (cc e)
-map_at f (l ∷ lines) zero line e = (let same : l ≡ line = cc e in ap (λ x. Some (f x)) same)
-map_at f (l ∷ lines) (suc k) line e = map_at f lines k line e
-
-pub get_is : {L : Type 0} (lines : List L) (k : ℕ) (line : L) → k < length lines → line ≡ get_or lines k line → slice_get lines k ≡ Some line
-get_is [] k line lt is = absurd (omega (arith, lt))
-get_is (l ∷ lines) zero line lt is = ap Some (sym is)
-get_is (l ∷ lines) (suc k) line lt is = get_is lines k line (omega (arith, lt)) is
-
-pub get_none : {L : Type 0} (lines : List L) (k : ℕ) → length lines ≤ k → slice_get lines k ≡ None
-get_none [] k le = refl
-get_none (l ∷ lines) zero le = absurd (omega (arith, le))
-get_none (l ∷ lines) (suc k) le = get_none lines k (omega (arith, le))
-
-none_past : {L : Type 0} (lines : List L) (k : ℕ) → slice_get lines k ≡ None → length lines ≤ k
-none_past [] k e = omega arith
-none_past (l ∷ lines) zero e = absurd (cc e)
-none_past (l ∷ lines) (suc k) e = (let rest = none_past lines k e in omega (arith, rest))
-
-pub line_turn : {L : Type 0} (f : L → Turn) (m : ℕ) (lines : List L) (k : ℕ) (line : L) → slice_get lines k ≡ Some line → slice_get (course m (map f lines)) k ≡ Some (placed m (f line))
-line_turn f m lines k line e = course_line m (map f lines) k (f line) (map_at f lines k line e)
-
-pub end_turn : {L : Type 0} (f : L → Turn) (m : ℕ) (lines : List L) (k : ℕ) → k ≡ length lines → slice_get (course m (map f lines)) k ≡ Some (placed m Ends)
-end_turn f m lines k e = ap (slice_get (course m (map f lines))) (e ∙ sym (length-map lines f)) ∙ course_end m (map f lines)
-
-pub past_turn : {L : Type 0} (f : L → Turn) (m : ℕ) (lines : List L) (k : ℕ) → slice_get lines k ≡ None → (k ≡ length lines → ⊥) → slice_get (course m (map f lines)) k ≡ None
-past_turn f m lines k e apart =
-    let many : length (map f lines) ≡ length lines = length-map lines f in
-    let least : length lines ≤ k = none_past lines k e in
-    course_past m (map f lines) k
-    (elim (cases_Bool (ltb (length lines) k)) [
-      | inl t ↦ (let lt : length lines < k = ltb-true (length lines) k t in omega (arith, many, lt))
-      | inr g ↦ (let le : k ≤ length lines = ltb-false (length lines) k g in absurd (apart (omega (arith, least, le))))
-    ])
+-- a turn of a course, and whose it is
+pub course_turn : (m : ℕ) (turns : List Turn) (k : ℕ) → slice_get (course m turns) k ≡ option_map (placed m) (slice_get (turns ++ Ends ∷ []) k)
+course_turn m [] zero = refl
+course_turn m [] (suc k) = refl
+course_turn m (l ∷ turns) zero = refl
+course_turn m (l ∷ turns) (suc k) = course_turn m turns k
 
 pub course_length : (m : ℕ) (lines : List Turn) → length (course m lines) ≡ suc (length lines)
 course_length m [] = refl

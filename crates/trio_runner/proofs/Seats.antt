@@ -1,6 +1,7 @@
 -- Turns of a round, one library after another.
-use Rattle.std.proofs.Common.{◌≡◌, ℕ, zero, suc, ◌+◌, ◌-◌, ◌<◌, ◌≤◌, Bool, length-take-le, List, [], ◌∷◌, ◌++◌, length, map, get_or, set, take, Option, Some, None, sym, refl, ap, ◌∙◌, subst, inl, inr, arith, eqb, take-suc}
+use Rattle.std.proofs.Common.{◌≡◌, ℕ, zero, suc, ◌+◌, ◌-◌, ◌<◌, ◌≤◌, length-take-le, List, [], ◌∷◌, ◌++◌, length, map, get_or, set, take, Option, Some, None, sym, refl, ap, ◌∙◌, subst, inl, inr, arith, eqb, take-suc}
 use Rattle.std.specs.Prelude.{slice_get}
+use Rattle.std.specs.Option.{option_map}
 use Rattle.std.proofs.Math.Seq.{map-set_same}
 use Rattle.std.proofs.lemmas.Bool.{both_ways, eq-eqb, eqb-true, cases_Bool}
 use Rattle.std.proofs.lemmas.Grind.{flat_map-append}
@@ -12,32 +13,31 @@ use Rattle.trio_lists.proofs.Members.{map-In}
 use Rattle.trio_lease.specs.Shown.{Shown}
 use Rattle.trio_rights.specs.declared.rights.Creds.{Creds}
 use Rattle.trio_desk.specs.Call.{DeskSeen}
-use Rattle.trio_desk.specs.Out.{LibOut, IsClosed, file_numbers}
+use Rattle.trio_desk.specs.Out.{IsClosed, file_numbers}
 use Rattle.trio_state.specs.State.{State}
 use Rattle.trio_state.specs.Kept.{Kept}
 use Rattle.trio_state.specs.Run.{start, Move}
 use Rattle.trio_ctl.specs.Ctl.{AreAsTold, Controller, IsLibrary}
 use Rattle.trio_ctl.specs.Desk.{desk_of, out_of}
 use Rattle.trio_ctl.proofs.DeskSteps.{holds_stand}
-use Rattle.trio_raw.specs.Has.{Has, OnList, nothing, whole_parcel}
-use Rattle.trio_edit_laws.specs.Calls.{MayCall}
+use Rattle.trio_raw.specs.Has.{Has, nothing, whole_parcel}
 use Rattle.trio_script.specs.declared.Lines.{Lines}
 use Rattle.trio_script.specs.declared.Lines.TheVariants.{Raw as RawLines, Honest as HonestLines}
 use Rattle.trio_script.specs.declared.ScriptLine.{ScriptLine}
 use Rattle.trio_script.specs.declared.honest.HonestLine.{HonestLine}
 use Rattle.trio_script.specs.declared.ScriptLib.{ScriptLib}
-use Rattle.trio_runner.specs.declared.players.Player.{Player}
-use Rattle.trio_runner.specs.declared.players.Player.TheVariants.{Raw, Honest}
+use Rattle.trio_runner.specs.declared.kinds.AnyPlayer.{AnyPlayer}
 use Rattle.trio_script.specs.Within.{AreWithin, LinesWithin, SaysWithin}
 use Rattle.trio_runner.specs.Honest.{Noted, unnoted}
-use Rattle.trio_runner.specs.Rounds.{Turn, Placed, course, courses_from, in_rounds, line_turns, round_of, turn_list, turns_of}
+use Rattle.trio_runner.specs.Rounds.{Turn, Ends, Placed, placed, course, courses_from, in_rounds, line_turns, round_of, turn_list, turns_of}
 use Rattle.trio_runner.specs.Play.{AtStart, BeginsWith, Heard, Players, Plays, Share, TakesTurn, Things, InSession, TurnComes, creds_in, share_of, told_to, untold}
+use Rattle.trio_runner.specs.Players.{GoesOn, HasClosed}
 use Rattle.trio_runner.specs.Seen.{ScriptPlayed}
-use Rattle.trio_runner.specs.inner.Ready.{AreNew, AreSeated, GoesOn, HasAll, HasClosed, HoldsAll, IsHeld, IsNew, IsReady, Table, Took, TookNext, TookTurn, has_honest, is_honest, lib_in, numbers_from, players, share_in, table}
+use Rattle.trio_runner.specs.inner.Ready.{AreNew, AreSeated, HasAll, HoldsAll, IsHeld, IsNew, IsReady, Table, Took, TookNext, TookTurn, lines_in, players, share_in, table}
 use Rattle.trio_runner.proofs.EndFree.{script_library, start_stands}
 use Rattle.trio_runner.proofs.Held.{held_after, library_before, other_after, others_seen, own_after, same_creds, same_library}
 use Rattle.trio_runner.proofs.Calling.{nothing_on_list}
-use Rattle.trio_runner.proofs.Orders.{course_lib}
+use Rattle.trio_runner.proofs.Orders.{course_turn}
 use Rattle.trio_runner.proofs.Plays.{plays_more}
 
 -- an element put where it stands changes nothing
@@ -47,33 +47,28 @@ set_is xs at x y e there = ap (set xs at) (e ∙ there) ∙ set-get_or xs at y
 -- ---- between turns
 
 -- all that a library has is closed, since it has all that is out to it
-pub all_closed : (s : State) (lib : LibNo) (has : Has) → Kept s → AreAsTold s → HasAll (out_of s lib) has → IsClosed (out_of s lib) (whole_parcel has)
+all_closed : (s : State) (lib : LibNo) (has : Has) → Kept s → AreAsTold s → HasAll (out_of s lib) has → IsClosed (out_of s lib) (whole_parcel has)
 all_closed s lib has kept told all h i =
     let parent = holds_stand s lib h kept told i in
     let w = map-In (λ (x : Shown). x.ino) h.parent (out_of s lib).writes parent in
     ((λ x. subst (λ n. In n (file_numbers has.writes)) (sym w.2) (all.writes w.0 w.1)), (λ x. all.holds h i))
 
-share_closed : (s : State) (lib : LibNo) (share : Share) → Kept s → AreAsTold s → HoldsAll s lib share → HasClosed s lib share
+pub share_closed : (s : State) (lib : LibNo) (share : Share) → Kept s → AreAsTold s → HoldsAll (desk_of s lib) share → HasClosed (desk_of s lib) share
 share_closed s lib (Things has) kept told all = all_closed s lib has kept told all
 share_closed s lib (InSession x) kept told all = tt
 
--- what is seen of its desk stays, and so a library may go on
-goes_same : (s s' : State) (lib : LibNo) (share : Share) → desk_of s' lib ≡ desk_of s lib → GoesOn s lib share → GoesOn s' lib share
-goes_same s s' lib (Things has) same g = subst (λ (o : LibOut). OnList o has) (sym (ap (λ (d : DeskSeen). d.out) same)) g
-goes_same s s' lib (InSession x) same g = subst (λ (d : DeskSeen). MayCall d x) (sym same) g
-
-pub ready_after : (p : Players) (t : Placed) (moves : List Move) (p' : Players) → IsReady p → IsLibrary t.lib p.state → (takes : TakesTurn p t moves p') → GoesOn p'.state t.lib takes.share' → IsReady p'
+pub ready_after : (p : Players) (t : Placed) (moves : List Move) (p' : Players) → IsReady p → IsLibrary t.lib p.state → (takes : TakesTurn p t moves p') → GoesOn (desk_of p'.state t.lib) takes.share' → IsReady p'
 ready_after p t moves p' h is takes goes = record {
   held = held_after p t moves p' h.held is takes;
   goes = λ other there. elim (cases_Bool (eqb other.0 t.lib.0)) [
     | inl e ↦
-        subst (λ l. GoesOn p'.state l (share_of p' l)) (sym (same_library other t.lib (eqb-true other.0 t.lib.0 e)))
-        (subst (GoesOn p'.state t.lib) (sym (own_after p t moves p' h.held is takes)) goes)
+        subst (λ l. GoesOn (desk_of p'.state l) (share_of p' l)) (sym (same_library other t.lib (eqb-true other.0 t.lib.0 e)))
+        (subst (GoesOn (desk_of p'.state t.lib)) (sym (own_after p t moves p' h.held is takes)) goes)
     | inr f ↦
         (let apart : other.0 ≡ t.lib.0 → ⊥ = λ e. both_ways (eqb other.0 t.lib.0) f (eq-eqb other.0 t.lib.0 e) in
         let before = library_before other p.state p'.state (same_creds p t moves p' takes) there in
-        goes_same p.state p'.state other (share_of p' other) (others_seen p t moves p' other h.held apart takes)
-        (subst (GoesOn p.state other) (sym (other_after p t moves p' other is.0 before.0 apart takes)) (h.goes other before)))
+        subst (λ (d : DeskSeen). GoesOn d (share_of p' other)) (sym (others_seen p t moves p' other h.held apart takes))
+        (subst (GoesOn (desk_of p.state other)) (sym (other_after p t moves p' other is.0 before.0 apart takes)) (h.goes other before)))
   ];
 }
 
@@ -103,7 +98,7 @@ took_more a xs b ys c one two = record {
   ready = two.ready;
 }
 
-took_one : (a : Table) (t : Placed) (moves : List Move) (b : Table) → IsReady a.players → IsLibrary t.lib a.players.state → (takes : TakesTurn a.players t moves b.players) → b.first ≡ a.first → b.begun ≡ a.begun → GoesOn b.players.state t.lib takes.share' → Took a (t ∷ []) b
+took_one : (a : Table) (t : Placed) (moves : List Move) (b : Table) → IsReady a.players → IsLibrary t.lib a.players.state → (takes : TakesTurn a.players t moves b.players) → b.first ≡ a.first → b.begun ≡ a.begun → GoesOn (desk_of b.players.state t.lib) takes.share' → Took a (t ∷ []) b
 took_one a t moves b h is takes first begun on = record {
   moves = moves;
   plays = plays_more a.players [] [] a.players t moves b.players (refl, refl) takes;
@@ -116,90 +111,92 @@ took_one a t moves b h is takes first begun on = record {
 pub rounds_more : (k : ℕ) (courses : List (List Placed)) → in_rounds (k + 1) courses ≡ in_rounds k courses ++ round_of k courses
 rounds_more k courses = (let e : k + 1 ≡ suc k = omega arith in ap (λ n. in_rounds n courses) e)
 
+-- ---- the limits of calls
+
+-- each library of those within the limits is
+within_at : (libs : List ScriptLib) (at : ℕ) (d : Lines) → at < length libs → AreWithin libs → LinesWithin (get_or (map (λ (l : ScriptLib). l.lines) libs) at d)
+within_at [] at d lt h = absurd (omega (arith, lt))
+within_at (x ∷ libs) zero d lt h = h.0
+within_at (x ∷ libs) (suc at) d lt h = within_at libs at d (omega (arith, lt)) h.1
+
+-- and each line of an honest one is
+pub line_within : (lines : List (ScriptLine HonestLine)) (at : ℕ) (line : ScriptLine HonestLine) → slice_get lines at ≡ Some line → LinesWithin (HonestLines lines) → SaysWithin line.line
+line_within [] at line e h = absurd (cc e)
+line_within (l ∷ lines) zero line e h =
+    let same : l ≡ line = cc e in
+    subst (λ (x : ScriptLine HonestLine). SaysWithin x.line) same h.0
+line_within (l ∷ lines) (suc at) line e h = line_within lines at line e h.1
+
 -- ---- places
 
-numbers_at : (n k at : ℕ) (d : LibNo) → at < k → get_or (numbers_from n k) at d ≡ record { 0 = n + at }
-numbers_at n zero at d lt = absurd (omega (arith, lt))
-numbers_at n (suc k) zero d lt = (let e : n ≡ n + 0 = omega arith in ap (λ m. record { 0 = m }) e)
-numbers_at n (suc k) (suc at) d lt =
-    let e : (n + 1) + at ≡ n + suc at = omega arith in
-    numbers_at (n + 1) k at d (omega (arith, lt)) ∙ ap (λ m. record { 0 = m }) e
-
-numbers_length : (n k : ℕ) → length (numbers_from n k) ≡ k
-numbers_length n zero = refl
-numbers_length n (suc k) = ap suc (numbers_length (n + 1) k)
-
-module _ (libs : List ScriptLib) (all : List Player) (tolds : List Heard) (seated : AreSeated libs all tolds) where
+module _ (libs : List ScriptLib) (all : List AnyPlayer) (tolds : List Heard) (seated : AreSeated libs all tolds) where
   pub all_count : length all ≡ length libs
-  all_count = sym (length-map all lib_in) ∙ ap length seated.numbers ∙ numbers_length 1 (length libs)
+  all_count = sym (length-map all lines_in) ∙ ap length seated.lines ∙ length-map libs (λ (l : ScriptLib). l.lines)
 
-  module _ (at : ℕ) (within : at < length libs) (h : Player) (there : h ≡ get_or all at h) (t : Heard) (told : t ≡ get_or tolds at t) where
+  module _ (at : ℕ) (within : at < length libs) (h : AnyPlayer) (there : h ≡ get_or all at h) (t : Heard) (told : t ≡ get_or tolds at t) where
     in_all : at < length all
     in_all = subst (λ n. at < n) (sym all_count) within
 
     in_tolds : at < length tolds
     in_tolds = subst (λ n. at < n) (sym seated.told_count) within
 
-    pub seat_lib : lib_in h ≡ record { 0 = at + 1 }
-    seat_lib =
-        let n : 1 + at ≡ at + 1 = omega arith in
-        ap lib_in there ∙ sym (get_or-map lib_in all at h (lib_in h) in_all)
-        ∙ ap (λ (l : List LibNo). get_or l at (lib_in h)) seated.numbers
-        ∙ numbers_at 1 (length libs) at (lib_in h) within ∙ ap (λ m. record { 0 = m }) n
+    -- the library's lines
+    pub seat_lines : lines_in h ≡ get_or (map (λ (l : ScriptLib). l.lines) libs) at (lines_in h)
+    seat_lines = ap lines_in there ∙ sym (get_or-map lines_in all at h (lines_in h) in_all) ∙ ap (λ (x : List Lines). get_or x at (lines_in h)) seated.lines
 
-    pub seat_kind : (l : ScriptLib) → l ≡ get_or libs at l → is_honest h ≡ has_honest l.lines
-    seat_kind l is =
-        ap is_honest there ∙ sym (get_or-map is_honest all at h (is_honest h) in_all)
-        ∙ ap (λ (x : List Bool). get_or x at (is_honest h)) seated.kinds
-        ∙ get_or-map (λ (y : ScriptLib). has_honest y.lines) libs at l (is_honest h) within ∙ ap (λ (y : ScriptLib). has_honest y.lines) (sym is)
+    pub seat_within : AreWithin libs → LinesWithin (lines_in h)
+    seat_within w = subst LinesWithin (sym seat_lines) (within_at libs at (lines_in h) within w)
 
-    seat_place : (lib_in h).0 - 1 ≡ at
-    seat_place = (let n : (lib_in h).0 ≡ at + 1 = ap (λ (l : LibNo). l.0) seat_lib in omega (arith, n))
+    -- and its number
+    abbrev own : LibNo
+    own = record { 0 = at + 1 }
+
+    seat_place : (at + 1) - 1 ≡ at
+    seat_place = omega arith
 
     module _ (x : Controller) where
-      pub seat_share : share_of (players x all tolds) (lib_in h) ≡ share_in h
+      seat_share : share_of (players x all tolds) own ≡ share_in h
       seat_share =
           ap (λ n. get_or (map share_in all) n (Things nothing)) seat_place
           ∙ get_or-map share_in all at h (Things nothing) in_all ∙ ap share_in (sym there)
 
-      pub seat_told : told_to (players x all tolds) (lib_in h) ≡ t
+      seat_told : told_to (players x all tolds) own ≡ t
       seat_told = ap (λ n. get_or tolds n untold) seat_place ∙ get_or_default tolds at untold t in_tolds ∙ sym told
 
       module _ (ready : IsReady (players x all tolds)) where
-        pub seat_library : IsLibrary (lib_in h) x.state
+        pub seat_library : IsLibrary own x.state
         seat_library =
-            let n : (lib_in h).0 ≡ at + 1 = ap (λ (l : LibNo). l.0) seat_lib in
             let places : length (map share_in all) ≡ length x.state.creds = ready.held.places in
             let many : length (map share_in all) ≡ length all = length-map all share_in in
             let lt : at < length all = in_all in
-            (omega (arith, n), omega (arith, n, places, many, lt))
+            (omega arith, omega (arith, places, many, lt))
 
-        pub seat_goes : GoesOn x.state (lib_in h) (share_in h)
-        seat_goes = subst (GoesOn x.state (lib_in h)) seat_share (ready.goes (lib_in h) seat_library)
+        pub seat_goes : GoesOn (desk_of x.state own) (share_in h)
+        seat_goes = subst (GoesOn (desk_of x.state own)) seat_share (ready.goes own seat_library)
 
-        pub seat_closed : HasClosed x.state (lib_in h) (share_in h)
+        pub seat_closed : HasClosed (desk_of x.state own) (share_in h)
         seat_closed =
-            share_closed x.state (lib_in h) (share_in h) ready.held.kept ready.held.as_told
-            (subst (HoldsAll x.state (lib_in h)) seat_share (ready.held.all (lib_in h) seat_library))
+            share_closed x.state own (share_in h) ready.held.kept ready.held.as_told
+            (subst (HoldsAll (desk_of x.state own)) seat_share (ready.held.all own seat_library))
 
         -- one library's turn
-        module _ (x' : Controller) (h' : Player) (t' : Heard) (same_lib : lib_in h' ≡ lib_in h) (same_kind : is_honest h' ≡ is_honest h) where
+        module _ (x' : Controller) (h' : AnyPlayer) (t' : Heard) (same_lines : lines_in h' ≡ lines_in h) where
           abbrev before : Table
           before = table x all tolds
 
           abbrev pub after : Table
           after = table x' (set all at h') (set tolds at t')
 
-          pub seat_took : (turn : Turn) → TookTurn (lib_in h) turn x (share_in h) t x' (share_in h') t' → Took before (record { lib = lib_in h; turn = turn } ∷ []) after
+          seat_took : (turn : Turn) → TookTurn own turn x (share_in h) t x' (share_in h') t' → Took before (placed (at + 1) turn ∷ []) after
           seat_took turn took =
               let then' : Noted = record { state = x'.state; calls = took.calls; moves = took.moves } in
-              took_one before (record { lib = lib_in h; turn = turn }) took.moves after ready seat_library
+              took_one before (placed (at + 1) turn) took.moves after ready seat_library
               (record {
                 calls = took.calls;
                 share' = share_in h';
                 told' = t';
-                comes = subst (λ y. TurnComes (lib_in h) turn (unnoted x.state) y (told_to (players x all tolds) (lib_in h)) then' (share_in h') t') (sym seat_share)
-                    (subst (λ y. TurnComes (lib_in h) turn (unnoted x.state) (share_in h) y then' (share_in h') t') (sym seat_told) took.comes);
+                comes = subst (λ y. TurnComes own turn (unnoted x.state) y (told_to (players x all tolds) own) then' (share_in h') t') (sym seat_share)
+                    (subst (λ y. TurnComes own turn (unnoted x.state) (share_in h) y then' (share_in h') t') (sym seat_told) took.comes);
                 happen = took.happen;
                 log_is = took.log_is;
                 shares_are = map-set share_in all at h' ∙ ap (λ n. set (map share_in all) n (share_in h')) (sym seat_place);
@@ -216,21 +213,16 @@ module _ (libs : List ScriptLib) (all : List Player) (tolds : List Heard) (seate
               ∙ ap (λ hs. of x hs (set tolds at t')) shares
               ∙ ap (of x (map share_in all)) heard
 
-          pub seat_next : (turns : List Turn) (round : ℕ) → TookNext (record { 0 = at + 1 }) (slice_get (course (at + 1) turns) round) x (share_in h) t x' (share_in h') t' → Took before (turn_list (slice_get (course (at + 1) turns) round)) after
-          seat_next turns round next =
-              by (slice_get (course (at + 1) turns) round) (course_lib (at + 1) turns round) next
+          pub seat_next : (turns : List Turn) (round : ℕ) → TookNext own (slice_get (turns ++ Ends ∷ []) round) x (share_in h) t x' (share_in h') t' → Took before (turn_list (slice_get (course (at + 1) turns) round)) after
+          seat_next turns round next = subst (λ o. Took before (turn_list o) after) (sym (course_turn (at + 1) turns round)) (by (slice_get (turns ++ Ends ∷ []) round) next)
             where
-              by : (o : Option Placed) → ((u : Placed) → o ≡ Some u → u.lib.0 ≡ at + 1) → TookNext (record { 0 = at + 1 }) o x (share_in h) t x' (share_in h') t' → Took before (turn_list o) after
-              by None own n = subst (Took before []) (sym (seat_same n.0 n.1 n.2)) (took_none before ready)
-              by (Some u) own n =
-                  let number : u.lib.0 ≡ (lib_in h).0 = own u refl ∙ ap (λ (l : LibNo). l.0) (sym seat_lib) in
-                  subst (λ (l : LibNo). Took before (record { lib = l; turn = u.turn } ∷ []) after) (sym (same_library u.lib (lib_in h) number))
-                  (seat_took u.turn (subst (λ (l : LibNo). TookTurn l u.turn x (share_in h) t x' (share_in h') t') (sym seat_lib) n))
+              by : (o : Option Turn) → TookNext own o x (share_in h) t x' (share_in h') t' → Took before (turn_list (option_map (placed (at + 1)) o)) after
+              by None n = subst (Took before []) (sym (seat_same n.0 n.1 n.2)) (took_none before ready)
+              by (Some turn) n = seat_took turn n
 
           pub seated_after : AreSeated libs (set all at h') (set tolds at t')
           seated_after = record {
-            numbers = map-set_same lib_in all at h' h (same_lib ∙ ap lib_in there) ∙ seated.numbers;
-            kinds = map-set_same is_honest all at h' h (same_kind ∙ ap is_honest there) ∙ seated.kinds;
+            lines = map-set_same lines_in all at h' h (same_lines ∙ ap lines_in there) ∙ seated.lines;
             told_count = length-set tolds at t' ∙ seated.told_count;
           }
 
@@ -240,25 +232,25 @@ pub courses_length : (m : ℕ) (libs : List ScriptLib) → length (courses_from 
 courses_length m [] = refl
 courses_length m (l ∷ libs) = ap suc (courses_length (m + 1) libs)
 
-course_at : (m at : ℕ) (libs : List ScriptLib) (l : ScriptLib) (d : List Placed) → at < length libs → l ≡ get_or libs at l → get_or (courses_from m libs) at d ≡ course (m + at) (line_turns l.lines)
-course_at m at [] l d lt is = absurd (omega (arith, lt))
-course_at m zero (x ∷ libs) l d lt is =
-    let n : m ≡ m + 0 = omega arith in ap (λ k. course k (line_turns x.lines)) n ∙ ap (λ (y : ScriptLib). course (m + 0) (line_turns y.lines)) (sym is)
-course_at m (suc at) (x ∷ libs) l d lt is =
+course_at : (m at : ℕ) (libs : List ScriptLib) (lines : Lines) (d : List Placed) → at < length libs → lines ≡ get_or (map (λ (l : ScriptLib). l.lines) libs) at lines → get_or (courses_from m libs) at d ≡ course (m + at) (line_turns lines)
+course_at m at [] lines d lt is = absurd (omega (arith, lt))
+course_at m zero (x ∷ libs) lines d lt is =
+    let n : m ≡ m + 0 = omega arith in ap (λ k. course k (line_turns x.lines)) n ∙ ap (λ (y : Lines). course (m + 0) (line_turns y)) (sym is)
+course_at m (suc at) (x ∷ libs) lines d lt is =
     let n : (m + 1) + at ≡ m + suc at = omega arith in
-    course_at (m + 1) at libs l d (omega (arith, lt)) is ∙ ap (λ k. course k (line_turns l.lines)) n
+    course_at (m + 1) at libs lines d (omega (arith, lt)) is ∙ ap (λ k. course k (line_turns lines)) n
 
 -- the turns of a round up to one library's, and that one
-pub round_more : (k at : ℕ) (libs : List ScriptLib) (l : ScriptLib) → at < length libs → l ≡ get_or libs at l → round_of k (take (at + 1) (courses_from 1 libs)) ≡ round_of k (take at (courses_from 1 libs)) ++ turn_list (slice_get (course (at + 1) (line_turns l.lines)) k)
-round_more k at libs l lt is =
+pub round_more : (k at : ℕ) (libs : List ScriptLib) (lines : Lines) → at < length libs → lines ≡ get_or (map (λ (l : ScriptLib). l.lines) libs) at lines → round_of k (take (at + 1) (courses_from 1 libs)) ≡ round_of k (take at (courses_from 1 libs)) ++ turn_list (slice_get (course (at + 1) (line_turns lines)) k)
+round_more k at libs lines lt is =
     let courses : List (List Placed) = courses_from 1 libs in
     let n : at + 1 ≡ suc at = omega arith in
     let one : 1 + at ≡ at + 1 = omega arith in
-    let own : List Placed = course (at + 1) (line_turns l.lines) in
+    let own : List Placed = course (at + 1) (line_turns lines) in
     let turns : List Placed → List Placed = λ (c : List Placed). turn_list (slice_get c k) in
     ap (λ j. round_of k (take j courses)) n
     ∙ ap (round_of k) (take-suc courses at [] (subst (λ j. at < j) (sym (courses_length 1 libs)) lt))
-    ∙ ap (λ c. round_of k (take at courses ++ c ∷ [])) (course_at 1 at libs l [] lt is ∙ ap (λ j. course j (line_turns l.lines)) one)
+    ∙ ap (λ c. round_of k (take at courses ++ c ∷ [])) (course_at 1 at libs lines [] lt is ∙ ap (λ j. course j (line_turns lines)) one)
     ∙ flat_map-append turns (take at courses) (own ∷ [])
     ∙ ap (λ x. round_of k (take at courses) ++ x) (append-nil (turns own))
 
@@ -274,7 +266,7 @@ same_each y (x ∷ xs) = sym (same_ends y (length xs)) ∙ ap (λ l. y ∷ l) (s
 
 -- ---- new libraries
 
-new_more : (n : ℕ) (libs : List ScriptLib) (all : List Player) (l : ScriptLib) (p : Player) → AreNew n libs all → IsNew (record { 0 = n + length libs }) l p → AreNew n (libs ++ l ∷ []) (all ++ p ∷ [])
+new_more : (n : ℕ) (libs : List ScriptLib) (all : List AnyPlayer) (l : ScriptLib) (p : AnyPlayer) → AreNew n libs all → IsNew (record { 0 = n + length libs }) l p → AreNew n (libs ++ l ∷ []) (all ++ p ∷ [])
 new_more n [] [] l p a is = (let e : n + 0 ≡ n = omega arith in subst (λ m. IsNew (record { 0 = m }) l p) e is, tt)
 new_more n [] (q ∷ all) l p a is = absurd a
 new_more n (k ∷ libs) [] l p a is = absurd a
@@ -282,7 +274,7 @@ new_more n (k ∷ libs) (q ∷ all) l p a is =
     (a.0, new_more (n + 1) libs all l p a.1 (let e : n + suc (length libs) ≡ (n + 1) + length libs = omega arith in subst (λ m. IsNew (record { 0 = m }) l p) e is))
 
 -- the next one is made
-pub new_next : (libs : List ScriptLib) (all : List Player) (at : ℕ) (l : ScriptLib) (p : Player) → at < length libs → l ≡ get_or libs at l → AreNew 1 (take at libs) all → IsNew (record { 0 = at + 1 }) l p → AreNew 1 (take (at + 1) libs) (all ++ p ∷ [])
+pub new_next : (libs : List ScriptLib) (all : List AnyPlayer) (at : ℕ) (l : ScriptLib) (p : AnyPlayer) → at < length libs → l ≡ get_or libs at l → AreNew 1 (take at libs) all → IsNew (record { 0 = at + 1 }) l p → AreNew 1 (take (at + 1) libs) (all ++ p ∷ [])
 new_next libs all at l p lt is a new =
     let n : at + 1 ≡ suc at = omega arith in
     let long : length (take at libs) ≡ at = length-take-le at libs (omega (arith, lt)) in
@@ -290,26 +282,13 @@ new_next libs all at l p lt is a new =
     subst (λ (x : List ScriptLib). AreNew 1 x (all ++ p ∷ [])) (sym (ap (λ m. take m libs) n ∙ take-suc libs at l lt ∙ ap (λ y. take at libs ++ y ∷ []) (sym is)))
     (new_more 1 (take at libs) all l p a (subst (λ m. IsNew (record { 0 = m }) l p) number new))
 
-new_numbers : (n : ℕ) (libs : List ScriptLib) (all : List Player) → AreNew n libs all → map lib_in all ≡ numbers_from n (length libs)
-new_numbers n [] [] a = refl
-new_numbers n [] (p ∷ all) a = absurd a
-new_numbers n (l ∷ libs) [] a = absurd a
-new_numbers n (l ∷ libs) (p ∷ all) a = ap (λ (x : LibNo). x ∷ map lib_in all) a.0.0 ∙ ap (λ x. record { 0 = n } ∷ x) (new_numbers (n + 1) libs all a.1)
+new_lines : (n : ℕ) (libs : List ScriptLib) (all : List AnyPlayer) → AreNew n libs all → map lines_in all ≡ map (λ l. l.lines) libs
+new_lines n [] [] a = refl
+new_lines n [] (p ∷ all) a = absurd a
+new_lines n (l ∷ libs) [] a = absurd a
+new_lines n (l ∷ libs) (p ∷ all) a = ap (λ x. x ∷ map lines_in all) a.0.0 ∙ ap (λ x. l.lines ∷ x) (new_lines (n + 1) libs all a.1)
 
-kind_begun : (lib : LibNo) (creds : Creds) (lines : Lines) (p : Player) → BeginsWith lib creds lines (share_in p) → is_honest p ≡ has_honest lines
-kind_begun lib creds (RawLines lines) (Raw raw) b = refl
-kind_begun lib creds (RawLines lines) (Honest x) b = absurd (cc b)
-kind_begun lib creds (HonestLines lines) (Honest x) b = refl
-kind_begun lib creds (HonestLines lines) (Raw raw) b = absurd (cc (b.1))
-
-new_kinds : (n : ℕ) (libs : List ScriptLib) (all : List Player) → AreNew n libs all → map is_honest all ≡ map (λ l. has_honest l.lines) libs
-new_kinds n [] [] a = refl
-new_kinds n [] (p ∷ all) a = absurd a
-new_kinds n (l ∷ libs) [] a = absurd a
-new_kinds n (l ∷ libs) (p ∷ all) a =
-    ap (λ b. b ∷ map is_honest all) (kind_begun (record { 0 = n }) l.creds l.lines p a.0.1) ∙ ap (λ x. has_honest l.lines ∷ x) (new_kinds (n + 1) libs all a.1)
-
-new_share : (n : ℕ) (libs : List ScriptLib) (all : List Player) (k : ℕ) (l : ScriptLib) → AreNew n libs all → slice_get libs k ≡ Some l → BeginsWith (record { 0 = n + k }) l.creds l.lines (get_or (map share_in all) k (Things nothing))
+new_share : (n : ℕ) (libs : List ScriptLib) (all : List AnyPlayer) (k : ℕ) (l : ScriptLib) → AreNew n libs all → slice_get libs k ≡ Some l → BeginsWith (record { 0 = n + k }) l.creds l.lines (get_or (map share_in all) k (Things nothing))
 new_share n [] all k l a e = absurd (cc e)
 new_share n (x ∷ libs) [] k l a e = absurd a
 new_share n (x ∷ libs) (p ∷ all) zero l a e =
@@ -321,7 +300,7 @@ new_share n (x ∷ libs) (p ∷ all) (suc k) l a e =
     let m : (n + 1) + k ≡ n + suc k = omega arith in
     subst (λ i. BeginsWith (record { 0 = i }) l.creds l.lines (get_or (map share_in all) k (Things nothing))) m (new_share (n + 1) libs all k l a.1 e)
 
-new_length : (n : ℕ) (libs : List ScriptLib) (all : List Player) → AreNew n libs all → length all ≡ length libs
+new_length : (n : ℕ) (libs : List ScriptLib) (all : List AnyPlayer) → AreNew n libs all → length all ≡ length libs
 new_length n [] [] a = refl
 new_length n [] (p ∷ all) a = absurd a
 new_length n (l ∷ libs) [] a = absurd a
@@ -329,11 +308,15 @@ new_length n (l ∷ libs) (p ∷ all) a = ap suc (new_length (n + 1) libs all a.
 
 -- ---- a script begins
 
-module _ (x : Controller) (libs : List ScriptLib) (all : List Player) (tolds : List Heard) (new : AreNew 1 libs all) (none : tolds ≡ tabulated (λ k. untold) (length libs)) where
+-- a library may go on from what it begins with
+pub begun_goes : (d : DeskSeen) (lib : LibNo) (creds : Creds) (lines : Lines) (share : Share) → BeginsWith lib creds lines share → HoldsAll d share → GoesOn d share
+begun_goes d lib creds (RawLines lines) share b h = subst (GoesOn d) (sym b) (nothing_on_list d.out)
+begun_goes d lib creds (HonestLines lines) share b h = subst (GoesOn d) (sym b.1) (subst (HoldsAll d) b.1 h)
+
+module _ (x : Controller) (libs : List ScriptLib) (all : List AnyPlayer) (tolds : List Heard) (new : AreNew 1 libs all) (none : tolds ≡ tabulated (λ k. untold) (length libs)) where
   pub players_seated : AreSeated libs all tolds
   players_seated = record {
-    numbers = new_numbers 1 libs all new;
-    kinds = new_kinds 1 libs all new;
+    lines = new_lines 1 libs all new;
     told_count = ap length none ∙ tabulated-length (λ k. untold) (length libs);
   }
 
@@ -350,10 +333,6 @@ module _ (x : Controller) (libs : List ScriptLib) (all : List Player) (tolds : L
       told = none ∙ same_each untold libs;
     }
 
-    begun_goes : (lib : LibNo) (own : Creds) (lines : Lines) (share : Share) → BeginsWith lib own lines share → HoldsAll x.state lib share → GoesOn x.state lib share
-    begun_goes lib own (RawLines lines) share b h = subst (GoesOn x.state lib) (sym b) (nothing_on_list (out_of x.state lib))
-    begun_goes lib own (HonestLines lines) share b h = subst (GoesOn x.state lib) (sym b.1) (subst (HoldsAll x.state lib) b.1 h)
-
     pub players_ready : Kept x.state → IsReady (players x all tolds)
     players_ready kept =
         let held : IsHeld (players x all tolds) = start_stands x.state.home libs (players x all tolds) script_start (subst Kept started kept) in
@@ -361,29 +340,13 @@ module _ (x : Controller) (libs : List ScriptLib) (all : List Player) (tolds : L
           held = held;
           goes = λ lib is.
               let l = script_library x.state.home libs lib (subst (λ s. IsLibrary lib s) started is) in
-              begun_goes lib l.0.creds l.0.lines (share_of (players x all tolds) lib) (script_start.begins lib l.0 l.1) (held.all lib is);
+              begun_goes (desk_of x.state lib) lib l.0.creds l.0.lines (share_of (players x all tolds) lib) (script_start.begins lib l.0 l.1) (held.all lib is);
         }
 
-    pub script_played : (x' : Controller) (all' : List Player) (tolds' : List Heard) → Took (table x all tolds) (turns_of libs) (table x' all' tolds') → ScriptPlayed x.state.home libs tolds' x'.state x'.log
+    pub script_played : (x' : Controller) (all' : List AnyPlayer) (tolds' : List Heard) → Took (table x all tolds) (turns_of libs) (table x' all' tolds') → ScriptPlayed x.state.home libs tolds' x'.state x'.log
     script_played x' all' tolds' took = record {
       played = record { first = players x all tolds; begins = script_start; moves = took.moves; last = players x' all' tolds'; plays = took.plays };
       told = refl;
       last = refl;
       log_is = refl;
     }
-
--- ---- the limits of calls
-
--- each library of those within the limits is
-pub within_at : (libs : List ScriptLib) (at : ℕ) (l : ScriptLib) → at < length libs → l ≡ get_or libs at l → AreWithin libs → LinesWithin l.lines
-within_at [] at l lt is h = absurd (omega (arith, lt))
-within_at (x ∷ libs) zero l lt is h = subst (λ (y : ScriptLib). LinesWithin y.lines) (sym is) h.0
-within_at (x ∷ libs) (suc at) l lt is h = within_at libs at l (omega (arith, lt)) is h.1
-
--- and each line of such a library
-pub line_within : (lines : List (ScriptLine HonestLine)) (at : ℕ) (line : ScriptLine HonestLine) → slice_get lines at ≡ Some line → LinesWithin (HonestLines lines) → SaysWithin line.line
-line_within [] at line e h = absurd (cc e)
-line_within (l ∷ lines) zero line e h =
-    let same : l ≡ line = cc e in
-    subst (λ (x : ScriptLine HonestLine). SaysWithin x.line) same h.0
-line_within (l ∷ lines) (suc at) line e h = line_within lines at line e h.1

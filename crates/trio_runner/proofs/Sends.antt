@@ -11,7 +11,7 @@ use Rattle.trio_shared.specs.contracts.held.Held as held
 use Rattle.trio_report.specs.contracts.answer.LineAnswer as answer
 use Rattle.trio_report.specs.contracts.report.EndAnswer as end
 use Rattle.trio_script.specs.contracts.ScriptLib as script
-use Rattle.trio_runner.specs.contracts.rounds.LibTold as told
+use Rattle.trio_runner.specs.contracts.told.LibTold as told
 use Rattle.trio_runner.specs.contracts.threads.LibRun as ran
 
 answer_sends : IsSend answer.the_row

@@ -3,6 +3,7 @@ pub mod Line
 pub mod Honest
 pub mod Rounds
 pub mod Play
+pub mod Players
 pub mod Logged
 pub mod History
 pub mod PlayLaws

@@ -5,21 +5,48 @@ ghost use Rattle.trio_edit_laws.specs.Calls.{MayCall};
 ghost use Rattle.trio_walk.specs.Asks.{Settles};
 ghost use Rattle.trio_script.specs.Within.{IsWithin, SaysWithin};
 ghost use Rattle.trio_runner.specs.Honest.{HonestComes, SessionCalled, is_dir_call};
+ghost use Rattle.trio_runner.specs.Play.{InSession};
+ghost use Rattle.trio_runner.specs.Rounds.{SaysHonest};
 
 use crate::copies::copied;
+use crate::players::Player;
 use std::alloc::Global;
 use trio_calls_dir::dir_call;
 use trio_calls_file::file_call;
 use trio_desk::Desk;
 use trio_nodes::Call;
 use trio_page::NoMemory;
-use trio_report::LineAnswer;
-use trio_script::HonestLine;
+use trio_report::{EndAnswer, LineAnswer};
+use trio_script::{HonestLine, ScriptLine};
 use trio_session::Session;
 use trio_walk::Outcome;
 
+impl Player for Session {
+    type Line = HonestLine;
+
+    ghost share = { λ session. InSession session };
+
+    ghost turn = { SaysHonest };
+
+    ghost within = { SaysWithin };
+
+    fn say<D: Desk>(
+        &mut self,
+        alloc: Global,
+        desk: &mut D,
+        line: &ScriptLine<HonestLine>,
+    ) -> Result<LineAnswer, NoMemory> {
+        play_honest(alloc, desk, self, &line.line)
+    }
+
+    // a settle
+    fn end<D: Desk>(&mut self, _alloc: Global, desk: &mut D) -> Result<EndAnswer, NoMemory> {
+        Ok(EndAnswer::Settled(play_settle(desk, self)?))
+    }
+}
+
 /// Plays one line at the library's desk. After want of memory the session may still have things.
-pub(crate) fn play_honest<D: Desk>(
+fn play_honest<D: Desk>(
     alloc: Global,
     desk: &mut D,
     session: &mut Session,
@@ -71,7 +98,7 @@ fn is_dir_call(call: &Call) -> bool
 }
 
 /// Settles a session at its desk: how many calls it handed in.
-pub(crate) fn play_settle<D: Desk>(desk: &mut D, session: &mut Session) -> Result<u32, NoMemory>
+fn play_settle<D: Desk>(desk: &mut D, session: &mut Session) -> Result<u32, NoMemory>
     requires may { MayCall (D.seen desk.old) session.old }
     ensures settles { IfOk result (λ count. Settles D.called desk.old session.old desk.new session.new × (count ≡ length session.old.calls)) }
     ensures may { MayCall (D.seen desk.new) session.new }

@@ -15,12 +15,15 @@
 
 mod copies;
 mod honest;
+mod kinds;
 pub mod laws;
-mod player;
 mod players;
+mod raw;
 mod rounds;
 mod threads;
+mod told;
 
-pub use players::creds_of;
-pub use rounds::{LibTold, play};
+pub use players::Player;
+pub use rounds::{creds_of, play};
 pub use threads::run;
+pub use told::LibTold;

@@ -1,23 +1,21 @@
 //! The libraries of a script, each on a thread of its own.
 
-ghost use Rattle.std.specs.Prelude.{◌≡◌, ◌∷◌, ◌++◌, ◌≤◌, [], IfOk, OnOk, Some, length, map};
+ghost use Rattle.std.specs.Prelude.{◌≡◌, ◌∷◌, ◌++◌, ◌≤◌, [], IfOk, OnOk, Some, length, map, slice_get};
 ghost use Rattle.trio_state.specs.Kept.{Kept};
 ghost use Rattle.trio_state.specs.Run.{start};
 ghost use Rattle.trio_ctl.specs.Ctl.{IsIdle as StandsIdle, IsLibrary, NoneBegun};
-ghost use Rattle.trio_raw.specs.Has.{nothing};
 ghost use Rattle.trio_rights.specs.declared.rights.LibNo.{LibNo};
-ghost use Rattle.trio_session.specs.Seen.{Room};
-ghost use Rattle.trio_script.specs.Within.{AreWithin, LinesWithin, SaysWithin};
-ghost use Rattle.trio_shared.specs.Seats.{desk, library_of};
+ghost use Rattle.trio_script.specs.Within.{AreWithin, LinesWithin};
+ghost use Rattle.trio_shared.specs.Seats.{desk};
 ghost use Rattle.trio_turn.specs.Seats.{OfEach, seen};
-ghost use Rattle.trio_runner.specs.Play.{InSession, Things, creds_in, new_session};
-ghost use Rattle.trio_runner.specs.Rounds.{Ends, Says, SaysHonest, line_turns};
+ghost use Rattle.trio_runner.specs.Play.{creds_in};
+ghost use Rattle.trio_runner.specs.Rounds.{Ends, Turn, line_turns};
 ghost use Rattle.trio_runner.specs.Runs.{ScriptRan};
-ghost use Rattle.trio_runner.specs.inner.Threads.{Arrives, HasRun, HaveRun, MayGoOn, Sits, Went, WentThrough};
+ghost use Rattle.trio_runner.specs.inner.Ready.{lines_in, share_in};
+ghost use Rattle.trio_runner.specs.inner.Threads.{Arrives, HasRun, HaveRun, MayGoOn, Sits, TookAtSeat, Went, WentThrough};
 
-use crate::honest::{play_honest, play_settle};
-use crate::player::{play_end, play_line};
-use crate::rounds::LibTold;
+use crate::kinds::{AnyPlayer, line_count, line_number};
+use crate::told::LibTold;
 use std::alloc::Global;
 use std::sync::Wait;
 use std::thread;
@@ -25,11 +23,7 @@ use std::thread::Threads;
 use trio_ctl::Ctl;
 use trio_io::Gate;
 use trio_page::NoMemory;
-use trio_raw::Raw;
-use trio_report::EndAnswer;
-use trio_rights::{Creds, LibNo};
-use trio_script::{HonestLine, Lines, RawLine, ScriptLib, ScriptLine};
-use trio_session::Session;
+use trio_script::{Lines, ScriptLib};
 use trio_shared::{LibSeat, SeatDesk, Shared, desk_is_left, others_leave};
 
 /// A library's seat once the library has come to its end, and what the library was told; `None` where
@@ -145,7 +139,7 @@ fn run_lib<R: Wait, G: Gate>(
     }
 }
 
-/// Plays all of a library's script at its seat.
+/// Plays all of a library's script at its seat, from what it begins with.
 fn run_script<R: Wait, G: Gate>(
     rt: &R,
     alloc: Global,
@@ -161,220 +155,65 @@ fn run_script<R: Wait, G: Gate>(
     requires creds { (desk seat.old).creds ≡ script.now.creds }
     ensures { OnOk result (WentThrough shared.now script.now.creds script.now.lines seat.old told.old seat.new told.new) }
 {
-    match &script.lines {
-        Lines::Raw(lines) => run_raw(rt, alloc, shared, gate, lines.as_slice(), seat, told),
-        Lines::Honest(lines) => run_honest(
-            rt,
-            alloc,
-            shared,
-            gate,
-            script.creds,
-            lines.as_slice(),
-            seat,
-            told,
-        ),
-    }
-}
-
-/// Plays all of a raw library's script, from nothing on.
-fn run_raw<R: Wait, G: Gate>(
-    rt: &R,
-    alloc: Global,
-    shared: &Shared,
-    gate: &G,
-    lines: &[ScriptLine<RawLine>],
-    seat: &mut LibSeat,
-    told: &mut LibTold,
-) -> Result<(), NoMemory>
-    requires sits { Sits shared.now seat.old }
-    requires may { MayGoOn (desk seat.old) (Things nothing) }
-    ensures { OnOk result (Went shared.now (line_turns (Lines.Raw lines.now) ++ Ends ∷ []) seat.old (Things nothing) told.old seat.new (Things nothing) told.new) }
-{
-    let lib = seat.library();
-    let mut raw = Raw::new(alloc, lib);
-    match say_lines(rt, alloc, shared, gate, lines, seat, &mut raw, told) {
-        Ok(()) => {
-            gate.arrive(lib, 0);
-            end_raw(rt, shared, seat, raw, told)
-        }
-        Err(NoMemory) => {
-            raw.discard();
-            Err(NoMemory)
-        }
-    }
-}
-
-/// Plays the lines of a raw library, and keeps their answers.
-fn say_lines<R: Wait, G: Gate>(
-    rt: &R,
-    alloc: Global,
-    shared: &Shared,
-    gate: &G,
-    lines: &[ScriptLine<RawLine>],
-    seat: &mut LibSeat,
-    raw: &mut Raw,
-    told: &mut LibTold,
-) -> Result<(), NoMemory>
-    requires sits { Sits shared.now seat.old }
-    requires lib { raw.old.lib ≡ library_of seat.old }
-    requires may { MayGoOn (desk seat.old) (Things raw.old.has) }
-    ensures went { OnOk result (Went shared.now (map Says lines.now) seat.old (Things raw.old.has) told.old seat.new (Things raw.new.has) told.new) }
-    ensures lib { OnOk result (raw.new.lib ≡ library_of seat.new) }
-    ensures may { OnOk result (MayGoOn (desk seat.new) (Things raw.new.has)) }
-{
-    for line in lines {
-        gate.arrive(raw.lib(), line.number);
-        say_line(rt, alloc, shared, line, seat, raw, told)?;
-    }
-    Ok(())
-}
-
-/// Plays a line of a raw library, and keeps its answer.
-fn say_line<R: Wait>(
-    rt: &R,
-    alloc: Global,
-    shared: &Shared,
-    line: &ScriptLine<RawLine>,
-    seat: &mut LibSeat,
-    raw: &mut Raw,
-    told: &mut LibTold,
-) -> Result<(), NoMemory>
-    requires sits { Sits shared.now seat.old }
-    requires lib { raw.old.lib ≡ library_of seat.old }
-    requires may { MayGoOn (desk seat.old) (Things raw.old.has) }
-    ensures went { OnOk result (Went shared.now (Says line.now ∷ []) seat.old (Things raw.old.has) told.old seat.new (Things raw.new.has) told.new) }
-    ensures lib { OnOk result (raw.new.lib ≡ library_of seat.new) }
-    ensures may { OnOk result (MayGoOn (desk seat.new) (Things raw.new.has)) }
-{
-    desk_is_left();
-    others_leave();
-    let mut desk = SeatDesk::of(rt, shared, seat);
-    let answer = play_line(alloc, &mut desk, raw, &line.line)?;
-    told.hears(answer)
-}
-
-/// Ends a raw library, and keeps the answer.
-fn end_raw<R: Wait>(
-    rt: &R,
-    shared: &Shared,
-    seat: &mut LibSeat,
-    raw: Raw,
-    told: &mut LibTold,
-) -> Result<(), NoMemory>
-    requires sits { Sits shared.now seat.old }
-    requires lib { raw.lib ≡ library_of seat.old }
-    requires may { MayGoOn (desk seat.old) (Things raw.has) }
-    ensures { OnOk result (Went shared.now (Ends ∷ []) seat.old (Things raw.has) told.old seat.new (Things nothing) told.new) }
-{
-    desk_is_left();
-    let mut desk = SeatDesk::of(rt, shared, seat);
-    let answer = play_end(&mut desk, raw)?;
-    told.hears_end(answer);
-    Ok(())
-}
-
-/// Plays all of an honest library's script, from an empty session on.
-fn run_honest<R: Wait, G: Gate>(
-    rt: &R,
-    alloc: Global,
-    shared: &Shared,
-    gate: &G,
-    creds: Creds,
-    lines: &[ScriptLine<HonestLine>],
-    seat: &mut LibSeat,
-    told: &mut LibTold,
-) -> Result<(), NoMemory>
-    requires within { LinesWithin (Lines.Honest lines.now) }
-    requires sits { Sits shared.now seat.old }
-    requires may { (room : Room) → MayGoOn (desk seat.old) (InSession (new_session (library_of seat.old) creds room)) }
-    ensures { OnOk result (WentThrough shared.now creds (Lines.Honest lines.now) seat.old told.old seat.new told.new) }
-{
-    let lib = seat.library();
-    let mut session = Session::new(alloc, lib, creds);
-    match call_lines(
+    let mut player = AnyPlayer::new(alloc, seat.library(), script);
+    let went = run_turns(
         rt,
         alloc,
         shared,
         gate,
-        lib,
-        lines,
+        &script.lines,
         seat,
-        &mut session,
+        &mut player,
         told,
-    ) {
-        Ok(()) => {
-            gate.arrive(lib, 0);
-            let ended = end_session(rt, shared, seat, &mut session, told);
-            session.discard();
-            ended
-        }
-        Err(NoMemory) => {
-            session.discard();
-            Err(NoMemory)
-        }
-    }
+    );
+    player.discard();
+    went
 }
 
-/// Plays the lines of an honest library, and keeps their answers.
-fn call_lines<R: Wait, G: Gate>(
+/// Takes all turns of a library at its seat: its lines one after another, and then its end.
+fn run_turns<R: Wait, G: Gate>(
     rt: &R,
     alloc: Global,
     shared: &Shared,
     gate: &G,
-    lib: LibNo,
-    lines: &[ScriptLine<HonestLine>],
+    lines: &Lines,
     seat: &mut LibSeat,
-    session: &mut Session,
+    player: &mut AnyPlayer,
     told: &mut LibTold,
 ) -> Result<(), NoMemory>
-    requires within { LinesWithin (Lines.Honest lines.now) }
+    requires lines { lines_in player.old ≡ lines.now }
+    requires within { LinesWithin lines.now }
     requires sits { Sits shared.now seat.old }
-    requires may { MayGoOn (desk seat.old) (InSession session.old) }
-    ensures went { OnOk result (Went shared.now (map SaysHonest lines.now) seat.old (InSession session.old) told.old seat.new (InSession session.new) told.new) }
-    ensures may { OnOk result (MayGoOn (desk seat.new) (InSession session.new)) }
+    requires may { MayGoOn (desk seat.old) (share_in player.old) }
+    ensures { OnOk result (Went shared.now (line_turns lines.now ++ Ends ∷ []) seat.old (share_in player.old) told.old seat.new (share_in player.new) told.new) }
 {
-    for line in lines {
-        gate.arrive(lib, line.number);
-        call_line(rt, alloc, shared, line, seat, session, told)?;
+    let lib = seat.library();
+    for at in 0..line_count(lines) + 1 {
+        gate.arrive(lib, line_number(lines, at));
+        turn_at_seat(rt, alloc, shared, at, seat, player, told)?;
     }
     Ok(())
 }
 
-/// Plays a line of an honest library, and keeps its answer.
-fn call_line<R: Wait>(
+/// Takes a library's turn of this number at its seat.
+fn turn_at_seat<R: Wait>(
     rt: &R,
     alloc: Global,
     shared: &Shared,
-    line: &ScriptLine<HonestLine>,
+    at: usize,
     seat: &mut LibSeat,
-    session: &mut Session,
+    player: &mut AnyPlayer,
     told: &mut LibTold,
 ) -> Result<(), NoMemory>
-    requires within { SaysWithin line.now.line }
+    requires within { LinesWithin (lines_in player.old) }
     requires sits { Sits shared.now seat.old }
-    requires may { MayGoOn (desk seat.old) (InSession session.old) }
-    ensures went { OnOk result (Went shared.now (SaysHonest line.now ∷ []) seat.old (InSession session.old) told.old seat.new (InSession session.new) told.new) }
-    ensures may { OnOk result (MayGoOn (desk seat.new) (InSession session.new)) }
+    requires may { MayGoOn (desk seat.old) (share_in player.old) }
+    ensures turn { OnOk result ((turn : Turn) → slice_get (line_turns (lines_in player.old) ++ Ends ∷ []) at ≡ Some turn
+        → TookAtSeat shared.now turn seat.old (share_in player.old) told.old seat.new (share_in player.new) told.new) }
+    ensures lines { OnOk result (lines_in player.new ≡ lines_in player.old) }
 {
+    desk_is_left();
+    others_leave();
     let mut desk = SeatDesk::of(rt, shared, seat);
-    let answer = play_honest(alloc, &mut desk, session, &line.line)?;
-    told.hears(answer)
-}
-
-/// Ends an honest library by a settle, and keeps the answer.
-fn end_session<R: Wait>(
-    rt: &R,
-    shared: &Shared,
-    seat: &mut LibSeat,
-    session: &mut Session,
-    told: &mut LibTold,
-) -> Result<(), NoMemory>
-    requires sits { Sits shared.now seat.old }
-    requires may { MayGoOn (desk seat.old) (InSession session.old) }
-    ensures { OnOk result (Went shared.now (Ends ∷ []) seat.old (InSession session.old) told.old seat.new (InSession session.new) told.new) }
-{
-    let mut desk = SeatDesk::of(rt, shared, seat);
-    let count = play_settle(&mut desk, session)?;
-    told.hears_end(EndAnswer::Settled(count));
-    Ok(())
+    player.turn(alloc, &mut desk, at, told)
 }

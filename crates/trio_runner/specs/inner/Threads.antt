@@ -3,21 +3,20 @@ use Rattle.std.specs.Prelude.{◌≡◌, ℕ, List, [], ◌∷◌, ◌++◌, len
 use Rattle.trio_rights.specs.declared.rights.Creds.{Creds}
 use Rattle.trio_desk.specs.Call.{DeskSeen}
 use Rattle.trio_desk.specs.Calls.{Call}
-use Rattle.trio_raw.specs.Has.{OnList}
-use Rattle.trio_edit_laws.specs.Calls.{MayCall}
 use Rattle.trio_state.specs.State.{State}
 use Rattle.trio_turn.specs.declared.seat.LibSeat.{LibSeat}
 use Rattle.trio_turn.specs.Seats.{first, library, seen}
 use Rattle.trio_shared.specs.declared.cell.Shared.{Shared}
 use Rattle.trio_shared.specs.declared.held.Held.{Held}
 use Rattle.trio_shared.specs.Left.{Leaves}
-use Rattle.trio_shared.specs.Seats.{IsIdle, IsSeatOf, library_of, seated}
+use Rattle.trio_shared.specs.Seats.{IsIdle, IsSeatOf, desk, library_of, seated}
 use Rattle.trio_script.specs.declared.Lines.{Lines}
 use Rattle.trio_script.specs.declared.ScriptLib.{ScriptLib}
 use Rattle.trio_runner.specs.Courses.{CourseGoes, LibRan, Place}
-use Rattle.trio_runner.specs.Play.{BeginsWith, Heard, Share, Things, InSession, IsLibraryOf, creds_in}
+use Rattle.trio_runner.specs.Play.{BeginsWith, Heard, Share, IsLibraryOf, creds_in}
+use Rattle.trio_runner.specs.Players.{GoesOn}
 use Rattle.trio_runner.specs.Rounds.{Turn, Ends, line_turns}
-use Rattle.trio_runner.specs.inner.Ready.{HasAll}
+use Rattle.trio_runner.specs.inner.Ready.{HoldsAll}
 use Rattle.trio_runner.specs.declared.threads.LibRun.{LibRun}
 
 -- an idle seat of this controller, and what it has seen leaves a state
@@ -27,10 +26,9 @@ pub record Sits (shared : Shared) (seat : LibSeat Held) : Type 0 where
   pub state : State
   pub left : Leaves (first seat) (seen seat) state
 
--- a library may go on: what a raw one has is out to it, and all that is; and a session may make calls
+-- a library may go on, and what it has is all that is out to it
 abbrev pub MayGoOn : DeskSeen → Share → Type 0
-MayGoOn desk (Things has) = OnList desk.out has × HasAll desk.out has
-MayGoOn desk (InSession session) = MayCall desk session
+MayGoOn desk share = GoesOn desk share × HoldsAll desk share
 
 -- how far a library is at its seat
 abbrev pub place_at : LibSeat Held → List Call → Share → Heard → Place
@@ -41,6 +39,11 @@ pub record Went (shared : Shared) (turns : List Turn) (seat : LibSeat Held) (sha
   pub goes : (calls : List Call) → (calls' : List Call) × CourseGoes (place_at seat calls share told) turns (place_at seat' calls' share' told')
   pub sits : Sits shared seat'
   pub library : library seat' ≡ library seat
+
+-- it took a turn, and may go on
+pub record TookAtSeat (shared : Shared) (turn : Turn) (seat : LibSeat Held) (share : Share) (told : Heard) (seat' : LibSeat Held) (share' : Share) (told' : Heard) : Type 0 where
+  pub went : Went shared (turn ∷ []) seat share told seat' share' told'
+  pub may : MayGoOn (desk seat') share'
 
 -- it took all its turns, from what it begins with
 pub record WentThrough (shared : Shared) (creds : Creds) (lines : Lines) (seat : LibSeat Held) (told : Heard) (seat' : LibSeat Held) (told' : Heard) : Type 0 where

@@ -1,10 +1,30 @@
-use Rattle.std.proofs.Common.{subst, sym}
-use Rattle.trio_runner.specs.inner.Ready.{HasClosed, lib_in, share_in}
-use Rattle.trio_runner.specs.declared.players.Player.{Player}
+use Rattle.std.proofs.Common.{subst, sym, ◌∙◌}
+use Rattle.trio_ctl.specs.Ctl.{Controller}
+use Rattle.trio_ctl.specs.Desk.{desk_of}
+use Rattle.trio_runner.specs.Players.{GoesOn, HasClosed}
+use Rattle.trio_runner.specs.inner.Ready.{share_in}
+use Rattle.trio_runner.proofs.Calling.{on_both, turn_name, turn_took}
 use Rattle.trio_runner.proofs.rounds.play_turn.Goals as goal
 
-pub raw_turn-requires-clause-closed : goal.raw_turn-requires-clause-closed
-raw_turn-requires-clause-closed c =
-    let s = c.args.ctl.now.state in
-    subst (λ (p : Player). HasClosed s (lib_in p) (share_in p)) c.in-Raw-Raw.is-1
-    (subst (λ l. HasClosed s l (share_in c.args.player.now)) (sym c.requires.lib) c.requires.closed)
+pub turn-requires-clause-goes : goal.turn-requires-clause-goes
+turn-requires-clause-goes c =
+    let desk = c.of-desk in
+    subst (λ l. GoesOn (desk_of desk.result.ctl.now.state l) (share_in c.args.player.now)) (sym desk.ensures.lib)
+    (subst (λ (x : Controller). GoesOn (desk_of x.state c.args.lib) (share_in c.args.player.now)) (sym desk.ensures.ctl) c.requires.goes)
+
+pub turn-requires-clause-closed : goal.turn-requires-clause-closed
+turn-requires-clause-closed c =
+    let desk = c.of-desk in
+    subst (λ l. HasClosed (desk_of desk.result.ctl.now.state l) (share_in c.args.player.now)) (sym desk.ensures.lib)
+    (subst (λ (x : Controller). HasClosed (desk_of x.state c.args.lib) (share_in c.args.player.now)) (sym desk.ensures.ctl) c.requires.closed)
+
+pub returns-clause-turn : goal.returns-clause-turn
+returns-clause-turn c =
+    let d = c.of-desk in
+    let d' = c.turn.new.desk in
+    on_both c.turn.result _ _ _
+    (λ taken goes.
+    let name = turn_name _ (λ d. d.ctl.now) (λ d. d.ctl.ghost_name) (λ d. d.lib) (λ d a t d' h. h) d.result d' _ _ _ _ _ taken in
+    turn_took _ (λ d. d.ctl.now) (λ d. d.ctl.ghost_name) (λ d. d.lib) (λ d a t d' h. h) d.result d' _ _ _ _ _ _ _ _
+    d.ensures.lib d.ensures.ctl (c.ctl-1.given.1 (sym d.ensures.same_reference ∙ sym name)) taken goes)
+    c.turn.ensures.turn c.turn.ensures.goes

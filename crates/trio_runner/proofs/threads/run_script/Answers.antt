@@ -1,27 +1,24 @@
-use Rattle.std.proofs.Common.{◌∷◌, ◌++◌, [], map, refl, sym, subst}
-use Rattle.trio_script.specs.declared.Lines.{Lines}
-use Rattle.trio_runner.specs.Play.{Things}
-use Rattle.trio_raw.specs.Has.{nothing}
-use Rattle.trio_runner.specs.inner.Threads.{Went, WentThrough}
-use Rattle.trio_runner.specs.Rounds.{Ends, Says}
-use Rattle.trio_runner.proofs.Beginning.{honest_may, raw_may}
+use Rattle.std.proofs.Common.{subst}
+use Rattle.trio_shared.specs.Seats.{library_of}
+use Rattle.trio_runner.specs.Play.{BeginsWith}
+use Rattle.trio_runner.specs.inner.Ready.{share_in}
+use Rattle.trio_runner.proofs.Beginning.{begins_may}
 use Rattle.trio_runner.proofs.Calling.{on_ok}
+use Rattle.trio_runner.proofs.Held.{same_library}
 use Rattle.trio_runner.proofs.threads.run_script.Goals as goal
 
-pub run_raw-requires-clause-may : goal.run_raw-requires-clause-may
-run_raw-requires-clause-may g c = raw_may c.args.seat.now c.requires.none
+pub run_turns-went-requires-clause-may : goal.run_turns-went-requires-clause-may
+run_turns-went-requires-clause-may g c =
+    begins_may c.args.seat.now c.args.script.now.creds c.args.script.now.lines (share_in c.new-player.result) c.requires.none c.requires.creds
+    (subst (λ l. BeginsWith l c.args.script.now.creds c.args.script.now.lines (share_in c.new-player.result)) (same_library c.library.result (library_of c.args.seat.now) c.library.ensures) c.new-player.ensures.1)
 
-pub run_honest-requires-clause-may : goal.run_honest-requires-clause-may
-run_honest-requires-clause-may g c = λ room. honest_may c.args.seat.now c.requires.none c.args.script.now.creds room c.requires.creds
-
-pub returns-in-Raw : goal.returns-in-Raw
-returns-in-Raw g c =
-    on_ok c.run_raw.result _ _
-    (λ went. subst (λ (ls : Lines). WentThrough c.args.shared.now c.args.script.now.creds ls c.args.seat.now c.args.told.now c.run_raw.new.seat c.run_raw.new.told) (sym c.in-Raw.is)
-    (record {
-      share = Things nothing;
-      share' = Things nothing;
-      begins = refl;
-      went = subst (λ ls. Went c.args.shared.now (map Says ls ++ Ends ∷ []) c.args.seat.now (Things nothing) c.args.told.now c.run_raw.new.seat (Things nothing) c.run_raw.new.told) c.as_slice.ensures went;
-    }))
-    c.run_raw.ensures
+pub returns : goal.returns
+returns g c =
+    on_ok c.run_turns-went.result _ _
+    (λ went. record {
+      share = share_in c.new-player.result;
+      share' = share_in c.run_turns-went.new.player;
+      begins = subst (λ l. BeginsWith l c.args.script.now.creds c.args.script.now.lines (share_in c.new-player.result)) (same_library c.library.result (library_of c.args.seat.now) c.library.ensures) c.new-player.ensures.1;
+      went = went;
+    })
+    c.run_turns-went.ensures

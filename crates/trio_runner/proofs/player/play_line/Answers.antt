@@ -1,4 +1,0 @@
-use Rattle.trio_runner.proofs.player.play_line.Goals as goal
-
-pub returns-in-Poke-clause-stands : goal.returns-in-Poke-clause-stands
-returns-in-Poke-clause-stands g c = c.play_poke.ensures.stands _ c.requires.stands

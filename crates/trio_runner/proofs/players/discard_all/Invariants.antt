@@ -1,5 +1,0 @@
-use Rattle.std.proofs.Common.{vec_len}
-use Rattle.trio_runner.proofs.players.discard_all.Given as goal
-
-abbrev pub decreases-loop-player : goal.decreases-loop-player
-decreases-loop-player l = vec_len l.players

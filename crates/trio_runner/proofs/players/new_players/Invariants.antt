@@ -1,6 +1,0 @@
-use Rattle.std.proofs.Common.{◌≡◌, ◌≤◌, length, take, vec_capacity}
-use Rattle.trio_runner.specs.inner.Ready.{AreNew}
-use Rattle.trio_runner.proofs.players.new_players.Given as goal
-
-abbrev pub invariant-loop-n : goal.invariant-loop-n
-invariant-loop-n l = AreNew 1 (take l.n l.libs) l.players.items × (length l.players.items ≡ l.n) × (length l.libs ≤ vec_capacity l.players)

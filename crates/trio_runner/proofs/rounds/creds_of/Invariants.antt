@@ -1,0 +1,6 @@
+use Rattle.std.proofs.Common.{◌≡◌, take}
+use Rattle.trio_runner.specs.Play.{creds_in}
+use Rattle.trio_runner.proofs.rounds.creds_of.Given as goal
+
+abbrev pub invariant-loop-lib : goal.invariant-loop-lib
+invariant-loop-lib l = l.creds.items ≡ creds_in (take l.lib-index l.libs)

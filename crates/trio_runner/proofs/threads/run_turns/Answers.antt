@@ -1,0 +1,36 @@
+use Rattle.std.proofs.Common.{◌≡◌, ◌<◌, ◌≤◌, ◌++◌, ◌∷◌, [], Some, get_or, length, subst, sym, ◌∙◌, arith}
+use Rattle.std.specs.Prelude.{slice_get}
+use Rattle.std.proofs.lemmas.List.{length-append, take_all}
+use Rattle.std.proofs.lemmas.Option.{slice_get-get_or}
+use Rattle.trio_script.specs.Within.{LinesWithin}
+use Rattle.trio_runner.specs.Rounds.{Ends, line_turns}
+use Rattle.trio_runner.specs.inner.Ready.{share_in}
+use Rattle.trio_runner.specs.inner.Threads.{Went}
+use Rattle.trio_runner.proofs.Going.{went_next, went_none}
+use Rattle.trio_runner.proofs.threads.run_turns.Goals as goal
+
+pub loop-at-init : goal.loop-at-init
+loop-at-init g c = record { went = went_none _ _ _ _ c.requires.sits; lines = c.requires.lines; may = c.requires.may }
+
+pub turn_at_seat-requires-clause-within : goal.turn_at_seat-requires-clause-within
+turn_at_seat-requires-clause-within g c = subst LinesWithin (sym c.loop-at.invariant.lines) c.requires.within
+
+pub loop-at-preserved : goal.loop-at-preserved
+loop-at-preserved g c =
+    let turns = line_turns c.args.lines.now ++ Ends ∷ [] in
+    let long = length-append (line_turns c.args.lines.now) (Ends ∷ []) in
+    let low : c.loop-at.at < length turns = omega (arith, c.loop-at-test.true, c.line_count-at-end.ensures.count, long) in
+    let took = c.in_ok-turn_at_seat.ensures.turn (get_or turns c.loop-at.at Ends)
+    (subst (λ ls. slice_get (line_turns ls ++ Ends ∷ []) c.loop-at.at ≡ Some (get_or turns c.loop-at.at Ends)) (sym c.loop-at.invariant.lines) (slice_get-get_or turns c.loop-at.at Ends low)) in
+    record {
+      went = went_next c.args.shared.now turns c.loop-at.at _ _ _ _ _ _ _ _ _ low c.loop-at.invariant.went took.went;
+      lines = c.in_ok-turn_at_seat.ensures.lines ∙ c.loop-at.invariant.lines;
+      may = took.may;
+    }
+
+pub returns : goal.returns
+returns g c =
+    let turns = line_turns c.args.lines.now ++ Ends ∷ [] in
+    let long = length-append (line_turns c.args.lines.now) (Ends ∷ []) in
+    let past : length turns ≤ c.loop-at.at = omega (arith, c.loop-at-test.false, c.line_count-at-end.ensures.count, long) in
+    subst (λ ts. Went c.args.shared.now ts c.args.seat.now (share_in c.args.player.now) c.args.told.now c.loop-at.seat (share_in c.loop-at.player) c.loop-at.told) (take_all c.loop-at.at turns past) c.loop-at.invariant.went
