@@ -27,20 +27,9 @@ use Rattle.trio_laws.specs.session.Takes.{Becomes}
 use Rattle.trio_laws.specs.session.SlotEdits.{KeepsTree, moved, retitled, with_changed}
 use Rattle.trio_session.specs.Seen.{MadeFile, SessionSeen, IsOpenDir, block_shown, body_in, chain_in, children_shown, clear, cleared_file, empty_shown, entry_count, entry_in, entry_shown, every_number, fill, grant_in, held_file, in_hand, made_body, made_file, number_shown, open_kind, pages_shown, place_shown, retitle, slots_shown, spare_numbers, spare_pages}
 use Rattle.trio_edit_laws.specs.Written.{MayEdit}
+use Rattle.trio_session.specs.Deeds.{names_here}
 
 -- ---- what is seen of a directory
-
--- what a page's slots have, each an entry or none
-abbrev pub slots_of_page : List ℕ → List (Option EntryPart)
-slots_of_page page = tabulated (λ slot. entry_in (slot_of every_number (slot_bytes slot page))) 16
-
--- the entries of a directory, in the order of block and slot
-abbrev pub entries_here : SessionSeen → ℕ → List EntryPart
-entries_here s dir = filter_map (λ e. e) (flat_map slots_of_page (pages_shown s dir))
-
--- its names and kinds, in the byte order of names
-abbrev pub names_here : SessionSeen → ℕ → List (List ℕ × Kind)
-names_here s dir = sorted_by_name entry_name (map (λ e. (e.name, e.kind)) (entries_here s dir))
 
 -- What a session sees of a directory that it has open is so in these nodes: its rights by its body; what a name is, how many entries there
 -- are and their names by its slots; and the kind and the rights of each entry's file by its slot. An allotted number that an entry names
