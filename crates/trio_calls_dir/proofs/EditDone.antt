@@ -1,24 +1,16 @@
 -- An edit that a call makes is noted with it.
-use Rattle.std.proofs.Common.{◌≡◌, ◌∷◌, ◌++◌, [], List, sym, ap, ◌∙◌, subst, inl, inr, refl}
-use Rattle.trio_lists.specs.Lists.{In}
-use Rattle.trio_lists.proofs.Members.{In-cases}
+use Rattle.std.proofs.Common.{◌≡◌, List, ap, ◌∙◌, refl}
 use Rattle.trio_nodes.specs.declared.call.Answer.TheVariants.{Done as IsDone}
 use Rattle.trio_nodes.specs.declared.call.Call.{Call}
 use Rattle.trio_nodes.specs.declared.call.Done.{Done}
 use Rattle.trio_nodes.specs.declared.call.Reply.TheVariants.{Ok as IsReplied}
 use Rattle.trio_nodes.specs.Nodes.{Nodes}
-use Rattle.trio_nodes.specs.After.{batch_nodes}
-use Rattle.trio_nodes.specs.Legal.{LegalCalls}
 use Rattle.trio_desk.specs.Call.{DeskSeen}
 use Rattle.trio_desk.specs.Edits.{DoesCall}
 use Rattle.trio_desk.specs.Out.{ino_numbers}
-use Rattle.trio_desk.specs.Ready.{ComesToShown, parcel_case}
-use Rattle.trio_desk.specs.Shows.{Shows}
-use Rattle.trio_laws.proofs.session.Calls.{batch_more, reply_more}
-use Rattle.trio_session.specs.Seen.{SessionSeen, in_hand, spare_numbers, spare_pages}
+use Rattle.trio_session.specs.Seen.{SessionSeen, spare_numbers, spare_pages}
 use Rattle.trio_edit_laws.specs.Calls.{MayCall}
 use Rattle.trio_edit_laws.specs.DirLaws.{Changes}
-use Rattle.trio_edit_laws.proofs.Shown.{shown_by}
 use Rattle.trio_walk.specs.Walks.{InAllShown}
 use Rattle.trio_walk.specs.Asks.{noted}
 use Rattle.trio_edit_laws.proofs.Noting.{may_noted as note_done}

@@ -1,8 +1,7 @@
 -- How a try ends by a refusal, or by a walk that comes to no file.
-use Rattle.std.proofs.Common.{◌≡◌, ◌<◌, true, false, cond, List, [], ◌∷◌, ◌++◌, length, Option, Result, Ok, Err, sym, refl, ap, ◌∙◌, subst, inl, inr, append_assoc}
+use Rattle.std.proofs.Common.{◌≡◌, ◌<◌, true, false, cond, List, [], ◌++◌, length, Option, Result, Ok, Err, sym, refl, ap, ◌∙◌, subst, inl, inr, append_assoc}
 use Rattle.std.specs.Prelude.{map, MatchResult}
 use Rattle.std.proofs.lemmas.List.{append-nil, map-append}
-use Rattle.trio_lists.proofs.Members.{In-cases}
 use Rattle.trio_rights.specs.Row.{Row}
 use Rattle.trio_rights.specs.declared.rights.Creds.{Creds}
 use Rattle.trio_nodes.specs.declared.answers.AllotFault.{AllotFault}
@@ -17,12 +16,9 @@ use Rattle.trio_nodes.specs.Apply.{Apply, applied, is_done}
 use Rattle.trio_nodes.specs.After.{batch_nodes, call_nodes}
 use Rattle.trio_desk.specs.Call.{Ask, DeskSeen, Grant, Told, NotLent}
 use Rattle.trio_desk.specs.Calls as desk_calls
-use Rattle.trio_desk.specs.Ready.{ArePossible, parcel_case}
-use Rattle.trio_desk.specs.Shows.{Shows}
-use Rattle.trio_laws.proofs.session.Calls.{batch_more, reply_more}
+use Rattle.trio_desk.specs.Ready.{ArePossible}
 use Rattle.trio_session.specs.Seen.{SessionSeen}
 use Rattle.trio_edit_laws.specs.Calls.{MayCall}
-use Rattle.trio_edit_laws.specs.Written.{MayEdit}
 use Rattle.trio_walk.specs.declared.walks.WalkEnd.{WalkEnd}
 use Rattle.trio_walk.specs.declared.walks.WalkEnd.TheVariants.{At, Reply as IsReply, Busy as IsBusyWalk, NoMemory as NoWalkMemory}
 use Rattle.trio_walk.specs.Needs.{Needed, asked, asked_beside}

@@ -1,15 +1,13 @@
 -- A directory that is taken for reading is had, and what the session shows of it is so in the nodes.
-use Rattle.std.proofs.Common.{◌≡◌, ℕ, suc, ◌≤◌, true, false, cond, eqb, Bool, List, [], ◌∷◌, ◌++◌, length, map, Option, Some, None, Ok, sym, refl, ap, ◌∙◌, subst, arith}
-use Rattle.std.specs.Prelude.{is_some, slice_get, ◌||◌, ◌&&◌, nat_le}
+use Rattle.std.proofs.Common.{◌≡◌, ℕ, suc, true, false, cond, eqb, Bool, List, [], ◌∷◌, ◌++◌, length, map, Option, Some, None, Ok, sym, refl, ap, ◌∙◌, subst}
+use Rattle.std.specs.Prelude.{is_some, ◌||◌}
 use Rattle.std.specs.List.{filter}
-use Rattle.std.specs.Option.{option_and_then, option_map, option_map_or, option_or}
+use Rattle.std.specs.Option.{option_map, option_or}
 use Rattle.std.specs.Ordering.{is_le, nat_cmp}
 use Rattle.std.specs.Cmp.Lexicographic.{slice_cmp}
-use Rattle.std.specs.Str.{bytes_eq}
-use Rattle.std.proofs.lemmas.Bool.{and_parts, eqb-true, false≢true, leb-true}
+use Rattle.std.proofs.lemmas.Bool.{eqb-true, false≢true}
 use Rattle.std.proofs.lemmas.List.{length-map, map-append}
 use Rattle.std.proofs.lemmas.List.Elements.{filter_map-append}
-use Rattle.std.proofs.lemmas.Option.{cond_some, slice_get-map}
 use Rattle.std.proofs.lemmas.Simd.{map-map}
 use Rattle.trio_rights.specs.Row.{Row}
 use Rattle.trio_rights.specs.declared.kind.Kind.{Kind}
@@ -18,35 +16,24 @@ use Rattle.trio_lists.specs.Lists.{In, gathered, gathered_below}
 use Rattle.trio_lists.specs.Sorting.{inserted_by_name, sorted_by_name}
 use Rattle.trio_lists.proofs.Filters.{find-In}
 use Rattle.trio_lists.proofs.Members.{In-right, both-Ok}
-use Rattle.trio_layout.specs.declared.body.Body.{Body}
-use Rattle.trio_layout.specs.declared.range.CoreRange.{CoreRange}
 use Rattle.trio_layout.specs.declared.slot.EntryPart.{EntryPart}
-use Rattle.trio_layout.specs.Body.{block_count, body_at, body_bytes, body_fits, body_of, head_fits, size_fits}
-use Rattle.trio_layout.specs.Chain.{index_count}
 use Rattle.trio_layout.specs.Entries.{Listed, entries_on, slot_entries}
-use Rattle.trio_layout.specs.Range.{core_count}
-use Rattle.trio_surveys.proofs.Owned.{body_sized}
-use Rattle.trio_lease.specs.Shown.{Shown, page_at}
+use Rattle.trio_lease.specs.Shown.{Shown}
 use Rattle.trio_lease.specs.declared.parts.LentPage.{LentPage}
-use Rattle.trio_lease.specs.declared.parts.HoldParts.{HoldParts}
 use Rattle.trio_nodes.specs.declared.grant.GrantKind.TheVariants.{Read}
 use Rattle.trio_nodes.specs.Nodes.{Nodes, count_in, entry_name, names_in, node_at}
 use Rattle.trio_nodes.specs.After.{batch_nodes}
 use Rattle.trio_desk.specs.Agrees.{HasRights}
 use Rattle.trio_desk.specs.Call.{DeskSeen}
-use Rattle.trio_desk.specs.Contents.{AreWithinLimits, Sizes, entries_shown, rights_in}
-use Rattle.trio_desk.specs.Out.{IsWellLent, lent_core, lent_numbers}
+use Rattle.trio_desk.specs.Contents.{entries_shown, rights_in}
 use Rattle.trio_desk.specs.Ready.{ArePossible, lent_files}
 use Rattle.trio_laws.specs.session.DirCalls.{name_and_kind}
 use Rattle.trio_laws.specs.session.Sees.{IsView, Lists}
-use Rattle.trio_laws.proofs.history.Blocks.{chain_long}
 use Rattle.trio_laws.proofs.session.DirNames.{names_in_order}
 use Rattle.trio_laws.proofs.session.LentFiles.{lent_gathers}
 use Rattle.trio_laws.proofs.session.Sees.{sees_lease, sees_lent}
-use Rattle.trio_session.specs.Layout.{page_in, size_in}
-use Rattle.trio_session.specs.Seen.{SessionSeen, block_shown, body_in, body_shown, chain_in, dir_pages, entry_count, held_file, in_hand, kind_shown, open_kind, pages_shown, read_file, serves, slots_shown}
+use Rattle.trio_session.specs.Seen.{SessionSeen, body_in, body_shown, entry_count, in_hand, kind_shown, open_kind, pages_shown, read_file, serves, slots_shown}
 use Rattle.trio_edit_laws.specs.Calls.{MayCall}
-use Rattle.trio_edit_laws.proofs.OpenChain.{open_chain}
 use Rattle.trio_edit_laws.proofs.directories.Slotted.{length-present, page_parts, parts_of, present, slots_of-parts}
 use Rattle.trio_session.proofs.Shows.{body_shown-open, body_shown-read}
 use Rattle.trio_edit_laws.proofs.Had.{pages_shown-lent}

@@ -1,5 +1,5 @@
 -- A new file is put into the first empty slot of its directory.
-use Rattle.std.proofs.Common.{◌≡◌, ℕ, ◌<◌, true, cond, eqb, List, [], ◌∷◌, ◌++◌, Option, Some, None, sym, refl, ap, ◌∙◌, subst, inl, inr, arith}
+use Rattle.std.proofs.Common.{◌≡◌, ℕ, ◌<◌, true, cond, eqb, List, [], ◌∷◌, Option, Some, None, sym, refl, ap, ◌∙◌, subst, inl, arith}
 use Rattle.std.specs.Prelude.{not}
 use Rattle.std.specs.List.{filter}
 use Rattle.std.specs.Option.{option_map}
@@ -12,7 +12,6 @@ use Rattle.trio_rights.specs.declared.rights.Creds.{Creds}
 use Rattle.trio_rights.specs.declared.rights.Mode.{Mode}
 use Rattle.trio_lists.specs.Lists.{In, is_among}
 use Rattle.trio_lists.proofs.Filters.{filter-In}
-use Rattle.trio_lists.proofs.Members.{In-cases}
 use Rattle.trio_layout.specs.Body.{body_of}
 use Rattle.trio_layout.specs.declared.body.Body.{Body}
 use Rattle.trio_auxdir.specs.declared.place.Place.{Place}
@@ -29,7 +28,7 @@ use Rattle.trio_desk.specs.Call.{DeskSeen}
 use Rattle.trio_desk.specs.Contents.{AreWithinLimits, rights_in}
 use Rattle.trio_desk.specs.Edits.{DoesCall, MayShow}
 use Rattle.trio_desk.specs.Out.{ino_numbers}
-use Rattle.trio_desk.specs.Ready.{ArePossible, ComesToShown}
+use Rattle.trio_desk.specs.Ready.{ArePossible}
 use Rattle.trio_laws.specs.session.DirCalls.{ComesInto}
 use Rattle.trio_laws.proofs.session.DirCalls.{makes_entry}
 use Rattle.trio_session.specs.Seen.{IsOpenDir, SessionSeen, body_in, empty_shown, fill, grant_in, in_hand, made_file, number_shown, place_shown, spare_numbers, spare_pages, used_numbers}

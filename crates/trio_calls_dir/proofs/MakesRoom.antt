@@ -20,14 +20,12 @@ use Rattle.trio_nodes.specs.declared.call.Call.{Call}
 use Rattle.trio_nodes.specs.declared.call.Done.{Done}
 use Rattle.trio_nodes.specs.declared.call.Reply.{Reply}
 use Rattle.trio_nodes.specs.declared.call.Reply.TheVariants.{Ok as IsReplied, Exists, NoInodes, NoSpace}
-use Rattle.trio_nodes.specs.declared.grant.Holder.{Holder}
 use Rattle.trio_nodes.specs.Nodes.{Nodes, find_named, with_node}
 use Rattle.trio_nodes.specs.Walk.{Path, dir_of, is_root, name_of, walk_into}
 use Rattle.trio_nodes.specs.After.{batch_nodes}
 use Rattle.trio_nodes.specs.Apply.{Applied, LacksRoom, applied, done, in_directory, is_done, makes_file, new_node, reached, refused}
 use Rattle.trio_desk.specs.Call.{Allot, Ask, DeskSeen, NotGiven, Told}
 use Rattle.trio_desk.specs.Calls as desk_calls
-use Rattle.trio_desk.specs.Calls.{Calls}
 use Rattle.trio_desk.specs.Contents.{AreWithinLimits}
 use Rattle.trio_desk.specs.Edits.{TakesMore}
 use Rattle.trio_desk.specs.Ready.{ArePossible}

@@ -15,7 +15,7 @@ use Rattle.trio_nodes.specs.declared.call.Call.{Call}
 use Rattle.trio_nodes.specs.declared.call.Call.TheVariants.{Rename, Unlink}
 use Rattle.trio_nodes.specs.declared.call.Done.{Done}
 use Rattle.trio_nodes.specs.declared.call.Reply.{Reply}
-use Rattle.trio_nodes.specs.declared.call.Reply.TheVariants.{Ok as IsReplied, NoInodes, NoSpace}
+use Rattle.trio_nodes.specs.declared.call.Reply.TheVariants.{Ok as IsReplied, NoSpace}
 use Rattle.trio_nodes.specs.Nodes.{Nodes, find_named}
 use Rattle.trio_nodes.specs.Walk.{Path, dir_of, name_of, walk_into}
 use Rattle.trio_nodes.specs.After.{batch_nodes}
@@ -27,7 +27,7 @@ use Rattle.trio_desk.specs.Ready.{ArePossible}
 use Rattle.trio_laws.specs.session.DirCalls.{ComesAcross, write_paths}
 use Rattle.trio_laws.proofs.session.DirCalls.{moves_entry, no_room_to_move}
 use Rattle.trio_session.specs.Seen.{IsOpenDir, MadeFile, SessionSeen, clear, empty_shown, fill, in_hand, retitle, spare_numbers, spare_pages}
-use Rattle.trio_edit_laws.specs.Allotting.{HasNumbers, Wanted}
+use Rattle.trio_edit_laws.specs.Allotting.{Wanted}
 use Rattle.trio_edit_laws.specs.Calls.{MayCall}
 use Rattle.trio_edit_laws.proofs.Allotting.{asks_fault, asks_short, told_fault}
 use Rattle.trio_walk.specs.declared.met.Met.{Met}

@@ -1,5 +1,5 @@
 -- Room for one entry more of a directory: the whole.
-use Rattle.std.proofs.Common.{◌≡◌, ◌≢◌, ℕ, ◌+◌, ◌%◌, ◌<◌, ◌≤◌, List, [], length, None, Result, Ok, Err, sym, refl, ap, ◌∙◌, subst, inr, eqb, arith}
+use Rattle.std.proofs.Common.{◌≡◌, ℕ, ◌+◌, ◌%◌, ◌<◌, ◌≤◌, List, [], length, None, Result, Ok, Err, sym, refl, ap, ◌∙◌, subst, inr, eqb, arith}
 use Rattle.std.specs.Prelude.{is_some, map}
 use Rattle.std.specs.List.{find}
 use Rattle.std.proofs.lemmas.Bool.{eqb-true}

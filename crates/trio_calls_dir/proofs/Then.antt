@@ -1,64 +1,51 @@
 -- A try goes on: what was known and given before is added to what comes then.
-use Rattle.std.proofs.Common.{◌≡◌, ℕ, ◌+◌, Bool, true, false, cond, eqb, Option, Some, None, List, [], ◌∷◌, ◌++◌, sym, refl, ap, ◌∙◌, subst, inl, inr, append_assoc, length}
-use Rattle.std.specs.Prelude.{map, take, is_some, slice_set, ◌||◌, not}
-use Rattle.std.specs.List.{filter, list_any}
+use Rattle.std.proofs.Common.{◌≡◌, ℕ, ◌+◌, Bool, true, false, cond, eqb, Option, Some, None, List, [], ◌∷◌, ◌++◌, sym, refl, ap, ◌∙◌, subst, inl, inr, append_assoc}
+use Rattle.std.specs.Prelude.{map, take, ◌||◌}
+use Rattle.std.specs.List.{list_any}
 use Rattle.std.specs.Option.{option_map_or}
 use Rattle.std.proofs.lemmas.List.{append-nil, map-append}
-use Rattle.trio_lists.proofs.Members.{In-cases, map-In}
+use Rattle.trio_lists.proofs.Members.{In-cases}
 use Rattle.trio_lists.specs.Lists.{In}
-use Rattle.trio_auxdir.specs.declared.place.Place.{Place}
-use Rattle.trio_rights.specs.Row.{Row}
 use Rattle.trio_rights.specs.declared.kind.Kind.{Kind}
 use Rattle.trio_rights.specs.declared.kind.Kind.TheVariants.{Directory, Regular}
 use Rattle.trio_rights.specs.declared.rights.Creds.{Creds}
-use Rattle.trio_rights.specs.declared.rights.LibNo.{LibNo}
 use Rattle.trio_rights.specs.declared.rights.Mode.{Mode}
-use Rattle.trio_layout.specs.Body.{block_count}
-use Rattle.trio_layout.specs.Chain.{Chain}
-use Rattle.trio_layout.specs.declared.slot.EntryPart.{EntryPart}
 use Rattle.trio_lease.specs.declared.parts.FreshParts.{FreshParts}
 use Rattle.trio_lease.specs.declared.parts.InoParts.{InoParts}
 use Rattle.trio_lease.specs.Shown.{LentFile}
 use Rattle.trio_lease.specs.declared.lease.Lease.{Lease}
-use Rattle.trio_lease.specs.declared.lease.Lease.TheVariants.{Write as WriteLease, Read as ReadLease, Hold as HoldLease}
+use Rattle.trio_lease.specs.declared.lease.Lease.TheVariants.{Write as WriteLease}
 use Rattle.trio_nodes.specs.declared.call.Call.{Call}
 use Rattle.trio_nodes.specs.declared.call.Call.TheVariants.{Mkdir, Create, Write, Read, Truncate, Unlink, Rmdir, Rename, List as ListNames, Stat, Chmod}
-use Rattle.trio_nodes.specs.declared.call.Done.{Done as DoneCall}
 use Rattle.trio_nodes.specs.declared.call.Reply.TheVariants.{Ok as IsReplied, NotFound, Exists, NotDir, IsDir, NotEmpty, Denied, IntoItself, NoSpace, NoInodes, TooLarge}
 use Rattle.trio_nodes.specs.Nodes.{Nodes}
 use Rattle.trio_nodes.specs.Walk.{Path, name_of}
 use Rattle.trio_nodes.specs.Apply.{applied, is_done}
 use Rattle.trio_nodes.specs.After.{batch_nodes}
-use Rattle.trio_desk.specs.Call.{Ask, DeskSeen, Told, Lent, NotLent, Given, NotGiven, Done, Judged, NotJudged, Settled, NotSettled, ModeSet, NotModeSet}
+use Rattle.trio_desk.specs.Call.{Ask, DeskSeen, Told}
 use Rattle.trio_desk.specs.Calls as desk_calls
 use Rattle.trio_desk.specs.Calls.{Calls}
-use Rattle.trio_desk.specs.Contents.{Rights, Sizes}
 use Rattle.trio_desk.specs.Edits.{TakesMore}
-use Rattle.trio_desk.specs.Ready.{ArePossible}
-use Rattle.trio_session.specs.Asked.{with_allotted, with_lease, IsAlike, IsGiven, allot_asks, took, SameDesk}
-use Rattle.trio_session.specs.Layout.{growth, size_in}
-use Rattle.trio_session.specs.Seen.{MadeFile, Room, SessionSeen, body_in, chain_in, clear, empty_shown, entry_shown, fill, filled_at, grown, in_hand, is_allotted, made_chained, made_file, place_in, place_shown, placed_made, retitle, spare_pages, with_chain, with_made, without_made, number_shown, block_number, renamed}
-use Rattle.trio_session.specs.Layout.{chain_grown, cleared as cleared_slot, retitled}
+use Rattle.trio_session.specs.Asked.{IsAlike, allot_asks, took, SameDesk}
+use Rattle.trio_session.specs.Seen.{Room, SessionSeen, clear, fill, in_hand, retitle}
 use Rattle.trio_walk.specs.Needs.{Needed, asked, asked_beside, serves_need}
-use Rattle.trio_walk.specs.Walks.{InAllShown, InBoth, TookLeases, lent_call, need_of, served_by, with_leases}
+use Rattle.trio_walk.specs.Walks.{InAllShown, TookLeases, need_of, served_by}
 use Rattle.trio_walk.specs.Asks.{AskedBy, grant_ask}
 use Rattle.trio_walk.specs.declared.outcome.Outcome.{Outcome}
 use Rattle.trio_walk.specs.declared.outcome.Outcome.TheVariants.{Replied, Busy, NoMemory}
 use Rattle.trio_calls_dir.specs.Asks.{Target, made_by, numbers_for, edited, filled_new, moved, pages_for, wants_of}
 use Rattle.trio_calls_dir.specs.inner.Goes.{Goes, IsNumber, LeavesHere, Went, asks_from}
 use Rattle.trio_walk.proofs.Stepping.{served_by-took}
-use Rattle.trio_session.proofs.Alike.{alike_then, took_more, took_alike, same_then, same_back, desk_same, alike_edited}
+use Rattle.trio_session.proofs.Alike.{alike_then, took_more, took_alike, same_then, same_back, alike_edited}
 use Rattle.trio_session.specs.Deeds.{as_lent, new_number, moved_shown, new_body, slot_growth, with_slot}
 use Rattle.trio_walk.proofs.Then.{both_then, calls_then, asked_behind, possible_then}
-use Rattle.trio_session.proofs.Others.{fill-other, clear-other, retitle-other, with_slot-other, grown-other}
+use Rattle.trio_session.proofs.Others.{fill-other, clear-other, retitle-other, with_slot-other}
 
 -- ---- another moment of the desk
 
 pub all_then : (desk desk' : DeskSeen) (s s' : SessionSeen) (P : Nodes → Type 0) → SameDesk desk desk' → TakesMore desk' (in_hand s) (in_hand s') → s'.calls ≡ s.calls
     → InAllShown desk s P → InAllShown desk' s' P
 all_then desk desk' s s' P same more calls h = both_then desk desk' s s' (λ nodes now. P now) same more calls h
-
--- ---- what was taken
 
 -- ---- edits go by neither indexes nor room
 

@@ -1,33 +1,22 @@
 -- A try after its walks.
-use Rattle.std.proofs.Common.{◌≡◌, ℕ, false, List, [], ◌∷◌, Option, Some, None, sym, refl, ap, ◌∙◌, subst}
-use Rattle.std.specs.Prelude.{map, is_some, ◌||◌}
-use Rattle.std.specs.Option.{option_map, option_or}
+use Rattle.std.proofs.Common.{◌≡◌, List, [], ◌∷◌, sym, refl, ap, ◌∙◌, subst}
+use Rattle.std.specs.Prelude.{map}
 use Rattle.std.proofs.lemmas.List.{append-nil}
-use Rattle.trio_lists.specs.Lists.{In}
-use Rattle.trio_rights.specs.declared.kind.Kind.{Kind}
-use Rattle.trio_lease.specs.Shown.{Shown}
 use Rattle.trio_lease.specs.declared.lease.Lease.{Lease}
 use Rattle.trio_lease.specs.declared.lease.Lease.TheVariants.{Write as WriteLease, Read as ReadLease, Hold as HoldLease}
-use Rattle.trio_lease.specs.declared.parts.HoldParts.{HoldParts}
-use Rattle.trio_nodes.specs.declared.grant.GrantKind.TheVariants.{Hold as HoldGrant, Read as ReadGrant, Write as ToWrite}
-use Rattle.trio_nodes.specs.declared.call.Done.{Done}
 use Rattle.trio_desk.specs.Call.{Ask, DeskSeen, Told}
 use Rattle.trio_desk.specs.Calls as desk_calls
 use Rattle.trio_desk.specs.Calls.{Calls}
 use Rattle.trio_desk.specs.Edits.{TakesMore}
-use Rattle.trio_desk.specs.Out.{ino_numbers, kind_lent}
-use Rattle.trio_desk.specs.Ready.{ArePossible, ComesToShown}
-use Rattle.trio_laws.proofs.session.ListedPages.{taking_keeps}
 use Rattle.trio_session.specs.Asked.{with_lease, IsAlike, took, SameDesk}
-use Rattle.trio_session.specs.Seen.{IsOn, MadeFile, SessionSeen, held_file, in_hand, made_file, open_kind, read_file, serves, spare_numbers, spare_pages, written_file}
+use Rattle.trio_session.specs.Seen.{SessionSeen, in_hand}
 use Rattle.trio_edit_laws.specs.Calls.{MayCall}
-use Rattle.trio_edit_laws.specs.TakingLaws.{TookMore}
 use Rattle.trio_walk.specs.Walks.{MayWalk, Way, lent_call, with_leases}
 use Rattle.trio_walk.proofs.Possible.{calls_same, possible_before}
 use Rattle.trio_calls_dir.specs.inner.Goes.{Went}
 use Rattle.trio_calls_dir.proofs.Walkable.{lends_may}
-use Rattle.trio_session.proofs.Alike.{alike_back, on_alike, desk_same, same_back, same_then}
-use Rattle.trio_walk.proofs.Then.{given_all, possible_then, took_leases}
+use Rattle.trio_session.proofs.Alike.{alike_back, on_alike}
+use Rattle.trio_walk.proofs.Then.{given_all, took_leases}
 use Rattle.trio_edit_laws.proofs.Alike.{may_alike}
 
 -- ---- what a walk takes

@@ -1,12 +1,10 @@
 -- The calls of the desk that one call on a directory's entries makes, and how it ends: Mkdir, Create, Unlink, Rmdir, Rename and List.
-use Rattle.std.specs.Prelude.{◌≡◌, ◌≤◌, ℕ, ◌+◌, ◌==◌, IsTrue, List, [], ◌∷◌, ◌++◌, map, length, is_some, unwrap_or, Option, None, Some, Ok, if◌then◌else◌}
-use Rattle.std.specs.Option.{option_map, option_map_or, option_or}
+use Rattle.std.specs.Prelude.{◌≡◌, ◌≤◌, ℕ, ◌+◌, ◌==◌, IsTrue, List, [], ◌∷◌, ◌++◌, map, Some, Ok, if◌then◌else◌}
+use Rattle.std.specs.Option.{option_map_or}
 use Rattle.trio_rights.specs.declared.kind.Kind.{Kind}
 use Rattle.trio_rights.specs.declared.kind.Kind.TheVariants.{Directory, Regular}
 use Rattle.trio_rights.specs.declared.rights.Creds.{Creds}
 use Rattle.trio_rights.specs.declared.rights.Mode.{Mode}
-use Rattle.trio_layout.specs.Body.{body_bytes}
-use Rattle.trio_lease.specs.declared.parts.HoldParts.{HoldParts}
 use Rattle.trio_nodes.specs.declared.call.Call.{Call}
 use Rattle.trio_nodes.specs.declared.call.Call.TheVariants.{Mkdir, Create, Unlink, Rmdir, Rename, List as ListNames}
 use Rattle.trio_nodes.specs.declared.call.Reply.TheVariants.{Ok as IsReplied}
@@ -14,8 +12,7 @@ use Rattle.trio_nodes.specs.Nodes.{Nodes, find_named}
 use Rattle.trio_nodes.specs.Walk.{Path, dir_of, name_of, walk, walk_into}
 use Rattle.trio_nodes.specs.Apply.{applied, is_done}
 use Rattle.trio_desk.specs.Call.{Ask, DeskSeen, Told}
-use Rattle.trio_session.specs.Layout.{growth, size_in}
-use Rattle.trio_session.specs.Seen.{MadeFile, SessionSeen, body_in, chain_in, clear, empty_shown, fill, grown, held_file, is_allotted, lowest_from, made_body, made_file, retitle, spare_numbers}
+use Rattle.trio_session.specs.Seen.{SessionSeen, clear, fill, retitle}
 use Rattle.trio_walk.specs.Needs.{asked, dir_needs}
 use Rattle.trio_walk.specs.Walks.{served_by, shows_root}
 use Rattle.trio_walk.specs.Asks.{AskedBy, Called, Tried, grant_ask, noted}

@@ -1,6 +1,6 @@
 //! What a call on a directory is replied.
 
-ghost use Rattle.std.specs.Prelude.{◌≡◌, ◌<◌, IfOk, MatchResult, length};
+ghost use Rattle.std.specs.Prelude.{◌≡◌, ◌<◌, MatchResult, length};
 ghost use Rattle.trio_edit_laws.specs.Calls.{MayCall};
 ghost use Rattle.trio_walk.specs.Walks.{IsStopped, shows_root};
 ghost use Rattle.trio_calls_dir.specs.Asks.{IsEntryCall};

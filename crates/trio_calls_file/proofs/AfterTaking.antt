@@ -1,24 +1,19 @@
 -- A try after its file was taken: what comes then is added to what was given.
-use Rattle.std.proofs.Common.{◌≡◌, ℕ, Bool, true, false, cond, eqb, ltb, List, [], ◌∷◌, ◌++◌, sym, refl, ap, ◌∙◌, subst, inl, inr, append_assoc}
-use Rattle.std.specs.Prelude.{is_some, map, length, slice_set, take}
-use Rattle.std.specs.Option.{option_map_or}
-use Rattle.trio_layout.specs.Body.{block_count}
-use Rattle.trio_layout.specs.Chain.{Chain}
+use Rattle.std.proofs.Common.{◌≡◌, ℕ, Bool, true, false, cond, eqb, List, [], ◌++◌, sym, ap, ◌∙◌, subst, inl, inr, append_assoc}
+use Rattle.std.specs.Prelude.{map, length}
 use Rattle.std.proofs.lemmas.List.{append-nil, map-append}
 use Rattle.trio_lists.proofs.Members.{In-cases}
-use Rattle.trio_lease.specs.declared.lease.Lease.{Lease}
-use Rattle.trio_lease.specs.declared.lease.Lease.TheVariants.{Write as WriteLease, Read as ReadLease, Hold as HoldLease}
 use Rattle.trio_nodes.specs.declared.call.Call.{Call}
 use Rattle.trio_nodes.specs.declared.call.Call.TheVariants.{Mkdir, Create, Write, Read, Truncate, Unlink, Rmdir, Rename, List as ListNames, Stat, Chmod}
 use Rattle.trio_nodes.specs.declared.call.Reply.TheVariants.{Ok as IsReplied, NotFound, Exists, NotDir, IsDir, NotEmpty, Denied, IntoItself, NoSpace, NoInodes, TooLarge}
-use Rattle.trio_desk.specs.Call.{Ask, DeskSeen, Told, Lent, NotLent, Given, NotGiven, Done, Judged, NotJudged, Settled, NotSettled, ModeSet, NotModeSet}
+use Rattle.trio_desk.specs.Call.{Ask, DeskSeen, Told}
 use Rattle.trio_desk.specs.Calls as desk_calls
 use Rattle.trio_desk.specs.Calls.{Calls}
 use Rattle.trio_nodes.specs.Nodes.{Nodes}
 use Rattle.trio_nodes.specs.After.{batch_nodes}
-use Rattle.trio_session.specs.Asked.{with_allotted, with_lease, IsAlike, took, SameDesk}
-use Rattle.trio_session.specs.Layout.{chain_cut, chain_grown, growth, size_in}
-use Rattle.trio_session.specs.Seen.{SessionSeen, body_in, chain_in, cut, grown, made_chained, made_file, place_in, put, spare_pages, with_chain}
+use Rattle.trio_session.specs.Asked.{IsAlike, took}
+use Rattle.trio_session.specs.Layout.{size_in}
+use Rattle.trio_session.specs.Seen.{SessionSeen, body_in, put}
 use Rattle.trio_walk.specs.Walks.{InAllShown}
 use Rattle.trio_walk.specs.declared.outcome.Outcome.{Outcome}
 use Rattle.trio_walk.specs.declared.outcome.Outcome.TheVariants.{Replied, Busy, NoMemory}
@@ -28,9 +23,7 @@ use Rattle.trio_calls_file.specs.inner.Goes.{Goes, LeavesHere, Went}
 use Rattle.trio_session.proofs.Alike.{alike_then, took_more, took_alike, same_then, same_back}
 use Rattle.trio_session.specs.Deeds.{sized}
 use Rattle.trio_walk.proofs.Then.{both_then, possible_then, calls_then, asked_behind}
-use Rattle.trio_session.proofs.Others.{put_alike, sized_alike, with_chain-other, grown-other}
-
--- ---- what was taken
+use Rattle.trio_session.proofs.Others.{put_alike, sized_alike}
 
 -- ---- edits go by neither indexes nor room
 
@@ -73,8 +66,6 @@ leaves_alike call ino x y s' (Replied (NoInodes w f)) e h = alike_then x y s' e 
 leaves_alike call ino x y s' (Replied TooLarge) e h = alike_then x y s' e h
 leaves_alike call ino x y s' (Busy holder) e h = alike_then x y s' e h
 leaves_alike call ino x y s' NoMemory e h = alike_then x y s' e h
-
--- ---- what was asked
 
 -- ---- the whole
 

@@ -1,16 +1,13 @@
--- Sessions that differ in indexes, look-ups and room alone.
-use Rattle.std.proofs.Common.{◌≡◌, ℕ, true, false, cond, eqb, List, ◌+◌, length, max, refl, ap}
+-- A session that is alike has the same files open; and what a write edits, of some bytes and of none.
+use Rattle.std.proofs.Common.{◌≡◌, ℕ, true, false, cond, eqb, List, ◌+◌, length, max, ap}
 use Rattle.trio_nodes.specs.declared.call.Call.TheVariants.{Write as WriteCall}
 use Rattle.trio_nodes.specs.Walk.{Path}
-use Rattle.trio_desk.specs.Call.{DeskSeen}
 use Rattle.trio_session.specs.Layout.{size_in}
 use Rattle.trio_session.specs.Seen.{IsOpen, SessionSeen, body_in, put}
-use Rattle.trio_edit_laws.specs.EditLaws.{AreSpare}
 use Rattle.trio_calls_file.specs.Asks.{edited}
 use Rattle.trio_session.specs.Asked.{IsAlike}
 use Rattle.trio_session.proofs.Alike.{alike_by}
 use Rattle.trio_session.specs.Deeds.{sized}
-use Rattle.trio_edit_laws.proofs.Alike.{edit_but}
 
 -- ---- what a session may
 

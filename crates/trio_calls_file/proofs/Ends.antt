@@ -1,11 +1,10 @@
 -- How a call that writes ends: with its edit and its note, or for want of room.
-use Rattle.std.proofs.Common.{◌≡◌, ℕ, ◌+◌, ◌<◌, ◌≤◌, max, arith, Bool, true, false, cond, eqb, List, [], ◌∷◌, ◌++◌, length, Option, Some, None, Result, Ok, Err, sym, refl, ap, ◌∙◌, subst, inl, inr}
+use Rattle.std.proofs.Common.{◌≡◌, ℕ, ◌+◌, ◌<◌, ◌≤◌, max, arith, Bool, true, false, cond, eqb, List, [], ◌∷◌, ◌++◌, length, Some, None, Result, Ok, Err, sym, refl, ap, ◌∙◌, subst, inl, inr}
 use Rattle.std.specs.Prelude.{map}
 use Rattle.std.specs.Option.{option_map}
 use Rattle.std.proofs.lemmas.Bool.{eqb-true, true≢false}
 use Rattle.std.proofs.lemmas.List.{append-nil}
 use Rattle.trio_rights.specs.declared.kind.Kind.TheVariants.{Regular}
-use Rattle.trio_lists.specs.Lists.{In}
 use Rattle.trio_layout.specs.Body.{block_count}
 use Rattle.trio_lease.specs.declared.parts.InoParts.{InoParts}
 use Rattle.trio_nodes.specs.declared.call.Answer.{Answer}
@@ -19,7 +18,6 @@ use Rattle.trio_nodes.specs.declared.call.Reply.TheVariants.{Ok as IsReplied, No
 use Rattle.trio_nodes.specs.declared.node.Node.{Node}
 use Rattle.trio_nodes.specs.Apply.{applied, is_done, largest_size, put_at, resized, wants_pages}
 use Rattle.trio_nodes.specs.After.{batch_nodes}
-use Rattle.trio_nodes.specs.Legal.{LegalCalls}
 use Rattle.trio_nodes.specs.Nodes.{Nodes, node_at}
 use Rattle.trio_nodes.specs.Walk.{Path, walk}
 use Rattle.trio_desk.specs.Agrees.{HasRights}
@@ -28,12 +26,8 @@ use Rattle.trio_desk.specs.Calls as desk_calls
 use Rattle.trio_desk.specs.Contents.{AreWithinLimits, Rights, rights_in}
 use Rattle.trio_desk.specs.Edits.{DoesCall, MayShow, TakesMore}
 use Rattle.trio_desk.specs.Out.{ino_numbers}
-use Rattle.trio_desk.specs.Ready.{ComesToShown, parcel_case}
-use Rattle.trio_desk.specs.Shows.{Shows}
 use Rattle.trio_laws.specs.session.FileCalls.{answer_of, changed_by, file_path, refusal}
 use Rattle.trio_laws.specs.session.FileEdits.{with_content}
-use Rattle.trio_laws.specs.session.Takes.{Becomes}
-use Rattle.trio_laws.proofs.session.Calls.{batch_more, reply_more}
 use Rattle.trio_laws.proofs.session.FileCalls.{done_by_bytes, refused_for_room}
 use Rattle.trio_laws.proofs.session.LentNodes.{mapped}
 use Rattle.trio_session.specs.Layout.{growth, size_in}

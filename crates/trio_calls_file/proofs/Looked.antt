@@ -1,13 +1,10 @@
 -- A call that looks or is refused, and its note.
-use Rattle.std.proofs.Common.{◌≡◌, ℕ, ◌<◌, false, List, [], ◌∷◌, ◌++◌, length, Result, Ok, Err, sym, refl, ap, ◌∙◌, subst, inl, inr}
-use Rattle.std.specs.Prelude.{◌≢◌, map, MatchResult}
+use Rattle.std.proofs.Common.{◌≡◌, ℕ, ◌<◌, false, List, [], ◌++◌, length, Result, Ok, Err, sym, refl, ap, ◌∙◌, subst, inl, inr}
+use Rattle.std.specs.Prelude.{map, MatchResult}
 use Rattle.std.proofs.lemmas.List.{append-nil}
-use Rattle.trio_lists.specs.Lists.{In}
-use Rattle.trio_lists.proofs.Members.{In-cases}
 use Rattle.trio_nodes.specs.declared.call.Answer.TheVariants.{Bytes}
 use Rattle.trio_nodes.specs.declared.call.Call.{Call}
 use Rattle.trio_nodes.specs.declared.call.Call.TheVariants.{Read}
-use Rattle.trio_nodes.specs.declared.call.Done.{Done}
 use Rattle.trio_nodes.specs.declared.call.Reply.{Reply}
 use Rattle.trio_nodes.specs.declared.call.Reply.TheVariants.{Ok as IsReplied, NotFound, NotDir, IsDir, Denied, TooLarge, Exists, NotEmpty, IntoItself, NoSpace, NoInodes}
 use Rattle.trio_nodes.specs.Nodes.{Nodes}
@@ -16,10 +13,6 @@ use Rattle.trio_nodes.specs.After.{call_nodes}
 use Rattle.trio_desk.specs.Call.{Ask, DeskSeen, Told}
 use Rattle.trio_desk.specs.Calls as desk_calls
 use Rattle.trio_desk.specs.Edits.{DoesCall}
-use Rattle.trio_desk.specs.Out.{ino_numbers}
-use Rattle.trio_desk.specs.Ready.{ComesToShown, parcel_case}
-use Rattle.trio_desk.specs.Shows.{Shows}
-use Rattle.trio_laws.proofs.session.Calls.{batch_more, reply_more}
 use Rattle.trio_session.specs.Seen.{SessionSeen}
 use Rattle.trio_walk.specs.Walks.{InAllShown}
 use Rattle.trio_walk.specs.declared.outcome.Outcome.TheVariants.{Replied, NoMemory}

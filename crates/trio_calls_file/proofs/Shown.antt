@@ -1,21 +1,17 @@
 -- What is known of all nodes that are shown passes to later moments of a try.
-use Rattle.std.proofs.Common.{◌≡◌, ◌⊎◌, Bool, true, eqb, List, [], ◌∷◌, Option, sym, refl, ap, ◌∙◌, subst}
+use Rattle.std.proofs.Common.{◌≡◌, ◌⊎◌, Bool, true, eqb, List, [], ◌∷◌, sym, refl, ap, ◌∙◌, subst}
 use Rattle.std.specs.List.{find}
-use Rattle.trio_rights.specs.Row.{Row}
 use Rattle.trio_rights.specs.declared.rights.Creds.{Creds}
-use Rattle.trio_nodes.specs.declared.call.Done.{Done as CallDone}
 use Rattle.trio_nodes.specs.Nodes.{Nodes}
 use Rattle.trio_nodes.specs.After.{batch_nodes}
 use Rattle.trio_desk.specs.Call.{Ask, DeskSeen, Told, Lent, NotLent, Given, NotGiven, Done, Judged, NotJudged, Settled, NotSettled, ModeSet, NotModeSet}
 use Rattle.trio_desk.specs.Calls as desk_calls
-use Rattle.trio_desk.specs.Edits.{TakesMore}
 use Rattle.trio_desk.specs.Ready.{ArePossible}
 use Rattle.trio_lease.specs.declared.lease.Lease.TheVariants.{Write as WriteLease, Read as ReadLease, Hold as HoldLease}
-use Rattle.trio_session.specs.Asked.{with_allotted, with_lease, IsAlike, took, SameDesk}
-use Rattle.trio_session.specs.Seen.{MadeFile, SessionSeen, in_hand}
+use Rattle.trio_session.specs.Asked.{with_allotted, with_lease, IsAlike, took}
+use Rattle.trio_session.specs.Seen.{MadeFile, SessionSeen}
 use Rattle.trio_walk.specs.declared.met.Met.{Met}
 use Rattle.trio_walk.specs.Walks.{InBoth, IsLive, IsMet, HasMet}
-use Rattle.trio_walk.proofs.Possible.{possible_before}
 use Rattle.std.specs.Prelude.{is_some, map}
 use Rattle.trio_edit_laws.specs.Calls.{MayCall}
 use Rattle.trio_calls_file.specs.inner.Goes.{Went}
@@ -28,8 +24,6 @@ use Rattle.trio_edit_laws.proofs.Alike.{may_alike}
 -- what is shown is shown by a session that is alike
 pub both_alike : (desk : DeskSeen) (s s' : SessionSeen) (P : Nodes → Nodes → Type 0) → IsAlike s s' → InBoth desk s P → InBoth desk s' P
 both_alike desk s s' P e h = subst (λ (x : SessionSeen). InBoth desk x P) (sym e) h
-
--- ---- another moment of the desk
 
 -- ---- files that were made
 

@@ -1,5 +1,5 @@
 -- A try after its walk.
-use Rattle.std.proofs.Common.{◌≡◌, ℕ, ◌+◌, Bool, true, false, cond, eqb, ltb, leb, List, [], ◌∷◌, length, Option, Some, None, sym, refl, ap, ◌∙◌, subst, inl}
+use Rattle.std.proofs.Common.{◌≡◌, ℕ, ◌+◌, Bool, true, false, cond, eqb, ltb, leb, List, [], ◌∷◌, length, Option, Some, None, sym, refl, ap, ◌∙◌, subst}
 use Rattle.std.specs.Prelude.{map, not, is_some, ◌||◌, ◌&&◌}
 use Rattle.std.proofs.Math.Bool.{or-false}
 use Rattle.trio_rights.specs.declared.kind.Kind.{Kind}
@@ -7,7 +7,6 @@ use Rattle.trio_rights.specs.declared.kind.Kind.TheVariants.{Directory, Regular}
 use Rattle.trio_rights.specs.declared.rights.Creds.{Creds}
 use Rattle.trio_rights.specs.declared.rights.Need.TheVariants.{Read as ToRead}
 use Rattle.trio_lists.specs.Lists.{In}
-use Rattle.trio_lists.proofs.Members.{map-In}
 use Rattle.trio_lease.specs.Shown.{Shown, LentFile}
 use Rattle.trio_lease.specs.declared.lease.Lease.{Lease}
 use Rattle.trio_lease.specs.declared.lease.Lease.TheVariants.{Write as WriteLease}
@@ -18,19 +17,17 @@ use Rattle.trio_nodes.specs.declared.grant.GrantKind.TheVariants.{Read as ReadGr
 use Rattle.trio_nodes.specs.Nodes.{Nodes}
 use Rattle.trio_nodes.specs.Walk.{Path, is_directory}
 use Rattle.trio_nodes.specs.Apply.{largest_size}
-use Rattle.trio_desk.specs.Call.{Ask, DeskSeen, Grant, Told}
+use Rattle.trio_desk.specs.Call.{Ask, DeskSeen, Told}
 use Rattle.trio_desk.specs.Calls as desk_calls
 use Rattle.trio_desk.specs.Contents.{rights_of}
-use Rattle.trio_desk.specs.Out.{kind_lent}
 use Rattle.trio_laws.specs.session.FileCalls.{gives}
-use Rattle.trio_session.specs.Asked.{with_lease, IsAlike, IsGiven, took}
+use Rattle.trio_session.specs.Asked.{IsAlike, took}
 use Rattle.trio_session.specs.Seen.{SessionSeen, serves}
 use Rattle.trio_edit_laws.specs.Calls.{MayCall}
 use Rattle.trio_walk.specs.declared.met.Met.{Met}
 use Rattle.trio_walk.specs.declared.met.Rights as shown_rights
-use Rattle.trio_walk.specs.Asks.{grant_ask}
 use Rattle.trio_walk.specs.Needs.{Needed, asked, asked_beside, own_needs}
-use Rattle.trio_walk.specs.Walks.{IsMet, MayWalk, TookLeases, Way, file_of, gives_met, lent_call, need_of, served_by, with_leases}
+use Rattle.trio_walk.specs.Walks.{IsMet, MayWalk, TookLeases, Way, gives_met, lent_call, need_of, served_by, with_leases}
 use Rattle.trio_walk.proofs.Possible.{calls_same, possible_before}
 use Rattle.trio_walk.proofs.Stepping.{served_more}
 use Rattle.trio_calls_file.specs.Asks.{IsFileCall}

@@ -1,7 +1,7 @@
 -- What an edit of a file shows: bytes that are put, and another size.
 use Rattle.std.proofs.Common.{◌≡◌, ℕ, zero, suc, Bool, true, false, cond, ◌+◌, ◌-◌, ◌/◌, ◌≤◌, max, List, [], ◌∷◌, ◌++◌, length, take, drop, replicate, Option, Some, None, sym, refl, ap, ◌∙◌, subst, inl, inr, arith, append_assoc}
-use Rattle.std.specs.Prelude.{is_some, map, nat_lt, slice_index, slice_set}
-use Rattle.std.specs.Option.{option_map, option_map_or}
+use Rattle.std.specs.Prelude.{nat_lt, slice_index}
+use Rattle.std.specs.Option.{option_map}
 use Rattle.std.proofs.lemmas.Bool.{cases_lt, ltb-false, ltb-true}
 use Rattle.std.proofs.lemmas.List.{length-append, length-drop, length-replicate, replicate-append-replicate, take-append-le, take_all, take_at}
 use Rattle.std.proofs.Math.ListN.{drop_of_length-le}
@@ -26,7 +26,7 @@ use Rattle.trio_laws.specs.session.Takes.{Becomes}
 use Rattle.trio_laws.proofs.session.LentNodes.{mapped}
 use Rattle.trio_laws.proofs.session.TakenMore.{becomes_through}
 use Rattle.trio_session.specs.Layout.{Home, InSlot, Leased, blocks_under, body_sized, chain_cut, chain_grown, gap, growth, linked, new_index, numbered, put_block, put_blocks, put_bytes, size_in, unlinked, unnamed, with_block_number, with_body, with_body_at, with_number_in, with_page}
-use Rattle.trio_session.specs.Seen.{IsOpen, SessionSeen, body_in, chain_in, cut, grown, home_in, in_hand, made_chained, made_file, place_in, put, spare_numbers, spare_pages, with_chain}
+use Rattle.trio_session.specs.Seen.{IsOpen, SessionSeen, body_in, chain_in, cut, grown, home_in, in_hand, put, spare_numbers, spare_pages}
 use Rattle.trio_session.proofs.Stays.{fresh_numbers}
 use Rattle.trio_edit_laws.specs.EditLaws.{AreSpare, GetsBytes}
 use Rattle.trio_edit_laws.specs.Written.{MayEdit, bytes_in}

@@ -1,5 +1,5 @@
 -- The calls of the desk that one call of a file makes, and how it ends.
-use Rattle.std.specs.Prelude.{◌≡◌, ◌≤◌, ℕ, ◌+◌, ◌==◌, nat_lt, List, [], ◌++◌, map, length, max, Option, None, Some, Result, Ok, Err, if◌then◌else◌}
+use Rattle.std.specs.Prelude.{◌≡◌, ◌≤◌, ℕ, ◌+◌, ◌==◌, List, [], ◌++◌, map, length, max, Option, None, Some, Result, Ok, Err, if◌then◌else◌}
 use Rattle.trio_rights.specs.declared.rights.Creds.{Creds}
 use Rattle.trio_layout.specs.Body.{block_count}
 use Rattle.trio_nodes.specs.declared.node.Node.{Node}
@@ -12,7 +12,7 @@ use Rattle.trio_nodes.specs.Walk.{walk}
 use Rattle.trio_nodes.specs.Apply.{applied, is_done}
 use Rattle.trio_desk.specs.Call.{Ask, DeskSeen, Told}
 use Rattle.trio_session.specs.Layout.{growth, size_in}
-use Rattle.trio_session.specs.Seen.{SessionSeen, body_in, cut, grown, put}
+use Rattle.trio_session.specs.Seen.{SessionSeen, body_in, put}
 use Rattle.trio_walk.specs.Needs.{asked, file_needs, path_of}
 use Rattle.trio_walk.specs.Walks.{served_by, shows_root}
 use Rattle.trio_walk.specs.Asks.{AskedBy, Called, Tried, grant_ask, noted}

@@ -1,12 +1,12 @@
 //! What is done at the file to which a call comes: checks, grants and edits.
 
-ghost use Rattle.std.specs.Prelude.{◌≡◌, ◌+◌, ◌≤◌, ◌<◌, ◌==◌, IsTrue, MatchResult, None, OnOk, Some, if◌then◌else◌, length, max};
+ghost use Rattle.std.specs.Prelude.{◌≡◌, ◌+◌, ◌≤◌, ◌<◌, ◌==◌, IsTrue, MatchResult, None, Some, if◌then◌else◌, length, max};
 ghost use Rattle.trio_desk.specs.Contents.{AreWithinLimits};
 ghost use Rattle.trio_layout.specs.Body.{block_count};
 ghost use Rattle.trio_nodes.specs.Apply.{largest_size};
 ghost use Rattle.trio_nodes.specs.Walk.{Path as NamePath};
-ghost use Rattle.trio_session.specs.Layout.{growth, size_in};
-ghost use Rattle.trio_session.specs.Seen.{IsOpen, body_in, chain_in, kind_shown, room_in, serves, spare_pages};
+ghost use Rattle.trio_session.specs.Layout.{growth};
+ghost use Rattle.trio_session.specs.Seen.{IsOpen, kind_shown, serves};
 ghost use Rattle.trio_walk.specs.Needs.{path_of};
 ghost use Rattle.trio_edit_laws.specs.Calls.{MayCall};
 ghost use Rattle.trio_walk.specs.Walks.{HasMet};
@@ -15,7 +15,6 @@ ghost use Rattle.trio_calls_file.specs.inner.Goes.{BusyAt, ComesHere, Goes, Unre
 ghost use Rattle.trio_walk.specs.Asks.{IsNotBusy};
 ghost use Rattle.trio_session.specs.Deeds.{IsHad};
 ghost use Rattle.trio_calls_file.specs.inner.Rooms.{MadeRoom};
-ghost use Rattle.trio_session.specs.Deeds.{sized};
 
 use std::alloc::Global;
 use trio_deeds::{allot, block_count, bytes_of, entry_count, growth, places, resize, size_of};

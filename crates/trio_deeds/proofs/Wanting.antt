@@ -1,8 +1,8 @@
 -- An allotment is asked for where any page or number is wanted.
-use Rattle.std.proofs.Common.{◌≡◌, ◌⊎◌, ℕ, Bool, true, false, cond, eqb, List, [], ◌∷◌, refl, ap, ◌∙◌, inl, inr}
+use Rattle.std.proofs.Common.{◌≡◌, ◌⊎◌, ℕ, Bool, true, false, cond, eqb, [], ◌∷◌, refl, ap, ◌∙◌, inl, inr}
 use Rattle.std.specs.Prelude.{◌&&◌}
 use Rattle.std.proofs.lemmas.Bool.{ne_eqb}
-use Rattle.trio_desk.specs.Call.{Allot, Ask}
+use Rattle.trio_desk.specs.Call.{Allot}
 use Rattle.trio_session.specs.Asked.{allot_asks}
 
 pub some_asks : (pages numbers : ℕ) → (pages ≡ 0 → ⊥) ⊎ (numbers ≡ 0 → ⊥) → allot_asks pages numbers ≡ Allot pages numbers ∷ []

@@ -1,5 +1,5 @@
 -- When a directory may get an empty slot, and when a file may move to one, without memory; and what that leaves.
-use Rattle.std.specs.Prelude.{◌≡◌, ◌≢◌, ◌<◌, ◌≤◌, ◌+◌, ◌%◌, ℕ, IsTrue, List, Option, None, Some, is_some, length}
+use Rattle.std.specs.Prelude.{◌≡◌, ◌≢◌, ◌<◌, ◌≤◌, ◌+◌, ◌%◌, ℕ, IsTrue, List, None, Some, is_some, length}
 use Rattle.std.specs.Option.{option_map_or}
 use Rattle.trio_lists.specs.Lists.{In}
 use Rattle.trio_rights.specs.declared.kind.Kind.{Kind}

@@ -1,5 +1,5 @@
 -- Pages and numbers that are wanted: what comes of it, and what an allotment leaves as it was.
-use Rattle.std.proofs.Common.{◌≡◌, ℕ, ◌<◌, Bool, true, false, cond, eqb, List, [], ◌∷◌, ◌++◌, length, ◌+◌, Option, Some, None, Result, Ok, Err, sym, refl, ap, ◌∙◌, subst, inl, inr, ◌⊎◌}
+use Rattle.std.proofs.Common.{◌≡◌, ℕ, true, false, cond, eqb, List, [], ◌∷◌, ◌++◌, length, ◌+◌, Option, Some, None, Result, Ok, Err, sym, refl, ap, ◌∙◌, subst, inl, inr}
 use Rattle.std.specs.Prelude.{is_some, map, not, slice_get, slice_index_or}
 use Rattle.std.specs.List.{find, flat_map, position}
 use Rattle.std.specs.Option.{option_and_then, option_map, option_map_or, option_or}

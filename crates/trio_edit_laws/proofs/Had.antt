@@ -1,13 +1,12 @@
 -- A file that is taken is had: its body, and as many whole blocks as its size says.
-use Rattle.std.proofs.Common.{◌≡◌, ℕ, ◌≤◌, true, cond, eqb, List, [], length, map, Option, Some, None, sym, refl, ap, ◌∙◌, subst, arith}
+use Rattle.std.proofs.Common.{◌≡◌, ℕ, ◌≤◌, true, eqb, List, [], length, map, Option, Some, None, sym, refl, ap, ◌∙◌, subst, arith}
 use Rattle.std.specs.Prelude.{is_some, unwrap_or, ◌||◌, ◌&&◌, nat_le}
-use Rattle.std.specs.Option.{option_map, option_map_or, option_or}
+use Rattle.std.specs.Option.{option_map_or}
 use Rattle.std.specs.Str.{bytes_eq}
 use Rattle.std.proofs.lemmas.Bool.{and_parts, false≢true, leb-true}
 use Rattle.std.proofs.lemmas.Option.{cond_some}
 use Rattle.std.proofs.lemmas.List.{length-map}
 use Rattle.trio_rights.specs.declared.kind.Kind.{Kind}
-use Rattle.trio_rights.specs.declared.kind.Kind.TheVariants.{Regular}
 use Rattle.trio_lists.specs.Lists.{In}
 use Rattle.trio_lists.proofs.Filters.{find-In}
 use Rattle.trio_lists.proofs.Members.{In-right, map-In}
@@ -26,8 +25,7 @@ use Rattle.trio_desk.specs.Contents.{AreWithinLimits, Sizes}
 use Rattle.trio_desk.specs.Out.{IsWellLent, lent_core, lent_numbers}
 use Rattle.trio_laws.proofs.history.Blocks.{chain_long}
 use Rattle.trio_session.specs.Layout.{page_in, size_in}
-use Rattle.trio_lease.specs.declared.parts.HoldParts.{HoldParts}
-use Rattle.trio_session.specs.Seen.{IsOpen, SessionSeen, body_in, body_shown, chain_in, dir_pages, held_file, kind_shown, open_kind, read_file, serves, pages_shown}
+use Rattle.trio_session.specs.Seen.{SessionSeen, body_in, body_shown, chain_in, dir_pages, open_kind, read_file, serves, pages_shown}
 use Rattle.trio_edit_laws.proofs.OpenChain.{open_chain}
 use Rattle.trio_edit_laws.specs.Written.{MayEdit}
 use Rattle.trio_session.specs.Deeds.{IsHad, body_had}

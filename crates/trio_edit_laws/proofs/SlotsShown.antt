@@ -1,6 +1,6 @@
 -- What an edit of one open file leaves of all others, and of what directories show.
-use Rattle.std.proofs.Common.{◌≡◌, ◌≢◌, ℕ, ◌<◌, eqb, Bool, List, [], ◌∷◌, ◌++◌, Option, Some, None, sym, refl, ap, ◌∙◌, subst, inl, inr}
-use Rattle.std.specs.Prelude.{is_some, map, not, slice_get, if◌then◌else◌}
+use Rattle.std.proofs.Common.{◌≡◌, ◌≢◌, ℕ, ◌<◌, eqb, List, [], ◌∷◌, ◌++◌, Option, Some, None, sym, refl, ap, ◌∙◌, subst, inl, inr}
+use Rattle.std.specs.Prelude.{map, not, slice_get, if◌then◌else◌}
 use Rattle.std.specs.List.{filter, find}
 use Rattle.std.specs.Option.{option_and_then, option_map, option_map_or}
 use Rattle.trio_rights.specs.declared.kind.Kind.{Kind}
@@ -19,7 +19,7 @@ use Rattle.trio_auxdir.specs.Slots.{name_in, slot_on, slots_of, slots_on}
 use Rattle.trio_auxdir.proofs.PageSlots.{tabulated-same_below}
 use Rattle.trio_desk.specs.Call.{DeskSeen}
 use Rattle.trio_session.specs.Layout.{page_in}
-use Rattle.trio_session.specs.Seen.{SessionSeen, block_shown, chain_in, dir_pages, entry_in, entry_shown, every_number, open_kind, pages_shown, read_file, slots_shown, spare_numbers, used_numbers}
+use Rattle.trio_session.specs.Seen.{SessionSeen, chain_in, dir_pages, entry_in, entry_shown, every_number, open_kind, slots_shown, spare_numbers, used_numbers}
 use Rattle.trio_session.proofs.Lists.{slice_get-In}
 use Rattle.trio_session.proofs.Shows.{block_shown-open, block_shown-read, pages_shown-open, pages_shown-read}
 use Rattle.trio_edit_laws.specs.Written.{MayEdit}

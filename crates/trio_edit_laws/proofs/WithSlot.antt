@@ -1,15 +1,14 @@
 -- A directory that has no empty slot grows by a block of them.
-use Rattle.std.proofs.Common.{◌≡◌, ℕ, suc, ◌+◌, ◌/◌, ◌%◌, ◌<◌, ◌≤◌, Bool, true, false, cond, eqb, List, [], ◌∷◌, ◌++◌, length, drop, replicate, Option, Some, None, sym, refl, ap, ◌∙◌, subst, inl, inr, arith}
-use Rattle.std.specs.Prelude.{is_none, is_some, map, slice_set}
+use Rattle.std.proofs.Common.{◌≡◌, ℕ, suc, ◌+◌, ◌/◌, ◌%◌, ◌<◌, ◌≤◌, true, cond, eqb, List, [], ◌∷◌, ◌++◌, length, drop, replicate, Option, Some, None, sym, refl, ap, ◌∙◌, subst, inl, inr, arith}
+use Rattle.std.specs.Prelude.{is_none, is_some, map}
 use Rattle.std.specs.List.{find}
-use Rattle.std.specs.Option.{option_map, option_map_or, option_or}
+use Rattle.std.specs.Option.{option_map, option_or}
 use Rattle.std.proofs.lemmas.Bool.{cases_eq, eq-eqb}
 use Rattle.std.proofs.lemmas.List.{length-drop, length-map}
 use Rattle.std.proofs.Math.ListN.{drop_of_length-le}
 use Rattle.trio_lists.specs.Lists.{In}
 use Rattle.trio_rights.specs.declared.kind.Kind.TheVariants.{Directory}
 use Rattle.trio_layout.specs.Body.{block_count}
-use Rattle.trio_layout.specs.Chain.{Chain}
 use Rattle.trio_layout.specs.declared.slot.EntryPart.{EntryPart}
 use Rattle.trio_lease.specs.Shown.{LentFile, Shown}
 use Rattle.trio_lease.specs.declared.parts.InoParts.{InoParts}
@@ -25,7 +24,7 @@ use Rattle.trio_desk.specs.Out.{ino_numbers, page_numbers}
 use Rattle.trio_desk.specs.Ready.{ComesToShown}
 use Rattle.trio_laws.proofs.session.ListedPages.{taking_keeps}
 use Rattle.trio_session.specs.Layout.{growth, page_in, size_in}
-use Rattle.trio_session.specs.Seen.{IsOpenDir, MadeFile, SessionSeen, body_in, chain_in, empty_shown, entry_shown, every_number, grown, in_hand, kind_shown, made_chained, made_file, place_in, place_of, place_shown, read_file, slots_shown, spare_numbers, spare_pages, with_chain}
+use Rattle.trio_session.specs.Seen.{IsOpenDir, MadeFile, SessionSeen, body_in, chain_in, empty_shown, entry_shown, every_number, grown, in_hand, kind_shown, made_file, place_of, place_shown, read_file, slots_shown, spare_numbers, spare_pages}
 use Rattle.trio_edit_laws.specs.EditLaws.{AreSpare, GetsSlots}
 use Rattle.trio_edit_laws.proofs.Growing.{edit_grown}
 use Rattle.trio_edit_laws.proofs.Keeps.{IsEdit}

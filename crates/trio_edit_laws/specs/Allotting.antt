@@ -1,5 +1,5 @@
 -- What a session is after an allotment that it wants in the course of a call: what is spare then, and what stays.
-use Rattle.std.specs.Prelude.{◌≡◌, ◌⊎◌, ℕ, List, [], ◌∷◌, ◌++◌, map, length, Option, None, Some, Result, Ok, Err}
+use Rattle.std.specs.Prelude.{◌≡◌, ◌⊎◌, ℕ, List, [], ◌∷◌, ◌++◌, map, length, None, Some, Result, Ok, Err}
 use Rattle.trio_lists.specs.Lists.{In}
 use Rattle.trio_rights.specs.declared.kind.Kind.{Kind}
 use Rattle.trio_auxdir.specs.declared.place.Place.{Place}

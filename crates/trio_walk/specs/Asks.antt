@@ -1,8 +1,7 @@
 -- The calls of the desk that one call of an honest library makes, and how it ends: what calls on files and on directories have in common.
-use Rattle.std.specs.Prelude.{◌≡◌, ◌≢◌, ◌⊎◌, ℕ, ◌==◌, ◌&&◌, List, [], ◌∷◌, ◌++◌, map, Option, if◌then◌else◌}
+use Rattle.std.specs.Prelude.{◌≡◌, ◌≢◌, ◌⊎◌, ℕ, List, [], ◌∷◌, ◌++◌, map, Option}
 use Rattle.trio_rights.specs.Row.{Row}
 use Rattle.trio_lists.specs.Lists.{In}
-use Rattle.trio_lease.specs.declared.lease.Lease.{Lease}
 use Rattle.trio_nodes.specs.declared.grant.Holder.{Holder}
 use Rattle.trio_nodes.specs.declared.grant.GrantKind.{GrantKind}
 use Rattle.trio_nodes.specs.declared.answers.GrantFault.TheVariants.{Busy as BusyGrant, Denied as DeniedGrant, NoMemory as NoGrantMemory}
@@ -12,11 +11,11 @@ use Rattle.trio_nodes.specs.declared.call.Reply as reply
 use Rattle.trio_nodes.specs.declared.call.Reply.TheVariants.{Denied, NoInodes, NoSpace}
 use Rattle.trio_nodes.specs.Nodes.{Nodes}
 use Rattle.trio_nodes.specs.After.{batch_nodes}
-use Rattle.trio_desk.specs.Call.{Ask, Allot, DeskSeen, Grant, Settle, Told, Lent, NotLent, Given, NotGiven, Settled, NotSettled}
+use Rattle.trio_desk.specs.Call.{Ask, Allot, DeskSeen, Grant, Settle, Told, NotLent, NotGiven, Settled, NotSettled}
 use Rattle.trio_desk.specs.Calls.{Calls}
 use Rattle.trio_desk.specs.Calls as desk_calls
 use Rattle.trio_desk.specs.Ready.{ArePossible}
-use Rattle.trio_session.specs.Asked.{with_allotted, with_lease, took, IsGiven}
+use Rattle.trio_session.specs.Asked.{took, IsGiven}
 use Rattle.trio_session.specs.Seen.{SessionSeen, emptied}
 use Rattle.trio_walk.specs.Needs.{Needed}
 use Rattle.trio_walk.specs.declared.outcome.Outcome.{Outcome}

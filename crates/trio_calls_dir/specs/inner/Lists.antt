@@ -1,13 +1,10 @@
 -- Words of a list of names: of the file to which its walk comes, and of a directory that the session has.
-use Rattle.std.specs.Prelude.{◌≡◌, ◌≤◌, ℕ, Bool, false, not, is_some, List, [], ◌∷◌, map, length, slice_get, take, drop, Option, Some, None, Ok, if◌then◌else◌}
+use Rattle.std.specs.Prelude.{◌≡◌, ℕ, Bool, false, not, is_some, List, [], ◌∷◌, length, take, drop, Option, Some, None, Ok, if◌then◌else◌}
 use Rattle.std.specs.Option.{option_map_or}
 use Rattle.trio_rights.specs.Row.{Row}
-use Rattle.trio_rights.specs.declared.kind.Kind.{Kind}
 use Rattle.trio_rights.specs.declared.kind.Kind.TheVariants.{Directory}
 use Rattle.trio_rights.specs.declared.rights.Creds.{Creds}
 use Rattle.trio_rights.specs.declared.rights.Need.TheVariants.{Read as ToRead}
-use Rattle.trio_layout.specs.Body.{block_count}
-use Rattle.trio_layout.specs.declared.slot.EntryPart.{EntryPart}
 use Rattle.trio_nodes.specs.declared.call.Answer.TheVariants.{Names}
 use Rattle.trio_nodes.specs.declared.call.Reply.{Reply}
 use Rattle.trio_nodes.specs.declared.call.Reply.TheVariants.{Ok as IsReplied, Denied, NotDir}
@@ -18,14 +15,13 @@ use Rattle.trio_desk.specs.Call.{DeskSeen}
 use Rattle.trio_desk.specs.Contents.{rights_in}
 use Rattle.trio_desk.specs.Ready.{ArePossible}
 use Rattle.trio_laws.specs.session.FileCalls.{gives}
-use Rattle.trio_session.specs.Layout.{size_in}
-use Rattle.trio_session.specs.Seen.{SessionSeen, block_shown, body_shown, pages_shown}
+use Rattle.trio_session.specs.Seen.{SessionSeen, body_shown}
 use Rattle.trio_walk.specs.declared.met.Met.{Met}
 use Rattle.trio_walk.specs.declared.outcome.Outcome.{Outcome}
 use Rattle.trio_walk.specs.declared.outcome.Outcome.TheVariants.{Busy}
 use Rattle.trio_walk.specs.Needs.{Needed}
 use Rattle.trio_walk.specs.Walks.{InAllShown, IsOwnBusy, gives_met}
-use Rattle.trio_session.specs.Deeds.{names_here, slots_of_page}
+use Rattle.trio_session.specs.Deeds.{names_here}
 
 -- ---- the file that was met
 

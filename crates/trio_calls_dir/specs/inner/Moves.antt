@@ -1,12 +1,8 @@
 -- Words of a rename: its stages, and what keeps its grants off.
-use Rattle.std.specs.Prelude.{◌≡◌, ◌≢◌, ◌<◌, ◌%◌, ℕ, Bool, IsTrue, List, [], ◌∷◌, ◌++◌, Option, Some, None, Ok, is_some, length}
-use Rattle.std.specs.Option.{option_map_or}
+use Rattle.std.specs.Prelude.{◌≡◌, ◌≢◌, ℕ, Bool, List, [], ◌∷◌, ◌++◌, Option, Some, None, Ok}
 use Rattle.trio_lists.specs.Lists.{In}
 use Rattle.trio_names.specs.Name.{IsName}
-use Rattle.trio_layout.specs.Body.{block_count}
 use Rattle.trio_rights.specs.Row.{Row}
-use Rattle.trio_rights.specs.declared.kind.Kind.{Kind}
-use Rattle.trio_rights.specs.declared.kind.Kind.TheVariants.{Directory}
 use Rattle.trio_rights.specs.declared.rights.Creds.{Creds}
 use Rattle.trio_nodes.specs.declared.grant.GrantKind.{GrantKind}
 use Rattle.trio_nodes.specs.declared.call.Call.{Call}
@@ -17,16 +13,13 @@ use Rattle.trio_nodes.specs.After.{batch_nodes}
 use Rattle.trio_desk.specs.Call.{DeskSeen}
 use Rattle.trio_desk.specs.Ready.{ArePossible}
 use Rattle.trio_laws.specs.session.DirCalls.{ComesAcross, early_refusal}
-use Rattle.trio_session.specs.Layout.{size_in}
-use Rattle.trio_session.specs.Seen.{IsOpenDir, MadeFile, SessionSeen, clear, cleared_file, empty_shown, fill, grant_in, is_allotted, kept_chain, place_shown}
+use Rattle.trio_session.specs.Seen.{IsOpenDir, SessionSeen, place_shown}
 use Rattle.trio_edit_laws.specs.Calls.{MayCall}
 use Rattle.trio_walk.specs.declared.met.Met.{Met}
 use Rattle.trio_walk.specs.declared.outcome.Outcome.{Outcome}
 use Rattle.trio_walk.specs.declared.outcome.Outcome.TheVariants.{Busy}
 use Rattle.trio_walk.specs.Needs.{Needed, into_needs, reached_by, moving_needs}
 use Rattle.trio_walk.specs.Walks.{FindsEntry, HasMet, InAllShown, IsOwnBusy, MayLookIn}
-use Rattle.trio_session.specs.Asked.{IsAlike}
-use Rattle.trio_session.specs.Deeds.{moved_shown}
 
 -- ---- what is needed
 

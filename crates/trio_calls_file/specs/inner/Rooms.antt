@@ -1,5 +1,5 @@
 -- Words of the room that is made for an edit of a file: places that take no memory then, and pages.
-use Rattle.std.specs.Prelude.{◌≡◌, ◌≢◌, ◌<◌, ◌≤◌, ℕ, List, map, length, Result, Err}
+use Rattle.std.specs.Prelude.{◌≢◌, ◌<◌, ◌≤◌, ℕ, List, map, length, Result, Err}
 use Rattle.trio_layout.specs.Body.{block_count}
 use Rattle.trio_nodes.specs.declared.answers.AllotFault.{AllotFault}
 use Rattle.trio_nodes.specs.declared.answers.AllotFault.TheVariants.{NoMemory}
