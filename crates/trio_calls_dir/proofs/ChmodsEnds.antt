@@ -18,11 +18,11 @@ use Rattle.trio_nodes.specs.declared.call.Reply.TheVariants.{Ok as IsReplied}
 use Rattle.trio_desk.specs.Call.{Ask, DeskSeen, SeenAfter, SetMode, Settle, Told, ModeSet, NotModeSet, NotSettled, Settled, call_back}
 use Rattle.trio_desk.specs.Calls.{OneCall, Made, NotMade}
 use Rattle.trio_desk.specs.Out.{Parcel, files_out, hold_numbers, without_reads}
-use Rattle.trio_session.specs.Asked.{AfterMode, AfterSettle, TellsMode}
+use Rattle.trio_session.specs.Asked.{AfterMode, AfterSettle, TellsMode, IsAlike, SameDesk}
 use Rattle.trio_session.specs.Seen.{HasReadsAlone, IsOn, Room, SessionSeen, emptied}
 use Rattle.trio_edit_laws.specs.Calls.{MayCall}
 use Rattle.trio_walk.specs.Walks.{InAllShown}
-use Rattle.trio_walk.specs.Asks.{IsAlike, noted}
+use Rattle.trio_walk.specs.Asks.{noted}
 use Rattle.trio_walk.specs.declared.outcome.Outcome.{Outcome}
 use Rattle.trio_walk.specs.declared.outcome.Outcome.TheVariants.{Replied}
 use Rattle.trio_calls_dir.specs.declared.chmods.ChmodTry.{ChmodTry}
@@ -31,12 +31,12 @@ use Rattle.trio_walk.specs.declared.attempts.TryEnd.TheVariants.{NoMemory as Lac
 use Rattle.trio_calls_dir.specs.Chmods.{EndsHandedIn, EndsModed, LeavesBy, NamesOther, hand_in_ask, mode_ask}
 use Rattle.trio_calls_dir.specs.inner.Chmods.{ComesBack, IsRetold, IsUnset, RefusesSo}
 use Rattle.trio_calls_dir.specs.inner.Goes.{IsRefusedAs}
-use Rattle.trio_walk.specs.Tries.{SameDesk, try_end}
-use Rattle.trio_calls_dir.proofs.Alike.{may_alike}
+use Rattle.trio_walk.specs.Tries.{try_end}
 use Rattle.trio_calls_dir.proofs.Ends.{may_looked}
-use Rattle.trio_calls_dir.proofs.Given.{may_now}
+use Rattle.trio_edit_laws.proofs.Called.{may_same}
 use Rattle.trio_edit_laws.proofs.Called.{may_after, may_settled, settle_may}
 use Rattle.trio_walk.proofs.Retrying.{settled, unsettled}
+use Rattle.trio_edit_laws.proofs.Alike.{may_alike}
 
 -- a session that is empty but for its look-ups and room
 emptied_by : (s s' : SessionSeen) → s' ≡ record (emptied s) { room = s'.room } → s' ≡ record (emptied s) { finds = s'.finds; room = s'.room }
@@ -163,7 +163,7 @@ module _ {D : Type 0} (called : D → Ask → Told → D → Type 0) (seen : D �
 
     pub set_refused_may : MayCall (seen d) s → IsOn (seen d') s' → MayCall (seen d') s'
     set_refused_may may on =
-        subst (λ (q : SessionSeen). MayCall (seen d') q) (sym refused.1.same) (may_now (seen d) (seen d') s set_same may (subst (λ (q : SessionSeen). IsOn (seen d') q) refused.1.same on))
+        subst (λ (q : SessionSeen). MayCall (seen d') q) (sym refused.1.same) (may_same (seen d) (seen d') s set_same may (subst (λ (q : SessionSeen). IsOn (seen d') q) refused.1.same on))
 
 -- ---- a refusal
 

@@ -23,13 +23,13 @@ use Rattle.trio_walk.specs.declared.walks.WalkEnd.{WalkEnd}
 use Rattle.trio_walk.specs.declared.walks.WalkEnd.TheVariants.{At, Reply as IsReply, Busy, NoMemory}
 use Rattle.trio_walk.specs.Needs.{Needed, asked, into_needs, chmod_needs}
 use Rattle.trio_walk.specs.Walks.{AreAsked, EndsBy, InAllShown, IsMet, IsMetIn, IsStopped, LooksUp, MayWalk, RightsAre, Walked, WalksInto, WalksTo, Way, need_of, served_by, shows_root}
-use Rattle.trio_walk.specs.Asks.{IsAlike}
-use Rattle.trio_walk.proofs.Possible.{same_seen}
 use Rattle.trio_edit_laws.specs.Calls.{MayCall}
-use Rattle.trio_calls_dir.proofs.Alike.{may_alike}
 use Rattle.trio_calls_dir.proofs.Walked.{way_may}
 use Rattle.trio_calls_dir.specs.Chmods.{ComesSo}
 use Rattle.trio_calls_dir.specs.inner.Chmods.{Finds, comes_of, owner_met}
+use Rattle.trio_session.specs.Asked.{IsAlike}
+use Rattle.trio_walk.proofs.Possible.{same_seen}
+use Rattle.trio_edit_laws.proofs.Alike.{may_alike}
 
 -- ---- the tree's own call
 

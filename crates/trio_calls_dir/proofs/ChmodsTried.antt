@@ -32,23 +32,24 @@ use Rattle.trio_walk.specs.declared.walks.WalkEnd.{WalkEnd}
 use Rattle.trio_walk.specs.declared.walks.WalkEnd.TheVariants.{At, Reply as IsReply, Busy as IsBusyWalk, NoMemory as NoWalkMemory}
 use Rattle.trio_walk.specs.Needs.{Needed, asked, chmod_needs}
 use Rattle.trio_walk.specs.Walks.{AreAsked, EndsBy, InAllShown, MayWalk, Walked, lent_call, need_of, served_by, shows_root}
-use Rattle.trio_walk.specs.Asks.{IsAlike, TryEnds, grant_ask}
+use Rattle.trio_walk.specs.Asks.{TryEnds, grant_ask}
 use Rattle.trio_walk.specs.declared.outcome.Outcome.{Outcome}
 use Rattle.trio_walk.specs.declared.outcome.Outcome.TheVariants.{Replied, Busy, NoMemory}
 use Rattle.trio_walk.proofs.Possible.{lib_same, moment_possible}
 use Rattle.trio_calls_dir.specs.Chmods.{AsksSo, BreaksOff, ChmodTried, Comes, ComesSo, EndsAs, EndsDenied, EndsHandedIn, EndsModed, HandsIn, LeavesBy, NamesOther, SetsMode, TriedSo, hand_in_ask, lent_to, mode_ask}
 use Rattle.trio_calls_dir.specs.inner.Chmods.{Finds, IsRetold, RefusesSo, TriesCall, comes_of}
 use Rattle.trio_calls_dir.specs.inner.Goes.{IsRefusal, IsRefusedAs}
-use Rattle.trio_walk.specs.Tries.{HasNothing, OthersHold, SameDesk, try_end}
+use Rattle.trio_walk.specs.Tries.{HasNothing, OthersHold, try_end}
 use Rattle.trio_calls_dir.specs.declared.chmods.ChmodTry.{ChmodTry}
 use Rattle.trio_walk.specs.declared.attempts.TryEnd.{TryEnd}
 use Rattle.trio_walk.specs.declared.attempts.TryEnd.TheVariants.{NoMemory as NoMemoryTry}
-use Rattle.trio_calls_dir.proofs.Alike.{alike_then}
 use Rattle.trio_calls_dir.proofs.Ends.{same_asks}
 use Rattle.trio_calls_dir.proofs.Others.{nothing_own}
-use Rattle.trio_calls_dir.proofs.Then.{asks_lent, calls_then, given_all, possible_then}
 use Rattle.trio_calls_dir.proofs.Walked.{way_alike}
 use Rattle.trio_calls_dir.proofs.ChmodsFaults.{comes_live, comes_owned}
+use Rattle.trio_session.specs.Asked.{IsAlike, SameDesk}
+use Rattle.trio_session.proofs.Alike.{alike_then}
+use Rattle.trio_walk.proofs.Then.{asks_lent, calls_then, given_all, possible_then}
 
 -- ---- the session
 

@@ -1,10 +1,11 @@
 -- How a try ends by a refusal, or by a walk that comes to no file.
-use Rattle.std.proofs.Common.{◌≡◌, ◌<◌, true, false, cond, List, [], ◌∷◌, ◌++◌, length, Option, Result, Ok, Err, sym, refl, ap, ◌∙◌, subst, inl, inr, append_assoc}
+use Rattle.std.proofs.Common.{◌≡◌, ◌<◌, true, false, cond, List, [], ◌++◌, length, Option, Result, Ok, Err, sym, refl, ap, ◌∙◌, subst, inl, inr, append_assoc}
 use Rattle.std.specs.Prelude.{map, MatchResult}
 use Rattle.std.proofs.lemmas.List.{append-nil, map-append}
-use Rattle.trio_lists.proofs.Members.{In-cases}
 use Rattle.trio_rights.specs.Row.{Row}
 use Rattle.trio_rights.specs.declared.rights.Creds.{Creds}
+use Rattle.trio_nodes.specs.declared.answers.AllotFault.{AllotFault}
+use Rattle.trio_nodes.specs.declared.answers.AllotFault.TheVariants.{NoInodes as NoFreeInodes, NoPages, NoMemory as NoAllotMemory}
 use Rattle.trio_nodes.specs.declared.answers.GrantFault.TheVariants.{Denied as DeniedGrant, NoMemory as NoGrantMemory}
 use Rattle.trio_nodes.specs.declared.call.Call.{Call}
 use Rattle.trio_nodes.specs.declared.call.Done.{Done}
@@ -15,76 +16,42 @@ use Rattle.trio_nodes.specs.Apply.{Apply, applied, is_done}
 use Rattle.trio_nodes.specs.After.{batch_nodes, call_nodes}
 use Rattle.trio_desk.specs.Call.{Ask, DeskSeen, Grant, Told, NotLent}
 use Rattle.trio_desk.specs.Calls as desk_calls
-use Rattle.trio_desk.specs.Ready.{ArePossible, parcel_case}
-use Rattle.trio_desk.specs.Shows.{Shows}
-use Rattle.trio_laws.proofs.session.Calls.{batch_more, reply_more}
+use Rattle.trio_desk.specs.Ready.{ArePossible}
 use Rattle.trio_session.specs.Seen.{SessionSeen}
 use Rattle.trio_edit_laws.specs.Calls.{MayCall}
-use Rattle.trio_edit_laws.specs.Written.{MayEdit}
 use Rattle.trio_walk.specs.declared.walks.WalkEnd.{WalkEnd}
 use Rattle.trio_walk.specs.declared.walks.WalkEnd.TheVariants.{At, Reply as IsReply, Busy as IsBusyWalk, NoMemory as NoWalkMemory}
 use Rattle.trio_walk.specs.Needs.{Needed, asked, asked_beside}
 use Rattle.trio_walk.specs.Walks.{AreAsked, EndsBy, InAllShown, IsStopped, MayWalk, Walked, lent_call, need_of, served_by}
-use Rattle.trio_walk.specs.Asks.{AskedBy, IsAlike, TryEnds, allot_asks, grant_ask, noted, took}
+use Rattle.trio_walk.specs.Asks.{AskedBy, IsNotBusy, TryEnds, grant_ask, noted}
+use Rattle.trio_walk.specs.Tries.{allot_reply}
 use Rattle.trio_walk.specs.declared.outcome.Outcome.{Outcome}
 use Rattle.trio_walk.specs.declared.outcome.Outcome.TheVariants.{Busy, NoMemory, Replied}
 use Rattle.trio_calls_dir.specs.declared.replies.Replied as replied
 use Rattle.trio_walk.specs.declared.outcome.Stop.{Stop}
 use Rattle.trio_walk.specs.declared.outcome.Stop.TheVariants.{NoMemory as LacksMemory}
-use Rattle.trio_calls_dir.specs.Asks.{ComesBy, Target, as_lent, numbers_for, pages_for, wants_of}
-use Rattle.trio_calls_dir.specs.inner.Goes.{AfterTry, Goes, IsNames, IsNumber, IsOfDir, IsRefusal, IsRefusedAs, LeavesHere, StopsBy, asks_from, number_made, try_ends}
-use Rattle.trio_calls_dir.proofs.Alike.{alike_room, alike_then, may_alike}
-use Rattle.trio_calls_dir.proofs.Then.{asked_append, asks_lent, given_all}
+use Rattle.trio_calls_dir.specs.Asks.{ComesBy, Target, numbers_for, pages_for, wants_of}
+use Rattle.trio_calls_dir.specs.inner.Goes.{AfterTry, Goes, IsNames, IsNumber, IsOfDir, IsRefusal, IsRefusedAs, LeavesHere, StopsBy, asks_from, number_made, try_ends, without_file}
+use Rattle.trio_calls_dir.proofs.Then.{asked_append}
 use Rattle.trio_calls_dir.proofs.Walked.{way_alike, way_calls, way_may, way_more, way_same}
+use Rattle.trio_session.specs.Asked.{IsAlike, allot_asks, took}
+use Rattle.trio_session.proofs.Alike.{alike_room, alike_then}
+use Rattle.trio_session.specs.Deeds.{as_lent}
+use Rattle.trio_walk.proofs.Then.{asks_lent, given_all}
+use Rattle.trio_edit_laws.proofs.Alike.{may_alike}
+use Rattle.trio_edit_laws.proofs.Noting.{may_looked as note_look}
 
 -- ---- the note
 
--- calls that are noted change nothing of what is in hand
-pub edit_called : (desk : DeskSeen) (s : SessionSeen) (calls : List Done) → MayEdit desk s → MayEdit desk (record s { calls = calls })
-edit_called desk s calls m = record {
-  on = record { lib = m.on.lib; creds = m.on.creds; out = m.on.out; writes = m.on.writes; reads = m.on.reads; core = m.on.core };
-  all = m.all;
-  given = m.given;
-  order = m.order;
-  shows = m.shows;
-  alone = m.alone;
-  beside = m.beside;
-  chains = λ ino kind o. (let c = m.chains ino kind o in record { body = c.body; is = c.is; count = c.count; head = c.head; named = c.named });
-  own = m.own;
-  once = m.once;
-  placed = m.placed;
-  made = (let a = m.made in record {
-    numbers = a.numbers;
-    once = a.once;
-    gone = a.gone;
-    apart = λ k i. (let z = a.apart k i in record { written = z.written; held = z.held; read = z.read });
-    slots = λ k i. (let z = a.slots k i in record { directory = z.directory; opens = z.opens; block = z.block; slot = z.slot; entry = z.entry; says = z.says; number = z.number; kind = z.kind });
-    judged = λ nodes rows p k i. (let z = a.judged nodes rows p k i in record { directory = z.directory; judged = z.judged });
-    only = a.only;
-  });
-  entries = m.entries;
-  held = m.held;
-}
-
 -- with a look or a refusal that is noted the session may go on
 pub may_looked : (desk : DeskSeen) (s : SessionSeen) (call : Call) (reply : Reply) → MayCall desk s → InAllShown desk s (IsRefusedAs desk call reply) → MayCall desk (noted call reply 0 s)
-may_looked desk s call reply may does = let done : Done = record { call = call; reply = reply; made = 0 } in record {
-  edits = edit_called desk s (s.calls ++ done ∷ []) may.edits;
-  comes = λ nodes rows possible.
-      let was = may.comes nodes rows possible in
-      let it = does nodes rows possible in (
-        reply_more desk.creds s.calls done nodes was.0 it.0 it.1,
-        subst (λ (k : Nodes). Shows (parcel_case desk.sizes desk.creds rows s.parcel) nodes k) (sym (batch_more desk.creds s.calls done nodes ∙ it.2)) was.1,
-      );
-  made = λ x i some.
-      elim (In-cases x s.calls (done ∷ []) i) [
-        | inl old ↦ may.made x old some
-        | inr (inl e) ↦ absurd (some (ap (λ (y : Done). y.made) e))
-        | inr (inr no') ↦ absurd no'
-      ];
-  spent = may.spent;
-  spent_numbers = may.spent_numbers;
-}
+may_looked desk s call reply may does = note_look desk s (record { call = call; reply = reply; made = 0 }) refl may does
+
+-- an allotment that isn't given is never busy
+pub never_busy : (fault : AllotFault) → IsNotBusy (try_ends (without_file (allot_reply fault)))
+never_busy (NoPages wanted free) = tt
+never_busy (NoFreeInodes wanted free) = tt
+never_busy NoAllotMemory = tt
 
 -- ---- refusals
 

@@ -21,12 +21,12 @@ use Rattle.trio_walk.specs.declared.walks.WalkEnd.{WalkEnd}
 use Rattle.trio_walk.specs.declared.walks.WalkEnd.TheVariants.{At}
 use Rattle.trio_walk.specs.Needs.{Needed, into_needs, kind_for, reached_by, dir_needs}
 use Rattle.trio_walk.specs.Walks.{InAllShown, IsHad, IsStopped, MayWalk, Walked, WalksInto, shows_root}
-use Rattle.trio_walk.specs.Asks.{IsAlike}
 use Rattle.trio_walk.specs.declared.outcome.Outcome.{Outcome}
 use Rattle.trio_calls_dir.specs.declared.replies.Replied as replied
 use Rattle.trio_walk.specs.declared.outcome.Stop.{Stop}
 use Rattle.trio_calls_dir.specs.inner.Goes.{Goes, StopsBy, number_made, removing, try_ends}
 use Rattle.trio_calls_dir.proofs.Into.{entered_at, into_goes, into_stops}
+use Rattle.trio_session.specs.Asked.{IsAlike}
 
 -- ---- calls on one name
 

@@ -25,7 +25,7 @@ use Rattle.trio_onetree.proofs.Children.{find_named-Child}
 use Rattle.trio_desk.specs.Call.{Ask, DeskSeen, Grant, Told, NotLent}
 use Rattle.trio_desk.specs.Calls as desk_calls
 use Rattle.trio_desk.specs.Out.{Parcel, kind_lent}
-use Rattle.trio_session.specs.Asked.{with_lease}
+use Rattle.trio_session.specs.Asked.{with_lease, IsAlike}
 use Rattle.trio_session.specs.Layout.{page_in}
 use Rattle.trio_session.specs.Seen.{IsOpenDir, SessionSeen, chain_in, dir_pages, entry_in, entry_shown, every_number, kind_shown, open_kind, place_of, place_shown, read_file, serves}
 use Rattle.trio_edit_laws.specs.Calls.{MayCall}
@@ -33,15 +33,16 @@ use Rattle.trio_walk.specs.declared.met.Met.{Met}
 use Rattle.trio_walk.specs.declared.walks.WalkEnd.TheVariants.{Busy as IsBusyWalk, NoMemory as NoWalkMemory}
 use Rattle.trio_walk.specs.Needs.{Needed, asked}
 use Rattle.trio_walk.specs.Walks.{InAllShown, IsListed, MayWalk, Took, Way, lent_call, need_of, one_need, served_by, with_leases}
-use Rattle.trio_walk.specs.Asks.{IsAlike, grant_ask}
+use Rattle.trio_walk.specs.Asks.{grant_ask}
 use Rattle.trio_walk.specs.declared.outcome.Outcome.{Outcome}
 use Rattle.trio_walk.specs.declared.outcome.Outcome.TheVariants.{Busy, NoMemory}
 use Rattle.trio_walk.specs.declared.outcome.Stop.TheVariants.{Busy as IsBusy, NoMemory as LacksMemory}
 use Rattle.trio_calls_dir.specs.inner.Goes.{Goes, Went}
 use Rattle.trio_calls_dir.specs.inner.Removes.{HoldBusyAt}
 use Rattle.trio_calls_dir.proofs.Ends.{stop_goes}
-use Rattle.trio_calls_dir.proofs.Then.{all_then, asks_lent, goes_on, possible_then}
+use Rattle.trio_calls_dir.proofs.Then.{all_then, goes_on}
 use Rattle.trio_calls_dir.proofs.Walked.{way_calls, way_may, way_more, way_same, way_went}
+use Rattle.trio_walk.proofs.Then.{asks_lent, possible_then}
 
 -- a directory that is open lists the file, so it may be held
 pub may_be_held : (desk : DeskSeen) (s : SessionSeen) (dir : ℕ) (name : List ℕ) (n : ℕ) → IsOpenDir s dir → InAllShown desk s (λ now. find_named now dir name ≡ Some n) → IsListed desk s n

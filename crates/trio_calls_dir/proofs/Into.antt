@@ -17,15 +17,17 @@ use Rattle.trio_walk.specs.declared.walks.WalkEnd.{WalkEnd}
 use Rattle.trio_walk.specs.declared.walks.WalkEnd.TheVariants.{At, Reply as IsReply, Busy as IsBusyWalk, NoMemory as NoWalkMemory}
 use Rattle.trio_walk.specs.Needs.{Needed, asked, into_needs, reached_by}
 use Rattle.trio_walk.specs.Walks.{InAllShown, IsStopped, MayWalk, Walked, WalksInto, WalksTo, Way, lent_call, need_of, served_by, shows_root}
-use Rattle.trio_walk.specs.Asks.{IsAlike, grant_ask, took}
+use Rattle.trio_walk.specs.Asks.{grant_ask}
 use Rattle.trio_walk.specs.declared.outcome.Outcome.{Outcome}
 use Rattle.trio_calls_dir.specs.declared.replies.Replied as replied
 use Rattle.trio_walk.specs.declared.outcome.Stop.{Stop}
 use Rattle.trio_calls_dir.specs.inner.Goes.{Goes, IsRefusedAs, StopsBy, Went, number_made, try_ends}
-use Rattle.trio_calls_dir.proofs.Alike.{alike_then}
 use Rattle.trio_calls_dir.proofs.Ends.{BeginsWith, stop_goes}
-use Rattle.trio_calls_dir.proofs.Then.{asked_then, asks_lent, goes_on}
+use Rattle.trio_calls_dir.proofs.Then.{asked_then, goes_on}
 use Rattle.trio_calls_dir.proofs.Walked.{way_went}
+use Rattle.trio_session.specs.Asked.{IsAlike, took}
+use Rattle.trio_session.proofs.Alike.{alike_then}
+use Rattle.trio_walk.proofs.Then.{asks_lent}
 
 -- the call needs the walk into the directory of this path, and then what is needed in it
 module _ {D : Type 0} (called : D → Ask → Told → D → Type 0) (seen : D → DeskSeen) (d : D) (s : SessionSeen) (call : Call) (writes : List Path) (path : Path) (may : MayCall (seen d) s) (d1 : D) (s1 : SessionSeen) where

@@ -1,12 +1,11 @@
-mod Given
+mod Walkable
 mod CallKinds
-mod Alike
 pub mod Then
 mod Noted
 mod Walked
 mod Ends
 mod Others
-mod ListsSlots
+mod ListsSome
 mod ListsHad
 mod ListsMet
 mod ListsWalked
@@ -23,8 +22,6 @@ mod RemovesBusy
 mod RemovesTake
 mod RemovesClear
 mod RemovesWalk
-mod RoomsAllotted
-mod RoomsGrown
 mod RoomsMade
 mod MakesTree
 mod MakesFill
@@ -40,7 +37,6 @@ mod MovesWalk
 mod MovesBusy
 mod MovesFound
 mod MovesRetitle
-mod MovesPut
 mod MovesPlace
 mod MovesTakes
 mod MovesRoom

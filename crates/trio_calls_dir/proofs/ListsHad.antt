@@ -1,15 +1,13 @@
 -- A directory that is taken for reading is had, and what the session shows of it is so in the nodes.
-use Rattle.std.proofs.Common.{◌≡◌, ℕ, suc, ◌≤◌, true, false, cond, eqb, Bool, List, [], ◌∷◌, ◌++◌, length, map, Option, Some, None, Ok, sym, refl, ap, ◌∙◌, subst, arith}
-use Rattle.std.specs.Prelude.{is_some, slice_get, ◌||◌, ◌&&◌, nat_le}
+use Rattle.std.proofs.Common.{◌≡◌, ℕ, suc, true, false, cond, eqb, Bool, List, [], ◌∷◌, ◌++◌, length, map, Option, Some, None, Ok, sym, refl, ap, ◌∙◌, subst}
+use Rattle.std.specs.Prelude.{is_some, ◌||◌}
 use Rattle.std.specs.List.{filter}
-use Rattle.std.specs.Option.{option_and_then, option_map, option_map_or, option_or}
+use Rattle.std.specs.Option.{option_map, option_or}
 use Rattle.std.specs.Ordering.{is_le, nat_cmp}
 use Rattle.std.specs.Cmp.Lexicographic.{slice_cmp}
-use Rattle.std.specs.Str.{bytes_eq}
-use Rattle.std.proofs.lemmas.Bool.{and_parts, eqb-true, false≢true, leb-true}
+use Rattle.std.proofs.lemmas.Bool.{eqb-true, false≢true}
 use Rattle.std.proofs.lemmas.List.{length-map, map-append}
 use Rattle.std.proofs.lemmas.List.Elements.{filter_map-append}
-use Rattle.std.proofs.lemmas.Option.{cond_some, slice_get-map}
 use Rattle.std.proofs.lemmas.Simd.{map-map}
 use Rattle.trio_rights.specs.Row.{Row}
 use Rattle.trio_rights.specs.declared.kind.Kind.{Kind}
@@ -18,53 +16,30 @@ use Rattle.trio_lists.specs.Lists.{In, gathered, gathered_below}
 use Rattle.trio_lists.specs.Sorting.{inserted_by_name, sorted_by_name}
 use Rattle.trio_lists.proofs.Filters.{find-In}
 use Rattle.trio_lists.proofs.Members.{In-right, both-Ok}
-use Rattle.trio_layout.specs.declared.body.Body.{Body}
-use Rattle.trio_layout.specs.declared.range.CoreRange.{CoreRange}
 use Rattle.trio_layout.specs.declared.slot.EntryPart.{EntryPart}
-use Rattle.trio_layout.specs.Body.{block_count, body_at, body_bytes, body_fits, body_of, head_fits, size_fits}
-use Rattle.trio_layout.specs.Chain.{index_count}
 use Rattle.trio_layout.specs.Entries.{Listed, entries_on, slot_entries}
-use Rattle.trio_layout.specs.Range.{core_count}
-use Rattle.trio_surveys.proofs.Owned.{body_sized}
-use Rattle.trio_lease.specs.Shown.{Shown, page_at}
+use Rattle.trio_lease.specs.Shown.{Shown}
 use Rattle.trio_lease.specs.declared.parts.LentPage.{LentPage}
-use Rattle.trio_lease.specs.declared.parts.HoldParts.{HoldParts}
 use Rattle.trio_nodes.specs.declared.grant.GrantKind.TheVariants.{Read}
 use Rattle.trio_nodes.specs.Nodes.{Nodes, count_in, entry_name, names_in, node_at}
 use Rattle.trio_nodes.specs.After.{batch_nodes}
 use Rattle.trio_desk.specs.Agrees.{HasRights}
 use Rattle.trio_desk.specs.Call.{DeskSeen}
-use Rattle.trio_desk.specs.Contents.{AreWithinLimits, Sizes, entries_shown, rights_in}
-use Rattle.trio_desk.specs.Out.{IsWellLent, lent_core, lent_numbers}
+use Rattle.trio_desk.specs.Contents.{entries_shown, rights_in}
 use Rattle.trio_desk.specs.Ready.{ArePossible, lent_files}
 use Rattle.trio_laws.specs.session.DirCalls.{name_and_kind}
 use Rattle.trio_laws.specs.session.Sees.{IsView, Lists}
-use Rattle.trio_laws.proofs.history.Blocks.{chain_long}
 use Rattle.trio_laws.proofs.session.DirNames.{names_in_order}
 use Rattle.trio_laws.proofs.session.LentFiles.{lent_gathers}
 use Rattle.trio_laws.proofs.session.Sees.{sees_lease, sees_lent}
-use Rattle.trio_session.specs.Layout.{page_in, size_in}
-use Rattle.trio_session.specs.Seen.{SessionSeen, block_shown, body_in, body_shown, chain_in, dir_pages, entry_count, held_file, in_hand, kind_shown, open_kind, pages_shown, read_file, serves, slots_shown}
+use Rattle.trio_session.specs.Seen.{SessionSeen, body_in, body_shown, entry_count, in_hand, kind_shown, open_kind, pages_shown, read_file, serves, slots_shown}
 use Rattle.trio_edit_laws.specs.Calls.{MayCall}
-use Rattle.trio_edit_laws.specs.DirLaws.{names_here, slots_of_page}
-use Rattle.trio_edit_laws.proofs.OpenChain.{open_chain}
 use Rattle.trio_edit_laws.proofs.directories.Slotted.{length-present, page_parts, parts_of, present, slots_of-parts}
-use Rattle.trio_calls_dir.specs.inner.Lists.{HasDir}
-use Rattle.trio_calls_dir.proofs.Given.{sees_directory, shows_calls, view_calls}
-
--- ---- a body
-
--- no file has more blocks than there are core pages
-blocks_few : (kind : Kind) (range : CoreRange) (bytes : List ℕ) (b : Body) → body_of kind range bytes ≡ Some b → block_count b.size ≤ core_count range
-unfolding body_of
-blocks_few kind range bytes b e =
-    let x : Body = body_at bytes in
-    let k = cond_some (bytes_eq bytes (body_bytes x) && body_fits kind range x) x b e in
-    let fits = (and_parts (bytes_eq bytes (body_bytes x)) (body_fits kind range x) k.0).1 in
-    let p = and_parts (nat_le x.mode.0 511 && nat_le (block_count x.size) (core_count range) && size_fits kind x.size) (head_fits range (block_count x.size) x.head) fits in
-    let q = and_parts (nat_le x.mode.0 511 && nat_le (block_count x.size) (core_count range)) (size_fits kind x.size) p.0 in
-    let r = and_parts (nat_le x.mode.0 511) (nat_le (block_count x.size) (core_count range)) q.0 in
-    let P : Body → Type 0 = λ y. nat_le (block_count y.size) (core_count range) ≡ true in leb-true (block_count b.size) (core_count range) (subst P k.1 r.1)
+use Rattle.trio_session.proofs.Shows.{body_shown-open, body_shown-read}
+use Rattle.trio_edit_laws.proofs.Had.{pages_shown-lent}
+use Rattle.trio_session.specs.Deeds.{names_here, slots_of_page}
+use Rattle.trio_edit_laws.proofs.directories.Sees.{sees_directory}
+use Rattle.trio_edit_laws.proofs.Walkable.{shows_calls, view_calls}
 
 -- ---- what is had
 
@@ -87,89 +62,6 @@ read_by s dir served kind = by_open (open_kind s dir) refl
     by_open (Some k) e =
         let is : Some k ≡ Some Directory = sym (ap (λ (q : Option Kind). option_or q (option_map (λ (g : Shown). g.kind) (read_file s dir))) e) ∙ kind in AsOpen (e ∙ is)
     by_open None e = by_read (read_file s dir) e refl
-
-module _ (s : SessionSeen) (dir : ℕ) (kind : Kind) (o : open_kind s dir ≡ Some kind) where
-  -- the body of a file that is open, and its blocks
-  pub body_open : body_shown s dir ≡ Some (body_in s dir)
-  body_open =
-      ap (λ k. option_or (option_map (λ (q : Kind). body_in s dir) k) (option_or (option_map (λ (f : Shown). f.body) (read_file s dir)) (option_map (λ (h : HoldParts). h.body) (held_file s dir)))) o
-
-  pub pages_open : pages_shown s dir ≡ map (page_in s.parcel) (chain_in s dir).blocks
-  pages_open = ap (λ k. cond (is_some k) (map (page_in s.parcel) (chain_in s dir).blocks) (option_map_or dir_pages (read_file s dir) [])) o
-
-  block_open : (k : ℕ) → block_shown s dir k ≡ slice_get (pages_shown s dir) k
-  block_open k =
-      ap (λ q. cond (is_some q) (option_map (page_in s.parcel) (slice_get (chain_in s dir).blocks k)) (option_and_then (λ (f : Shown). page_at f.blocks k) (read_file s dir))) o
-      ∙ sym (slice_get-map (page_in s.parcel) (chain_in s dir).blocks k) ∙ ap (λ l. slice_get l k) (sym pages_open)
-
-module _ (s : SessionSeen) (dir : ℕ) (f : Shown) (none : open_kind s dir ≡ None) (there : read_file s dir ≡ Some f) where
-  -- and of one that is read
-  body_read : body_shown s dir ≡ Some f.body
-  body_read =
-      ap (λ k. option_or (option_map (λ (q : Kind). body_in s dir) k) (option_or (option_map (λ (g : Shown). g.body) (read_file s dir)) (option_map (λ (h : HoldParts). h.body) (held_file s dir)))) none
-      ∙ ap (λ r. option_or (option_map (λ (g : Shown). g.body) r) (option_map (λ (h : HoldParts). h.body) (held_file s dir))) there
-
-  pages_read : pages_shown s dir ≡ map (λ (p : LentPage). p.page) f.blocks
-  pages_read =
-      ap (λ k. cond (is_some k) (map (page_in s.parcel) (chain_in s dir).blocks) (option_map_or dir_pages (read_file s dir) [])) none
-      ∙ ap (λ r. option_map_or dir_pages r []) there
-
-  block_read : (k : ℕ) → block_shown s dir k ≡ slice_get (pages_shown s dir) k
-  block_read k =
-      ap (λ q. cond (is_some q) (option_map (page_in s.parcel) (slice_get (chain_in s dir).blocks k)) (option_and_then (λ (g : Shown). page_at g.blocks k) (read_file s dir))) none
-      ∙ ap (option_and_then (λ (g : Shown). page_at g.blocks k)) there
-      ∙ sym (slice_get-map (λ (p : LentPage). p.page) f.blocks k) ∙ ap (λ l. slice_get l k) (sym pages_read)
-
--- by a lease that a grant gave
-module _ (sizes : Sizes) (limits : AreWithinLimits sizes) (f : Shown) (well : IsWellLent sizes f) where
-  lent_count : length (map (λ (p : LentPage). p.page) f.blocks) ≡ block_count (size_in f.body)
-  lent_count =
-      length-map f.blocks (λ (p : LentPage). p.page)
-      ∙ sym (length-map f.blocks (λ (p : LentPage). p.no.0))
-      ∙ chain_long (lent_core sizes f) (index_count (block_count (size_in f.body))) (block_count (size_in f.body)) (body_at f.body).head
-      (record { index = lent_numbers f.index; blocks = lent_numbers f.blocks }) well.chain (omega arith)
-
-  lent_few : length (map (λ (p : LentPage). p.page) f.blocks) ≤ 8192
-  lent_few = omega (arith, lent_count, blocks_few f.kind sizes.range f.body (body_at f.body) well.body, limits.pages)
-
-module _ (desk : DeskSeen) (s : SessionSeen) (dir : ℕ) (may : MayCall desk s) (limits : AreWithinLimits desk.sizes) where
-  pub open_had : open_kind s dir ≡ Some Directory → HasDir s dir
-  open_had o =
-      let c = open_chain desk s dir Directory may.edits o in
-      let count : length (pages_shown s dir) ≡ block_count (size_in (body_in s dir)) =
-      ap (λ (l : List (List ℕ)). length l) (pages_open s dir Directory o) ∙ length-map (chain_in s dir).blocks (page_in s.parcel) ∙ sym c.count in
-      let few = blocks_few Directory desk.sizes.range (body_in s dir) c.body c.read in
-      let same : c.body.size ≡ size_in (body_in s dir) = sym (ap (λ (b : Body). b.size) c.at) in
-      record {
-        body = body_in s dir;
-        there = body_open s dir Directory o;
-        long = body_sized Directory desk.sizes.range (body_in s dir) c.body c.read;
-        blocks = count;
-        few = omega (arith, count, few, same, limits.pages);
-        each = block_open s dir Directory o;
-      }
-
-  read_had : (f : Shown) → open_kind s dir ≡ None → read_file s dir ≡ Some f → HasDir s dir
-  read_had f none there =
-      let i = find-In (λ (g : Shown). eqb g.ino dir) s.reads f there in
-      let well = may.edits.on.reads f i.0 in
-      let pages : pages_shown s dir ≡ map (λ (p : LentPage). p.page) f.blocks = pages_read s dir f none there in
-      record {
-        body = f.body;
-        there = body_read s dir f none there;
-        long = body_sized f.kind desk.sizes.range f.body (body_at f.body) well.body;
-        blocks = ap (λ (l : List (List ℕ)). length l) pages ∙ lent_count desk.sizes limits f well;
-        few = subst (λ (l : List (List ℕ)). length l ≤ 8192) (sym pages) (lent_few desk.sizes limits f well);
-        each = block_read s dir f none there;
-      }
-
-  -- a directory that is taken for reading is had
-  pub had_served : serves s dir Read ≡ true → kind_shown s dir ≡ Some Directory → HasDir s dir
-  had_served served kind =
-      elim (read_by s dir served kind) [
-        | AsOpen o ↦ open_had o
-        | AsLent f none there dir' ↦ read_had f none there
-      ]
 
 -- ---- names
 
@@ -242,7 +134,7 @@ module _ (desk : DeskSeen) (s : SessionSeen) (may : MayCall desk s) (dir : ℕ) 
         let file = sees_lease desk (in_hand s) (in_hand s) nodes now rows f v (In-right f (lent_files s.parcel.writes) s.reads among) (may.edits.alone f among) in
         let lists : Lists now f.ino entries = sees_lent desk (in_hand s) (in_hand s) nodes now rows f v (In-right f (lent_files s.parcel.writes) s.reads among) (may.edits.alone f among) well in
         let parts : present (parts_of (pages_shown s dir)) ≡ map (λ (l : Listed). l.entry) entries =
-        ap (λ ps. present (parts_of ps)) (pages_read s dir f none there)
+        ap (λ ps. present (parts_of ps)) (pages_shown-lent s dir f none there)
         ∙ lent_parts desk.sizes.inodes f.blocks entries (lent_gathers desk.sizes f well (record { ino = f.ino; kind = f.kind; parent = 0; page = 0; slot = 0; body = f.body }) refl refl is) in
         let names : names_here s dir ≡ sorted_by_name entry_name (map name_and_kind entries) =
         ap (λ l. sorted_by_name entry_name (map (λ (e : EntryPart). (e.name, e.kind)) l)) parts
@@ -260,9 +152,9 @@ module _ (desk : DeskSeen) (s : SessionSeen) (may : MayCall desk s) (dir : ℕ) 
       let now : Nodes = batch_nodes desk.creds s.calls nodes in
       elim (read_by s dir served kind) [
         | AsOpen o ↦
-            (let same : Some (body_in s dir) ≡ Some body = sym (body_open s dir Directory o) ∙ b in
+            (let same : Some (body_in s dir) ≡ Some body = sym (body_shown-open s dir Directory o) ∙ b in
             subst (λ x. IsAsHad s dir x (batch_nodes desk.creds s.calls nodes)) (let e : body_in s dir ≡ body = cc same in e) (open_here o))
         | AsLent f none there is ↦
-            (let same : Some f.body ≡ Some body = sym (body_read s dir f none there) ∙ b in
+            (let same : Some f.body ≡ Some body = sym (body_shown-read s dir f none there) ∙ b in
             subst (λ x. IsAsHad s dir x (batch_nodes desk.creds s.calls nodes)) (let e : f.body ≡ body = cc same in e) (lent_here f none there is))
       ]

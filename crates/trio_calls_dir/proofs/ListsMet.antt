@@ -34,13 +34,12 @@ use Rattle.trio_laws.proofs.session.DirCalls.{list_refused_by_check, lists_names
 use Rattle.trio_laws.proofs.session.Sees.{sees_root}
 use Rattle.trio_session.specs.Seen.{SessionSeen, body_shown, in_hand, kind_shown, serves}
 use Rattle.trio_edit_laws.specs.Calls.{MayCall}
-use Rattle.trio_edit_laws.specs.DirLaws.{names_here}
 use Rattle.trio_walk.specs.declared.met.Met.{Met}
 use Rattle.trio_walk.specs.declared.met.Rights as shown_rights
 use Rattle.trio_walk.specs.declared.walks.WalkEnd.{WalkEnd}
 use Rattle.trio_walk.specs.declared.walks.WalkEnd.TheVariants.{Reply as IsReply, Busy as IsBusyWalk, NoMemory as NoWalkMemory}
 use Rattle.trio_walk.specs.declared.outcome.Outcome.TheVariants.{Replied, Busy}
-use Rattle.trio_walk.specs.Asks.{allot_asks, grant_ask, noted}
+use Rattle.trio_walk.specs.Asks.{grant_ask, noted}
 use Rattle.trio_walk.specs.Needs.{Needed, asked}
 use Rattle.trio_walk.specs.Walks.{HasMet, InAllShown, IsMet, MayTake, RightsAre, Took, Walked, Way, gives_met, lent_call, need_of, one_need, served_by}
 use Rattle.trio_walk.proofs.Possible.{moment_possible}
@@ -49,13 +48,19 @@ use Rattle.trio_walk.specs.declared.outcome.Stop.{Stop}
 use Rattle.trio_walk.specs.declared.outcome.Stop.TheVariants.{Busy as IsBusy, NoMemory as LacksMemory}
 use Rattle.trio_calls_dir.specs.Asks.{Target, wants_of}
 use Rattle.trio_calls_dir.specs.inner.Goes.{Goes, IsRefusal, IsRefusedAs, StopsBy, Went, number_made, try_ends}
-use Rattle.trio_calls_dir.specs.inner.Lists.{BusyAt, ComesHere, HasDir, lets_read, list_reply, listing_at, met_refusal}
-use Rattle.trio_calls_dir.proofs.Alike.{alike_room, may_alike}
+use Rattle.trio_calls_dir.specs.inner.Lists.{BusyAt, ComesHere, lets_read, list_reply, listing_at, met_refusal}
 use Rattle.trio_calls_dir.proofs.Ends.{lacks, may_looked, refused_goes, refuses, stop_goes}
-use Rattle.trio_calls_dir.proofs.Given.{view_calls}
-use Rattle.trio_calls_dir.proofs.ListsHad.{had_here, had_served}
-use Rattle.trio_calls_dir.proofs.Then.{all_then, asks_lent, goes_on}
+use Rattle.trio_session.specs.Deeds.{IsHad, body_had}
+use Rattle.trio_edit_laws.proofs.Had.{had_served, there_had}
+use Rattle.trio_calls_dir.proofs.ListsHad.{had_here}
+use Rattle.trio_calls_dir.proofs.Then.{all_then, goes_on}
 use Rattle.trio_calls_dir.proofs.Walked.{way_calls, way_may, way_more, way_same, way_went}
+use Rattle.trio_session.specs.Asked.{allot_asks}
+use Rattle.trio_session.proofs.Alike.{alike_room}
+use Rattle.trio_session.specs.Deeds.{names_here}
+use Rattle.trio_walk.proofs.Then.{asks_lent}
+use Rattle.trio_edit_laws.proofs.Alike.{may_alike}
+use Rattle.trio_edit_laws.proofs.Walkable.{view_calls}
 
 -- ---- what is known of the file
 
@@ -211,15 +216,15 @@ module _ {D : Type 0} (called : D → Ask → Told → D → Type 0) (seen : D �
     lets : lets_read s (seen d).creds n ≡ gives (seen d).creds ToRead (rights_in Directory body)
     lets = ap (λ o. option_map_or (λ b. gives (seen d).creds ToRead (rights_in Directory b)) o false) there
 
-  pub taken_goes : HasDir s n → (result : Result replied.Replied Stop)
+  pub taken_goes : IsHad s n → (result : Result replied.Replied Stop)
       → MatchResult result (λ r. (r ≡ record { reply = list_reply (seen d).creds s n from; made = 0 }) × (length s'.calls < s'.room.calls)) (λ stop. stop ≡ LacksMemory)
       → Goes called seen d s (ListNames path from) (λ now. []) (try_ends result) (number_made result) d s'
   taken_goes had (Ok r) ends =
-      let g : Bool = gives (seen d).creds ToRead (rights_in Directory had.body) in
+      let g : Bool = gives (seen d).creds ToRead (rights_in Directory (body_had s n)) in
       let reply : replied.Replied = record { reply = list_reply (seen d).creds s n from; made = 0 } in
       subst (λ (x : replied.Replied). Goes called seen d s (ListNames path from) (λ now. []) (Replied x.reply) x.made d s') (sym ends.0)
-      (subst (λ b. Goes called seen d s (ListNames path from) (λ now. []) (Replied (cond b (IsReplied (Names (length (names_here s n)) (take 64 (drop from (names_here s n))))) Denied)) 0 d s') (sym (lets had.body had.there))
-      (reply_goes had.body had.there g refl ends.1))
+      (subst (λ b. Goes called seen d s (ListNames path from) (λ now. []) (Replied (cond b (IsReplied (Names (length (names_here s n)) (take 64 (drop from (names_here s n))))) Denied)) 0 d s') (sym (lets (body_had s n) (there_had s n had)))
+      (reply_goes (body_had s n) (there_had s n had) g refl ends.1))
   taken_goes had (Err stop) ends =
       subst (λ x. Goes called seen d s (ListNames path from) (λ now. []) (try_ends (Err x)) 0 d s') (sym ends) (lacks called seen d s s' (ListNames path from) (λ now. []) may kept)
 
@@ -254,8 +259,8 @@ module _ {D : Type 0} (called : D → Ask → Told → D → Type 0) (seen : D �
   taken_kind : kind_shown s1 m.ino ≡ Some Directory
   taken_kind = t.taken.2.of_kind (λ e. absurd (cc e)) ∙ ap Some (unrefused_directory (seen d).creds m unchecked)
 
-  pub taken_had : AreWithinLimits (seen d).sizes → HasDir s1 m.ino
-  taken_had limits = had_served (seen d1) s1 m.ino taken_may (subst (λ (z : Sizes). AreWithinLimits z) (sym taken_went.same.sizes) limits) t.taken.2.served taken_kind
+  pub taken_had : AreWithinLimits (seen d).sizes → IsHad s1 m.ino
+  taken_had limits = had_served (seen d1) s1 m.ino taken_may.edits (subst (λ (z : Sizes). AreWithinLimits z) (sym taken_went.same.sizes) limits) Read (λ e. absurd (cc e)) t.taken.2.served
 
 -- where another grant keeps the file busy, or one of the session's own does
 pub busy_at : {D : Type 0} (called : D → Ask → Told → D → Type 0) (seen : D → DeskSeen) (d : D) (s : SessionSeen) (m : Met) → MayCall (seen d) s → (d1 : D) (s1 : SessionSeen) (holder : Holder)
@@ -286,7 +291,7 @@ module _ {D : Type 0} (called : D → Ask → Told → D → Type 0) (seen : D �
         subst (λ (k : Creds). InAllShown (seen d1) s1 (λ now. walk now k [] path ≡ Ok m.ino)) (sym went1.same.creds)
         (all_then (seen d) (seen d1) s s1 (λ now. walk now (seen d).creds [] path ≡ Ok m.ino) went1.same went1.more went1.calls comes)
 
-    pub listed_goes : HasDir s1 m.ino → (s' : SessionSeen) → s' ≡ record s1 { room = s'.room } → (result : Result replied.Replied Stop)
+    pub listed_goes : IsHad s1 m.ino → (s' : SessionSeen) → s' ≡ record s1 { room = s'.room } → (result : Result replied.Replied Stop)
         → MatchResult result (λ r. (r ≡ record { reply = list_reply (seen d1).creds s1 m.ino from; made = 0 }) × (length s'.calls < s'.room.calls)) (λ stop. stop ≡ LacksMemory)
         → Goes called seen d s (ListNames path from) (λ now. listing_at (seen d).creds m) (try_ends result) (number_made result) d1 s'
     listed_goes had s' kept result ends =

@@ -44,8 +44,9 @@ use Rattle.trio_calls_dir.specs.inner.Lists.{BusyAt, ComesHere, listing_at}
 use Rattle.trio_calls_dir.proofs.Ends.{BeginsWith, stop_goes}
 use Rattle.trio_calls_dir.proofs.Others.{nothing_own}
 use Rattle.trio_calls_dir.proofs.ListsMet.{gives_known}
-use Rattle.trio_calls_dir.proofs.Then.{asked_then, asks_lent, goes_on}
+use Rattle.trio_calls_dir.proofs.Then.{asked_then, goes_on}
 use Rattle.trio_calls_dir.proofs.Walked.{way_went}
+use Rattle.trio_walk.proofs.Then.{asks_lent}
 
 -- ---- what is needed of the file
 

@@ -1,5 +1,5 @@
 -- A new file is put into the first empty slot of its directory.
-use Rattle.std.proofs.Common.{◌≡◌, ℕ, ◌<◌, true, cond, eqb, List, [], ◌∷◌, ◌++◌, Option, Some, None, sym, refl, ap, ◌∙◌, subst, inl, inr, arith}
+use Rattle.std.proofs.Common.{◌≡◌, ℕ, ◌<◌, true, cond, eqb, List, [], ◌∷◌, Option, Some, None, sym, refl, ap, ◌∙◌, subst, inl, arith}
 use Rattle.std.specs.Prelude.{not}
 use Rattle.std.specs.List.{filter}
 use Rattle.std.specs.Option.{option_map}
@@ -12,7 +12,6 @@ use Rattle.trio_rights.specs.declared.rights.Creds.{Creds}
 use Rattle.trio_rights.specs.declared.rights.Mode.{Mode}
 use Rattle.trio_lists.specs.Lists.{In, is_among}
 use Rattle.trio_lists.proofs.Filters.{filter-In}
-use Rattle.trio_lists.proofs.Members.{In-cases}
 use Rattle.trio_layout.specs.Body.{body_of}
 use Rattle.trio_layout.specs.declared.body.Body.{Body}
 use Rattle.trio_auxdir.specs.declared.place.Place.{Place}
@@ -29,25 +28,23 @@ use Rattle.trio_desk.specs.Call.{DeskSeen}
 use Rattle.trio_desk.specs.Contents.{AreWithinLimits, rights_in}
 use Rattle.trio_desk.specs.Edits.{DoesCall, MayShow}
 use Rattle.trio_desk.specs.Out.{ino_numbers}
-use Rattle.trio_desk.specs.Ready.{ArePossible, ComesToShown}
+use Rattle.trio_desk.specs.Ready.{ArePossible}
 use Rattle.trio_laws.specs.session.DirCalls.{ComesInto}
 use Rattle.trio_laws.proofs.session.DirCalls.{makes_entry}
 use Rattle.trio_session.specs.Seen.{IsOpenDir, SessionSeen, body_in, empty_shown, fill, grant_in, in_hand, made_file, number_shown, place_shown, spare_numbers, spare_pages, used_numbers}
-use Rattle.trio_edit_laws.specs.Calls.{MayCall}
+use Rattle.trio_edit_laws.specs.Calls.{MayCall, MayGoOn}
 use Rattle.trio_edit_laws.specs.DirLaws.{Changes, IsEmptyBody, LeavesFilled, StaysTree, node_made}
 use Rattle.trio_edit_laws.proofs.Shown.{shown_by}
-use Rattle.trio_edit_laws.proofs.directories.Filled.{fill_leaves}
+use Rattle.trio_edit_laws.proofs.directories.Filled.{fill_leaves, fill_shows}
 use Rattle.trio_walk.specs.Asks.{noted}
 use Rattle.trio_walk.specs.Walks.{InAllShown}
-use Rattle.trio_calls_dir.specs.Asks.{new_body}
 use Rattle.trio_calls_dir.specs.inner.Goes.{making}
-use Rattle.trio_calls_dir.specs.inner.Rooms.{MayGoOn}
-use Rattle.trio_calls_dir.proofs.Ends.{edit_called}
-use Rattle.trio_calls_dir.proofs.Given.{fill_shows, sees_directory}
+use Rattle.trio_edit_laws.proofs.Noting.{may_noted as note_done}
 use Rattle.trio_calls_dir.proofs.MakesTree.{no_node_shown, tree_made}
-use Rattle.trio_calls_dir.proofs.EditDone.{comes_done}
 use Rattle.trio_calls_dir.proofs.Possible.{possible_filled}
-use Rattle.trio_calls_dir.proofs.RoomsAllotted.{spare_unmade}
+use Rattle.trio_edit_laws.proofs.Allotting.{spare_unmade}
+use Rattle.trio_session.specs.Deeds.{new_body}
+use Rattle.trio_edit_laws.proofs.directories.Sees.{sees_directory}
 
 -- the body of a new file
 abbrev pub body_made : Creds → Mode → Body
@@ -149,25 +146,11 @@ module _ (desk : DeskSeen) (s : SessionSeen) (call : Call) (kind : Kind) (path :
       (does_make desk kind path mode (shown_at nodes) dir n (subst (λ (c : Call). ComesInto (shown_at nodes) desk.creds c path dir) m.call (m.comes nodes rows p))
       (free_at nodes (shown_at nodes) rows shows) (none_at nodes (shown_at nodes) rows shows) low)
 
-  noted_comes : ComesToShown desk then'.parcel then'.reads (then'.calls ++ record { call = call; reply = IsReplied IsDone; made = n } ∷ [])
-  noted_comes =
-      comes_done desk s then' done (λ now. with_node now n (Some (node_made dir (name_of path) kind (body_made desk.creds mode)))) m.may.comes changes calls_are does
-
   none_left : filter (λ k. not (eqb k n)) (n ∷ []) ≡ []
   none_left = ap (λ t. cond {A = List ℕ} (not t) (n ∷ []) []) (eq-eqb n n refl)
 
   -- with its note the session may go on
   pub may_noted : MayCall desk (noted call (IsReplied IsDone) n (fill dir (name_of path) n kind (new_body desk.creds mode) s))
-  may_noted = record {
-    edits = edit_called desk then' (then'.calls ++ record { call = call; reply = IsReplied IsDone; made = n } ∷ []) changes.may;
-    comes = noted_comes;
-    made = λ x i some.
-        subst (λ (l : List InoParts). In x.made (ino_numbers l)) (sym left.files.inodes)
-        (elim (In-cases x then'.calls (record { call = call; reply = IsReplied IsDone; made = n } ∷ []) i) [
-          | inl old ↦ m.may.made x (subst (λ (cs : List Done). In x cs) calls_are old) some
-          | inr (inl e) ↦ subst (λ k. In k (ino_numbers s.parcel.inodes)) (sym (ap (λ (y : Done). y.made) e)) allotted
-          | inr (inr none) ↦ absurd none
-        ]);
-    spent = left.files.pages ∙ m.spent;
-    spent_numbers = left.numbers ∙ ap (filter (λ k. not (eqb k n))) m.one ∙ none_left;
-  }
+  may_noted =
+      note_done desk s then' done (λ now. with_node now n (Some (node_made dir (name_of path) kind (body_made desk.creds mode)))) calls_are (λ some. allotted) m.may.comes m.may.made changes.becomes.more changes.becomes.shows changes.may
+      (ap (λ (l : List InoParts). ino_numbers l) left.files.inodes) (left.files.pages ∙ m.spent) (left.numbers ∙ ap (filter (λ k. not (eqb k n))) m.one ∙ none_left) does

@@ -1,5 +1,5 @@
 -- A file is made in its directory: how the try goes by the room that was made.
-use Rattle.std.proofs.Common.{◌≡◌, ℕ, ◌%◌, ◌<◌, true, false, cond, List, [], ◌∷◌, ◌++◌, length, Option, Some, None, Result, Ok, Err, sym, refl, ap, ◌∙◌, subst, inl, arith}
+use Rattle.std.proofs.Common.{◌≡◌, ℕ, ◌%◌, ◌<◌, true, false, cond, List, [], ◌∷◌, ◌++◌, length, Option, Some, None, Result, Ok, Err, sym, refl, ap, ◌∙◌, subst, inl, inr, arith}
 use Rattle.std.specs.Prelude.{is_some, map, unwrap_or}
 use Rattle.std.specs.Option.{option_map_or}
 use Rattle.std.proofs.lemmas.List.{append-nil}
@@ -14,20 +14,18 @@ use Rattle.trio_layout.specs.declared.body.Body.{Body}
 use Rattle.trio_layout.specs.declared.range.CoreRange.{CoreRange}
 use Rattle.trio_auxdir.specs.declared.place.Place.{Place}
 use Rattle.trio_nodes.specs.declared.answers.AllotFault.{AllotFault}
-use Rattle.trio_nodes.specs.declared.answers.AllotFault.TheVariants.{NoInodes as NoFreeInodes, NoPages}
+use Rattle.trio_nodes.specs.declared.answers.AllotFault.TheVariants.{NoInodes as NoFreeInodes, NoPages, NoMemory as NoAllotMemory}
 use Rattle.trio_nodes.specs.declared.call.Answer.TheVariants.{Done as IsDone}
 use Rattle.trio_nodes.specs.declared.call.Call.{Call}
 use Rattle.trio_nodes.specs.declared.call.Done.{Done}
 use Rattle.trio_nodes.specs.declared.call.Reply.{Reply}
-use Rattle.trio_nodes.specs.declared.call.Reply.TheVariants.{Ok as IsReplied, NotFound, Exists, NotDir, IsDir, NotEmpty, Denied, IntoItself, NoSpace, NoInodes, TooLarge}
-use Rattle.trio_nodes.specs.declared.grant.Holder.{Holder}
+use Rattle.trio_nodes.specs.declared.call.Reply.TheVariants.{Ok as IsReplied, Exists, NoInodes, NoSpace}
 use Rattle.trio_nodes.specs.Nodes.{Nodes, find_named, with_node}
 use Rattle.trio_nodes.specs.Walk.{Path, dir_of, is_root, name_of, walk_into}
 use Rattle.trio_nodes.specs.After.{batch_nodes}
 use Rattle.trio_nodes.specs.Apply.{Applied, LacksRoom, applied, done, in_directory, is_done, makes_file, new_node, reached, refused}
 use Rattle.trio_desk.specs.Call.{Allot, Ask, DeskSeen, NotGiven, Told}
 use Rattle.trio_desk.specs.Calls as desk_calls
-use Rattle.trio_desk.specs.Calls.{Calls}
 use Rattle.trio_desk.specs.Contents.{AreWithinLimits}
 use Rattle.trio_desk.specs.Edits.{TakesMore}
 use Rattle.trio_desk.specs.Ready.{ArePossible}
@@ -36,21 +34,28 @@ use Rattle.trio_laws.proofs.session.DirCalls.{no_room_to_make}
 use Rattle.trio_laws.proofs.session.FileEdits.{body_stands}
 use Rattle.trio_session.specs.Layout.{size_in}
 use Rattle.trio_session.specs.Seen.{IsOpenDir, MadeFile, MayBeMade, SessionSeen, cleared_file, empty_shown, fill, in_hand, lowest, no_chain, place_shown, spare_number, spare_numbers, spare_pages}
+use Rattle.trio_edit_laws.specs.Allotting.{HasNumbers, Wanted}
 use Rattle.trio_edit_laws.specs.Calls.{MayCall}
-use Rattle.trio_walk.specs.Asks.{AskedBy, IsAlike, TryEnds, allot_asks, noted, took}
+use Rattle.trio_edit_laws.proofs.Allotting.{asks_fault, asks_short, told_fault}
+use Rattle.trio_walk.specs.Asks.{AskedBy, TryEnds, noted}
+use Rattle.trio_walk.specs.Tries.{allot_reply}
+use Rattle.trio_walk.proofs.Then.{short_ends}
 use Rattle.trio_walk.specs.Walks.{InAllShown}
 use Rattle.trio_walk.specs.declared.outcome.Outcome.{Outcome}
 use Rattle.trio_walk.specs.declared.outcome.Outcome.TheVariants.{Busy, NoMemory, Replied}
-use Rattle.trio_walk.specs.declared.outcome.Stop.{Stop}
-use Rattle.trio_walk.specs.declared.outcome.Stop.TheVariants.{Busy as IsBusy, NoMemory as LacksMemory}
-use Rattle.trio_calls_dir.specs.Asks.{ComesBy, ComesTo, Target, as_lent, edited, made_by, new_body, new_number, numbers_for, pages_for, slot_growth, wants_of, with_slot}
-use Rattle.trio_calls_dir.specs.inner.Goes.{AfterTry, Goes, IsNumber, LeavesHere, making, try_ends}
-use Rattle.trio_calls_dir.specs.inner.Rooms.{HasNumbers, HasPlaces, IsRefused, MadeRoom, RoomEnds, Wanted}
-use Rattle.trio_calls_dir.proofs.Alike.{alike_room, alike_then, may_alike}
+use Rattle.trio_calls_dir.specs.Asks.{ComesBy, ComesTo, Target, edited, made_by, numbers_for, pages_for, wants_of}
+use Rattle.trio_calls_dir.specs.inner.Goes.{AfterTry, Goes, IsNumber, LeavesHere, making, number_made, try_ends, without_file}
+use Rattle.trio_calls_dir.specs.inner.Rooms.{HasPlaces, MadeRoom, RoomEnds}
 use Rattle.trio_calls_dir.proofs.Ends.{may_looked}
 use Rattle.trio_calls_dir.proofs.MakesFill.{MayFill, above, body_made, calls_are, changes, may_noted}
-use Rattle.trio_calls_dir.proofs.RoomsAllotted.{spare_uncleared}
-use Rattle.trio_calls_dir.proofs.Then.{all_then, fill_alike}
+use Rattle.trio_edit_laws.proofs.Allotting.{spare_uncleared}
+use Rattle.trio_calls_dir.proofs.Then.{all_then}
+use Rattle.trio_session.specs.Asked.{IsAlike, allot_asks, took}
+use Rattle.trio_session.proofs.Alike.{alike_room, alike_then}
+use Rattle.trio_session.specs.Deeds.{as_lent, new_body, new_number, slot_growth, with_slot}
+use Rattle.trio_walk.proofs.Then.{given_all}
+use Rattle.trio_edit_laws.proofs.Alike.{may_alike}
+use Rattle.trio_session.proofs.Others.{fill_alike}
 
 -- What is known of a file that is to be made: the directory is open, and has no such name.
 pub record MayMake (desk : DeskSeen) (s : SessionSeen) (call' : Call) (kind' : Kind) (path' : Path) (mode' : Mode) (dir' : ℕ) : Type 0 where
@@ -115,7 +120,7 @@ some_lowest (x ∷ []) e = (x, refl)
 some_lowest (x ∷ (y ∷ ys)) e = absurd (omega (arith, e))
 
 module _ {D : Type 0} (called : D → Ask → Told → D → Type 0) (seen : D → DeskSeen) (d : D) (s : SessionSeen) (call : Call) (kind : Kind) (path : Path) (mode : Mode) (dir : ℕ) (m : MayMake (seen d) s call kind path mode dir)
-    (d' : D) (s1 : SessionSeen) (result : Result (Option Reply) Stop) (r : MadeRoom called seen d s dir 1 result d' s1) where
+    (d' : D) (s1 : SessionSeen) (result : Result Unit AllotFault) (r : MadeRoom called seen d s dir 1 result d' s1) where
   abbrev w : Wanted called seen d s r.given r.last d' s1
   w = r.wanted
 
@@ -199,72 +204,53 @@ module _ {D : Type 0} (called : D → Ask → Told → D → Type 0) (seen : D �
   may1 : spare_pages s1 ≡ [] → spare_numbers s1 ≡ [] → MayCall (seen d') s1
   may1 spent numbers = record { edits = w.may.edits; comes = w.may.comes; made = w.may.made; spent = spent; spent_numbers = numbers }
 
-  refused_asks : (fault : AllotFault) → IsRefused (slot_growth s dir) 1 fault r.given r.last s1 → allot_asks (slot_growth s dir) 1 ≡ map (λ (c : desk_calls.Call). c.ask) (r.given ++ r.last)
-  refused_asks fault x = x.asks ∙ sym (ap (λ (l : List desk_calls.Call). map ask (l ++ r.last)) x.none ∙ ap (map ask) x.told)
-
   after_lack : (reply : Reply) → LacksRoom call reply → spare_pages s1 ≡ [] → spare_numbers s1 ≡ [] → MayCall (seen d') (noted call reply 0 s1)
   after_lack reply lacks spent numbers =
       may_looked (seen d') s1 call reply (may1 spent numbers)
       (λ nodes rows p.
       no_room_to_make (seen d') (record { call = call; reply = reply; made = 0 }) (batch_nodes (seen d').creds s1.calls nodes) path dir (comes1 nodes rows p) (ap makes_file m.call ∙ makes_it kind path mode) (free1 nodes rows p) lacks refl)
 
-  pub lacked_goes : (reply : Reply) → result ≡ Ok (Some reply) → Goes called seen d s call (λ now. []) (Replied reply) 0 d' s1
-  lacked_goes reply is = by reply (subst (λ q. RoomEnds dir (slot_growth s dir) 1 r.given r.last q all s1) is r.ends)
+  pub lacked_goes : (fault : AllotFault) → result ≡ Err fault → Goes called seen d s call (λ now. []) (try_ends (without_file (allot_reply fault))) (number_made (without_file (allot_reply fault))) d' s1
+  lacked_goes fault is = by fault (subst (λ q. RoomEnds dir (slot_growth s dir) 1 r.given r.last q all s1) is r.ends)
     where
-      may_lack_pages : (wanted free : ℕ) → free < wanted → LacksRoom call (NoSpace wanted free)
-      may_lack_pages wanted free less = subst (λ c. LacksRoom c (NoSpace wanted free)) (sym m.call) (at kind)
+      lacks_pages : (wanted free : ℕ) → free < wanted → LacksRoom call (NoSpace wanted free)
+      lacks_pages wanted free less = subst (λ c. LacksRoom c (NoSpace wanted free)) (sym m.call) (at kind)
         where
           at : (k : Kind) → LacksRoom (making k path mode) (NoSpace wanted free)
           at Directory = (refl, less)
           at Regular = (refl, less)
 
-      may_lack_numbers : (wanted free : ℕ) → free < wanted → LacksRoom call (NoInodes wanted free)
-      may_lack_numbers wanted free less = (ap makes_file m.call ∙ makes_it kind path mode, less)
+      lacks_numbers : (wanted free : ℕ) → free < wanted → LacksRoom call (NoInodes wanted free)
+      lacks_numbers wanted free less = (ap makes_file m.call ∙ makes_it kind path mode, less)
 
-      by : (reply : Reply) → RoomEnds dir (slot_growth s dir) 1 r.given r.last (Ok (Some reply)) (took s (map (λ (c : desk_calls.Call). c.told) r.given)) s1 → Goes called seen d s call (λ now. []) (Replied reply) 0 d' s1
-      by (NoSpace wanted free) x =
+      by : (f : AllotFault) → RoomEnds dir (slot_growth s dir) 1 r.given r.last (Err f) (took s (map (λ (c : desk_calls.Call). c.told) r.given)) s1
+          → Goes called seen d s call (λ now. []) (try_ends (without_file (allot_reply f))) (number_made (without_file (allot_reply f))) d' s1
+      by (NoPages wanted free) x =
+          let told = told_fault (slot_growth s dir) 1 r.given r.last s1 (NoPages wanted free) x.0 (λ e. absurd (cc e)) in
           goes_by (Replied (NoSpace wanted free)) 0 s1 refl stays
-          (1, x.0.told ∙ ap (λ k. record { ask = Allot k 1; told = NotGiven (NoPages wanted free) } ∷ []) (sym x.1)) x.3 refl (refused_asks (NoPages wanted free) x.0) (
-            after_lack (NoSpace wanted free) (may_lack_pages wanted free x.2) x.0.spent x.0.spent_numbers,
-            x.4,
+          (1, told.told ∙ ap (λ k. record { ask = Allot k 1; told = NotGiven (NoPages wanted free) } ∷ []) (sym told.lack.0)) x.1 refl (asks_fault (slot_growth s dir) 1 r.given r.last s1 (NoPages wanted free) x.0.none told) (
+            after_lack (NoSpace wanted free) (lacks_pages wanted free told.lack.1) x.0.spent x.0.spent_numbers,
+            x.2 (λ e. absurd (cc e)),
             tt,
             λ n. absurd n,
           )
-      by (NoInodes wanted free) x =
+      by (NoFreeInodes wanted free) x =
+          let told = told_fault (slot_growth s dir) 1 r.given r.last s1 (NoFreeInodes wanted free) x.0 (λ e. absurd (cc e)) in
           goes_by (Replied (NoInodes wanted free)) 0 s1 refl stays
-          (slot_growth s dir, x.0.told ∙ ap (λ k. record { ask = Allot (slot_growth s dir) k; told = NotGiven (NoFreeInodes wanted free) } ∷ []) (sym x.1)) x.3 refl (refused_asks (NoFreeInodes wanted free) x.0) (
-            after_lack (NoInodes wanted free) (may_lack_numbers wanted free x.2) x.0.spent x.0.spent_numbers,
-            x.4,
+          (slot_growth s dir, told.told ∙ ap (λ k. record { ask = Allot (slot_growth s dir) k; told = NotGiven (NoFreeInodes wanted free) } ∷ []) (sym told.lack.0)) x.1 refl (asks_fault (slot_growth s dir) 1 r.given r.last s1 (NoFreeInodes wanted free) x.0.none told) (
+            after_lack (NoInodes wanted free) (lacks_numbers wanted free told.lack.1) x.0.spent x.0.spent_numbers,
+            x.2 (λ e. absurd (cc e)),
             tt,
             λ n. absurd n,
           )
-      by (IsReplied answer) x = absurd x
-      by NotFound x = absurd x
-      by Exists x = absurd x
-      by NotDir x = absurd x
-      by IsDir x = absurd x
-      by NotEmpty x = absurd x
-      by Denied x = absurd x
-      by IntoItself x = absurd x
-      by TooLarge x = absurd x
-
-  pub stopped_goes : (stop : Stop) → result ≡ Err stop → Goes called seen d s call (λ now. []) (try_ends (Err stop)) 0 d' s1
-  stopped_goes stop is = by stop (subst (λ q. RoomEnds dir (slot_growth s dir) 1 r.given r.last q all s1) is r.ends)
-    where
-      by : (k : Stop) → RoomEnds dir (slot_growth s dir) 1 r.given r.last (Err k) (took s (map (λ (c : desk_calls.Call). c.told) r.given)) s1 → Goes called seen d s call (λ now. []) (try_ends (Err k)) 0 d' s1
-      by LacksMemory x =
-          goes_by NoMemory 0 s1 refl stays x.0.ends x.1 refl
-          (x.0.asks.0, x.0.asks.1 ∙ ap (λ (l : List desk_calls.Call). map ask (l ++ r.last) ++ x.0.asks.0) (sym x.0.none)) (may1 x.0.spent x.0.spent_numbers)
-      by (IsBusy holder) x = absurd x
-
-  -- a stop that isn't Busy
-  pub never_busy : (stop : Stop) → result ≡ Err stop → (holder : Holder) → stop ≡ IsBusy holder → ⊥
-  never_busy stop is holder e = subst (λ q. RoomEnds dir (slot_growth s dir) 1 r.given r.last q all s1) (is ∙ ap Err e) r.ends
+      by NoAllotMemory x =
+          goes_by NoMemory 0 s1 refl stays (short_ends (slot_growth s dir) 1 r.last (elim x.0.ends [ inl told ↦ inl told.told | inr none ↦ inr none.0 ])) x.1 refl
+          (asks_short (slot_growth s dir) 1 r.given r.last s1 x.0) (may1 x.0.spent x.0.spent_numbers)
 
   -- ---- a number was given
 
-  module _ (given_all : result ≡ Ok None) where
-    ends : RoomEnds dir (slot_growth s dir) 1 r.given r.last (Ok None) (took s (map (λ (c : desk_calls.Call). c.told) r.given)) s1
+  module _ (given_all : result ≡ Ok tt) where
+    ends : RoomEnds dir (slot_growth s dir) 1 r.given r.last (Ok tt) (took s (map (λ (c : desk_calls.Call). c.told) r.given)) s1
     ends = subst (λ q. RoomEnds dir (slot_growth s dir) 1 r.given r.last q all s1) given_all r.ends
 
     abbrev numbers : HasNumbers s1 1

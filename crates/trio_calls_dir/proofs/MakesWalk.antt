@@ -21,7 +21,7 @@ use Rattle.trio_walk.specs.declared.walks.WalkEnd.{WalkEnd}
 use Rattle.trio_walk.specs.declared.walks.WalkEnd.TheVariants.{At}
 use Rattle.trio_walk.specs.Needs.{into_needs, reached_by, dir_needs}
 use Rattle.trio_walk.specs.Walks.{InAllShown, IsStopped, MayWalk, Walked, WalksInto, shows_root}
-use Rattle.trio_walk.specs.Asks.{IsAlike, IsNotBusy}
+use Rattle.trio_walk.specs.Asks.{IsNotBusy}
 use Rattle.trio_walk.specs.declared.outcome.Outcome.{Outcome}
 use Rattle.trio_walk.specs.declared.outcome.Outcome.TheVariants.{Busy}
 use Rattle.trio_calls_dir.specs.declared.replies.Replied as replied
@@ -29,10 +29,11 @@ use Rattle.trio_walk.specs.declared.outcome.Stop.{Stop}
 use Rattle.trio_walk.specs.declared.outcome.Stop.TheVariants.{NoMemory as LacksMemory}
 use Rattle.trio_calls_dir.specs.inner.Goes.{Goes, StopsBy, making, number_made, try_ends}
 use Rattle.trio_walk.specs.Tries.{OthersHold}
-use Rattle.trio_calls_dir.proofs.Alike.{may_alike}
 use Rattle.trio_calls_dir.proofs.Ends.{refused_goes}
 use Rattle.trio_calls_dir.proofs.Entered.{IsOneName, comes_into, one_goes, one_stops}
 use Rattle.trio_calls_dir.proofs.Walked.{way_may}
+use Rattle.trio_session.specs.Asked.{IsAlike}
+use Rattle.trio_edit_laws.proofs.Alike.{may_alike}
 
 -- the call is on one name, and its directory is written
 making_one : (kind : Kind) (path : Path) (mode : Mode) → is_root path ≡ false → IsOneName (making kind path mode) path

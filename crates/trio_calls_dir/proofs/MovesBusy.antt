@@ -45,8 +45,8 @@ use Rattle.trio_calls_dir.proofs.MovesWalk.{shown_tree, still_out}
 use Rattle.trio_calls_dir.proofs.OnWay.{IsOnWay, into_alike, not_below, on_way, root_entered}
 use Rattle.trio_calls_dir.proofs.Others.{nothing_own}
 use Rattle.trio_calls_dir.proofs.OwnBusy.{Excludes, busy_by, lent_number, off_more}
-use Rattle.trio_calls_dir.proofs.Then.{possible_then}
 use Rattle.trio_calls_dir.proofs.Walked.{way_calls, way_more, way_same}
+use Rattle.trio_walk.proofs.Then.{possible_then}
 
 -- what is needed of a file that moves is a hold on it
 moving_need : (now : Nodes) (from to : Path) (dir new_dir : ℕ) (x : Needed) → In x (moving_needs now from to dir new_dir) → (find_named now dir (name_of from) ≡ Some x.ino) × (x.kind ≡ Hold)

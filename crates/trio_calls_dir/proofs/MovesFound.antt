@@ -20,7 +20,7 @@ use Rattle.trio_session.specs.Seen.{SessionSeen, place_shown}
 use Rattle.trio_walk.specs.declared.met.Met.{Met}
 use Rattle.trio_walk.specs.Needs.{Needed, asked, node_needs, moving_needs}
 use Rattle.trio_walk.specs.Walks.{FindsEntry, InAllShown, IsMetIn, LooksUp, MayLookIn, served_by}
-use Rattle.trio_walk.specs.Asks.{IsAlike, grant_ask}
+use Rattle.trio_walk.specs.Asks.{grant_ask}
 use Rattle.trio_walk.specs.declared.outcome.Outcome.{Outcome}
 use Rattle.trio_walk.specs.declared.outcome.Outcome.TheVariants.{Busy, NoMemory, Replied}
 use Rattle.trio_calls_dir.specs.declared.replies.Replied as replied
@@ -28,12 +28,14 @@ use Rattle.trio_walk.specs.declared.outcome.Stop.{Stop}
 use Rattle.trio_walk.specs.declared.outcome.Stop.TheVariants.{NoMemory as LacksMemory}
 use Rattle.trio_calls_dir.specs.inner.Goes.{Goes, Went, number_made, try_ends}
 use Rattle.trio_calls_dir.specs.inner.Moves.{IsAcross, IsFound, IsFree, NeedsBusyAt}
-use Rattle.trio_calls_dir.proofs.Alike.{alike_finds, may_alike}
 use Rattle.trio_calls_dir.proofs.Ends.{refused_goes}
 use Rattle.trio_calls_dir.proofs.Entered.{open_alike}
 use Rattle.trio_calls_dir.proofs.OwnBusy.{busy_by}
 use Rattle.trio_calls_dir.proofs.RemovesWalk.{finds_alike}
 use Rattle.trio_calls_dir.proofs.Then.{goes_on}
+use Rattle.trio_session.specs.Asked.{IsAlike}
+use Rattle.trio_session.proofs.Alike.{alike_finds}
+use Rattle.trio_edit_laws.proofs.Alike.{may_alike}
 
 -- ---- after a look-up
 

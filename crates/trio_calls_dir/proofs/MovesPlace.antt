@@ -46,11 +46,12 @@ use Rattle.trio_edit_laws.proofs.directories.Moves.{move_leaves, move_shows}
 use Rattle.trio_walk.specs.declared.met.Met.{Met}
 use Rattle.trio_walk.specs.Walks.{InAllShown}
 use Rattle.trio_walk.specs.Asks.{noted}
-use Rattle.trio_calls_dir.specs.Asks.{moved_shown}
-use Rattle.trio_calls_dir.specs.inner.Moves.{BringsMade, IsRename, MayMove, MayPut}
+use Rattle.trio_calls_dir.specs.inner.Moves.{IsRename, MayMove}
+use Rattle.trio_deeds.specs.Slots.{BringsMade, MayPut}
 use Rattle.trio_calls_dir.proofs.EditDone.{as_done, may_done}
 use Rattle.trio_calls_dir.proofs.Possible.{possible_clear, possible_filled}
 use Rattle.trio_calls_dir.proofs.TreeAlike.{changed_alike, tree_alike}
+use Rattle.trio_session.specs.Deeds.{moved_shown}
 
 -- ---- what it takes with it
 

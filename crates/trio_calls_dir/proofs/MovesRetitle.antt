@@ -29,15 +29,14 @@ use Rattle.trio_edit_laws.proofs.directories.Retitled.{retitle_leaves, retitle_s
 use Rattle.trio_walk.specs.declared.met.Met.{Met}
 use Rattle.trio_walk.specs.Needs.{asked, moving_needs}
 use Rattle.trio_walk.specs.Walks.{InAllShown, served_by}
-use Rattle.trio_walk.specs.Asks.{IsAlike, allot_asks, grant_ask, noted}
+use Rattle.trio_walk.specs.Asks.{grant_ask, noted}
 use Rattle.trio_walk.specs.declared.outcome.Outcome.TheVariants.{Replied}
 use Rattle.trio_calls_dir.specs.declared.replies.Replied as replied
 use Rattle.trio_walk.specs.declared.outcome.Stop.{Stop}
 use Rattle.trio_walk.specs.declared.outcome.Stop.TheVariants.{NoMemory as LacksMemory}
-use Rattle.trio_calls_dir.specs.Asks.{ComesBy, ComesTo, Target, edited, made_by, moved, slot_growth, wants_of}
+use Rattle.trio_calls_dir.specs.Asks.{ComesBy, ComesTo, Target, edited, made_by, moved, wants_of}
 use Rattle.trio_calls_dir.specs.inner.Goes.{Goes, number_made, try_ends}
 use Rattle.trio_calls_dir.specs.inner.Moves.{IsAcross, IsFound, IsFree, IsRename, both_dirs}
-use Rattle.trio_calls_dir.proofs.Alike.{alike_room, alike_then, may_alike}
 use Rattle.trio_calls_dir.proofs.EditDone.{as_done, may_done}
 use Rattle.trio_calls_dir.proofs.Ends.{lacks}
 use Rattle.trio_calls_dir.proofs.MovesFound.{stays_needs}
@@ -45,6 +44,10 @@ use Rattle.trio_calls_dir.proofs.MovesWalk.{writes_are}
 use Rattle.trio_calls_dir.proofs.Possible.{possible_retitle}
 use Rattle.trio_calls_dir.proofs.Then.{edited_alike}
 use Rattle.trio_calls_dir.proofs.TreeAlike.{changed_alike, tree_alike}
+use Rattle.trio_session.specs.Asked.{IsAlike, allot_asks}
+use Rattle.trio_session.proofs.Alike.{alike_room, alike_then}
+use Rattle.trio_session.specs.Deeds.{slot_growth}
+use Rattle.trio_edit_laws.proofs.Alike.{may_alike}
 
 module _ (desk : DeskSeen) (s : SessionSeen) (call : Call) (from to : Path) (dir : ℕ) (file : Met) (r : IsRename call from to) (a : IsAcross desk s call from to dir dir) (f : IsFound desk s from dir file) (free : IsFree desk s to dir) where
   abbrev place : Place

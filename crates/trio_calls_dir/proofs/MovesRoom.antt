@@ -9,13 +9,13 @@ use Rattle.trio_rights.specs.declared.rights.Creds.{Creds}
 use Rattle.trio_lists.specs.Lists.{In}
 use Rattle.trio_auxdir.specs.declared.place.Place.{Place}
 use Rattle.trio_nodes.specs.declared.answers.AllotFault.{AllotFault}
-use Rattle.trio_nodes.specs.declared.answers.AllotFault.TheVariants.{NoPages}
+use Rattle.trio_nodes.specs.declared.answers.AllotFault.TheVariants.{NoInodes as NoFreeInodes, NoPages, NoMemory as NoAllotMemory}
 use Rattle.trio_nodes.specs.declared.call.Answer.TheVariants.{Done as IsDone}
 use Rattle.trio_nodes.specs.declared.call.Call.{Call}
 use Rattle.trio_nodes.specs.declared.call.Call.TheVariants.{Rename, Unlink}
 use Rattle.trio_nodes.specs.declared.call.Done.{Done}
 use Rattle.trio_nodes.specs.declared.call.Reply.{Reply}
-use Rattle.trio_nodes.specs.declared.call.Reply.TheVariants.{Ok as IsReplied, NotFound, Exists, NotDir, IsDir, NotEmpty, Denied, IntoItself, NoSpace, NoInodes, TooLarge}
+use Rattle.trio_nodes.specs.declared.call.Reply.TheVariants.{Ok as IsReplied, NoSpace}
 use Rattle.trio_nodes.specs.Nodes.{Nodes, find_named}
 use Rattle.trio_nodes.specs.Walk.{Path, dir_of, name_of, walk_into}
 use Rattle.trio_nodes.specs.After.{batch_nodes}
@@ -27,28 +27,36 @@ use Rattle.trio_desk.specs.Ready.{ArePossible}
 use Rattle.trio_laws.specs.session.DirCalls.{ComesAcross, write_paths}
 use Rattle.trio_laws.proofs.session.DirCalls.{moves_entry, no_room_to_move}
 use Rattle.trio_session.specs.Seen.{IsOpenDir, MadeFile, SessionSeen, clear, empty_shown, fill, in_hand, retitle, spare_numbers, spare_pages}
+use Rattle.trio_edit_laws.specs.Allotting.{Wanted}
 use Rattle.trio_edit_laws.specs.Calls.{MayCall}
+use Rattle.trio_edit_laws.proofs.Allotting.{asks_fault, asks_short, told_fault}
 use Rattle.trio_walk.specs.declared.met.Met.{Met}
 use Rattle.trio_walk.specs.Walks.{InAllShown}
-use Rattle.trio_walk.specs.Asks.{AskedBy, IsAlike, TryEnds, allot_asks, noted, took}
+use Rattle.trio_walk.specs.Asks.{AskedBy, TryEnds, noted}
+use Rattle.trio_walk.specs.Tries.{allot_reply}
+use Rattle.trio_walk.proofs.Then.{short_ends}
 use Rattle.trio_walk.specs.declared.outcome.Outcome.{Outcome}
 use Rattle.trio_walk.specs.declared.outcome.Outcome.TheVariants.{Busy, NoMemory, Replied}
-use Rattle.trio_walk.specs.declared.outcome.Stop.{Stop}
-use Rattle.trio_walk.specs.declared.outcome.Stop.TheVariants.{Busy as IsBusy, NoMemory as LacksMemory}
-use Rattle.trio_calls_dir.specs.Asks.{ComesBy, ComesTo, Target, as_lent, edited, made_by, moved, moved_shown, pages_for, slot_growth, wants_of, with_slot}
-use Rattle.trio_calls_dir.specs.inner.Goes.{AfterTry, Goes, IsNumber, LeavesHere, try_ends}
-use Rattle.trio_calls_dir.specs.inner.Moves.{IsRename, MayMove, MayPut, PutFile, both_dirs}
-use Rattle.trio_calls_dir.specs.inner.Rooms.{HasPlaces, IsRefused, MadeRoom, RoomEnds, Wanted}
-use Rattle.trio_calls_dir.proofs.Alike.{alike_then, may_alike}
+use Rattle.trio_calls_dir.specs.Asks.{ComesBy, ComesTo, Target, edited, made_by, moved, pages_for, wants_of}
+use Rattle.trio_calls_dir.specs.inner.Goes.{AfterTry, Goes, IsNumber, LeavesHere, number_made, try_ends, without_file}
+use Rattle.trio_calls_dir.specs.inner.Moves.{IsRename, MayMove, both_dirs}
+use Rattle.trio_deeds.specs.Slots.{MayPut, PutFile}
+use Rattle.trio_calls_dir.specs.inner.Rooms.{HasPlaces, MadeRoom, RoomEnds}
 use Rattle.trio_calls_dir.proofs.EditDone.{as_done}
 use Rattle.trio_calls_dir.proofs.Ends.{may_looked}
 use Rattle.trio_calls_dir.proofs.MovesPlace.{may_put, move_calls, move_changes, move_noted}
-use Rattle.trio_calls_dir.proofs.MovesTakes.{made_numbers, no_more, slot_used, takes_still, took_used}
+use Rattle.trio_calls_dir.proofs.MovesTakes.{made_numbers, slot_used, takes_still, took_used}
 use Rattle.trio_calls_dir.proofs.MovesWalk.{writes_are}
-use Rattle.trio_calls_dir.proofs.Then.{all_then, edited_alike, fill_alike}
+use Rattle.trio_calls_dir.proofs.Then.{all_then, edited_alike}
+use Rattle.trio_session.specs.Asked.{IsAlike, allot_asks, took}
+use Rattle.trio_session.proofs.Alike.{alike_then}
+use Rattle.trio_session.specs.Deeds.{as_lent, moved_shown, slot_growth, with_slot}
+use Rattle.trio_edit_laws.proofs.Alike.{may_alike}
+use Rattle.trio_session.proofs.Others.{fill_alike}
+use Rattle.trio_edit_laws.proofs.WithSlot.{no_length}
 
 module _ {D : Type 0} (called : D → Ask → Told → D → Type 0) (seen : D → DeskSeen) (d : D) (s : SessionSeen) (call : Call) (from to : Path) (dir new_dir : ℕ) (file : Met) (r : IsRename call from to) (m : MayMove (seen d) s call from to dir new_dir file)
-    (d' : D) (s1 : SessionSeen) (result : Result (Option Reply) Stop) (q : MadeRoom called seen d s new_dir 0 result d' s1) where
+    (d' : D) (s1 : SessionSeen) (result : Result Unit AllotFault) (q : MadeRoom called seen d s new_dir 0 result d' s1) where
   abbrev w : Wanted called seen d s q.given q.last d' s1
   w = q.wanted
 
@@ -151,52 +159,38 @@ module _ {D : Type 0} (called : D → Ask → Told → D → Type 0) (seen : D �
       (λ nodes rows p.
       no_room_to_move (seen d') (record { call = call; reply = reply; made = 0 }) (batch_nodes (seen d').creds s1.calls nodes) from to dir new_dir file.ino (comes1 nodes rows p) (named1 nodes rows p) (free1 nodes rows p) lacks refl)
 
-  pub lacked_goes : (reply : Reply) → result ≡ Ok (Some reply) → Goes called seen d s call (λ now. []) (Replied reply) 0 d' s1
-  lacked_goes reply is = by reply (subst (λ x. RoomEnds new_dir (slot_growth s new_dir) 0 q.given q.last x all s1) is q.ends)
+  pub lacked_goes : (fault : AllotFault) → result ≡ Err fault → Goes called seen d s call (λ now. []) (try_ends (without_file (allot_reply fault))) (number_made (without_file (allot_reply fault))) d' s1
+  lacked_goes fault is = by fault (subst (λ x. RoomEnds new_dir (slot_growth s new_dir) 0 q.given q.last x all s1) is q.ends)
     where
-      refused_asks : (fault : AllotFault) → IsRefused (slot_growth s new_dir) 0 fault q.given q.last s1 → allot_asks (slot_growth s new_dir) 0 ≡ map (λ (c : desk_calls.Call). c.ask) (q.given ++ q.last)
-      refused_asks fault x = x.asks ∙ sym (ap (λ (l : List desk_calls.Call). map ask (l ++ q.last)) x.none ∙ ap (map ask) x.told)
-
-      by : (reply : Reply) → RoomEnds new_dir (slot_growth s new_dir) 0 q.given q.last (Ok (Some reply)) (took s (map (λ (c : desk_calls.Call). c.told) q.given)) s1 → Goes called seen d s call (λ now. []) (Replied reply) 0 d' s1
-      by (NoSpace wanted free) x =
+      by : (f : AllotFault) → RoomEnds new_dir (slot_growth s new_dir) 0 q.given q.last (Err f) (took s (map (λ (c : desk_calls.Call). c.told) q.given)) s1
+          → Goes called seen d s call (λ now. []) (try_ends (without_file (allot_reply f))) (number_made (without_file (allot_reply f))) d' s1
+      by (NoPages wanted free) x =
+          let told = told_fault (slot_growth s new_dir) 0 q.given q.last s1 (NoPages wanted free) x.0 (λ e. absurd (cc e)) in
           goes_by (Replied (NoSpace wanted free)) s1 refl stays
-          (0, x.0.told ∙ ap (λ k. record { ask = Allot k 0; told = NotGiven (NoPages wanted free) } ∷ []) (sym x.1)) x.3 refl (refused_asks (NoPages wanted free) x.0) (
-            after_lack (NoSpace wanted free) (subst (λ c. LacksRoom c (NoSpace wanted free)) (sym r.on) (refl, x.2)) x.0.spent x.0.spent_numbers,
-            x.4,
+          (0, told.told ∙ ap (λ k. record { ask = Allot k 0; told = NotGiven (NoPages wanted free) } ∷ []) (sym told.lack.0)) x.1 refl (asks_fault (slot_growth s new_dir) 0 q.given q.last s1 (NoPages wanted free) x.0.none told) (
+            after_lack (NoSpace wanted free) (subst (λ c. LacksRoom c (NoSpace wanted free)) (sym r.on) (refl, told.lack.1)) x.0.spent x.0.spent_numbers,
+            x.2 (λ e. absurd (cc e)),
             tt,
             λ n. absurd n,
           )
-      by (NoInodes wanted free) x = (let less = x.2 in let none = x.1 in absurd (omega (arith, less, none)))
-      by (IsReplied answer) x = absurd x
-      by NotFound x = absurd x
-      by Exists x = absurd x
-      by NotDir x = absurd x
-      by IsDir x = absurd x
-      by NotEmpty x = absurd x
-      by Denied x = absurd x
-      by IntoItself x = absurd x
-      by TooLarge x = absurd x
-
-  pub stopped_goes : (stop : Stop) → result ≡ Err stop → Goes called seen d s call (λ now. []) (try_ends (Err stop)) 0 d' s1
-  stopped_goes stop is = by stop (subst (λ x. RoomEnds new_dir (slot_growth s new_dir) 0 q.given q.last x all s1) is q.ends)
-    where
-      by : (k : Stop) → RoomEnds new_dir (slot_growth s new_dir) 0 q.given q.last (Err k) (took s (map (λ (c : desk_calls.Call). c.told) q.given)) s1 → Goes called seen d s call (λ now. []) (try_ends (Err k)) 0 d' s1
-      by LacksMemory x =
-          goes_by NoMemory s1 refl stays x.0.ends x.1 refl
-          (x.0.asks.0, x.0.asks.1 ∙ ap (λ (l : List desk_calls.Call). map ask (l ++ q.last) ++ x.0.asks.0) (sym x.0.none)) (may1 x.0.spent x.0.spent_numbers)
-      by (IsBusy holder) x = absurd x
+      by (NoFreeInodes wanted free) x =
+          let told = told_fault (slot_growth s new_dir) 0 q.given q.last s1 (NoFreeInodes wanted free) x.0 (λ e. absurd (cc e)) in
+          (let none = told.lack.0 in let less = told.lack.1 in absurd (omega (arith, less, none)))
+      by NoAllotMemory x =
+          goes_by NoMemory s1 refl stays (short_ends (slot_growth s new_dir) 0 q.last (elim x.0.ends [ inl told ↦ inl told.told | inr none ↦ inr none.0 ])) x.1 refl
+          (asks_short (slot_growth s new_dir) 0 q.given q.last s1 x.0) (may1 x.0.spent x.0.spent_numbers)
 
   -- ---- there is room
 
-  module _ (is : result ≡ Ok None) where
-    ends : RoomEnds new_dir (slot_growth s new_dir) 0 q.given q.last (Ok None) (took s (map (λ (c : desk_calls.Call). c.told) q.given)) s1
+  module _ (is : result ≡ Ok tt) where
+    ends : RoomEnds new_dir (slot_growth s new_dir) 0 q.given q.last (Ok tt) (took s (map (λ (c : desk_calls.Call). c.told) q.given)) s1
     ends = subst (λ x. RoomEnds new_dir (slot_growth s new_dir) 0 q.given q.last x all s1) is q.ends
 
     places : HasPlaces s1 new_dir
     places = ends.5
 
     no_numbers : spare_numbers s1 ≡ []
-    no_numbers = no_more (spare_numbers s1) ends.4.many
+    no_numbers = no_length (spare_numbers s1) ends.4.many
 
     may2 : MayCall (seen d') s1
     may2 = may1 ends.3 no_numbers

@@ -1,5 +1,5 @@
 -- What a file takes with it is there still once there is room for it.
-use Rattle.std.proofs.Common.{◌≡◌, ℕ, ◌+◌, ◌||◌, arith, Bool, true, false, cond, eqb, List, [], ◌∷◌, ◌++◌, length, Option, Some, None, sym, refl, ap, ◌∙◌, subst, inl, inr}
+use Rattle.std.proofs.Common.{◌≡◌, ℕ, ◌+◌, ◌||◌, Bool, true, false, cond, eqb, List, [], ◌∷◌, ◌++◌, length, Option, Some, None, sym, refl, ap, ◌∙◌, subst, inl, inr}
 use Rattle.std.specs.Prelude.{is_some, map, not, slice_set, take}
 use Rattle.std.specs.List.{find}
 use Rattle.std.specs.Option.{option_map, option_map_or, option_or}
@@ -14,12 +14,11 @@ use Rattle.trio_lease.specs.declared.lease.Lease.TheVariants.{Write as WriteLeas
 use Rattle.trio_lease.specs.declared.parts.HoldParts.{HoldParts}
 use Rattle.trio_desk.specs.Call.{DeskSeen, Told, Lent, NotLent, Given, NotGiven, Done, Judged, NotJudged, Settled, NotSettled, ModeSet, NotModeSet}
 use Rattle.trio_desk.specs.Out.{ino_numbers}
-use Rattle.trio_session.specs.Asked.{with_allotted, with_lease}
+use Rattle.trio_session.specs.Asked.{with_allotted, with_lease, took}
 use Rattle.trio_session.specs.Layout.{chain_grown, growth, size_in}
 use Rattle.trio_session.specs.Seen.{MadeFile, SessionSeen, body_in, chain_in, empty_shown, grown, held_file, is_allotted, made_body, made_chained, made_file, place_in, spare_numbers, spare_pages, used_numbers, with_chain}
 use Rattle.trio_edit_laws.specs.Written.{MayEdit}
-use Rattle.trio_walk.specs.Asks.{took}
-use Rattle.trio_calls_dir.specs.Asks.{moved_shown, with_slot}
+use Rattle.trio_session.specs.Deeds.{moved_shown, with_slot}
 
 -- ---- files that were made are made still
 
@@ -94,10 +93,6 @@ found_among (m ∷ ms) n = by (found_among ms n) (eqb m.ino n)
 map-append-made : (a b : List MadeFile) → map (λ (m : MadeFile). m.ino) (a ++ b) ≡ map (λ (m : MadeFile). m.ino) a ++ map (λ (m : MadeFile). m.ino) b
 map-append-made [] b = refl
 map-append-made (m ∷ a) b = ap (λ l. m.ino ∷ l) (map-append-made a b)
-
-pub no_more : (xs : List ℕ) → length xs ≡ 0 → xs ≡ []
-no_more [] e = refl
-no_more (x ∷ xs) e = absurd (omega (arith, e))
 
 -- ---- what it takes
 

@@ -18,13 +18,14 @@ use Rattle.trio_session.specs.Seen.{SessionSeen}
 use Rattle.trio_edit_laws.specs.Calls.{MayCall}
 use Rattle.trio_walk.specs.Walks.{shows_root}
 use Rattle.trio_desk.specs.Calls as desk_calls
-use Rattle.trio_walk.specs.Asks.{IsAlike, TryEnds, noted, took}
+use Rattle.trio_walk.specs.Asks.{TryEnds, noted}
 use Rattle.trio_walk.specs.Tries.{TakesMemory}
 use Rattle.trio_walk.specs.declared.outcome.Outcome.{Outcome}
 use Rattle.trio_walk.specs.declared.outcome.Outcome.TheVariants.{Replied, Busy, NoMemory}
 use Rattle.trio_calls_dir.specs.Asks.{DirTried, Leaves, Target, TriedIn, edited}
 use Rattle.trio_walk.specs.Needs.{dir_needs}
 use Rattle.trio_calls_dir.specs.inner.Goes.{Goes, IsNames, IsNumber, IsOfDir, LeavesHere}
+use Rattle.trio_session.specs.Asked.{IsAlike, took}
 
 -- ---- what is left
 

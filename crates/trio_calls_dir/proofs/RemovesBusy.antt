@@ -16,7 +16,6 @@ use Rattle.trio_session.specs.Seen.{SessionSeen}
 use Rattle.trio_walk.specs.declared.walks.WalkEnd.TheVariants.{At}
 use Rattle.trio_walk.specs.Needs.{Needed, asked, into_needs}
 use Rattle.trio_walk.specs.Walks.{InAllShown, IsOwnBusy, MayWalk, Walked, WalksInto, need_of, served_by, shows_root, with_leases}
-use Rattle.trio_walk.specs.Asks.{IsAlike}
 use Rattle.trio_walk.specs.declared.outcome.Outcome.{Outcome}
 use Rattle.trio_walk.specs.declared.outcome.Outcome.TheVariants.{Replied, Busy, NoMemory}
 use Rattle.trio_walk.proofs.Agreeing.{asked_beside-In}
@@ -25,6 +24,7 @@ use Rattle.trio_calls_dir.specs.inner.Removes.{HoldBusyAt, KeepsOff}
 use Rattle.trio_calls_dir.proofs.Others.{nothing_own}
 use Rattle.trio_calls_dir.proofs.OnWay.{not_below}
 use Rattle.trio_calls_dir.proofs.OwnBusy.{busy_by, lent_number, off_more}
+use Rattle.trio_session.specs.Asked.{IsAlike}
 
 -- ---- the second try
 

@@ -38,20 +38,22 @@ use Rattle.trio_edit_laws.proofs.directories.Cleared.{clear_leaves, clear_shows}
 use Rattle.trio_edit_laws.proofs.directories.Sees.{sees_directory}
 use Rattle.trio_walk.specs.declared.met.Met.{Met}
 use Rattle.trio_walk.specs.Walks.{InAllShown}
-use Rattle.trio_walk.specs.Asks.{IsAlike, noted}
+use Rattle.trio_walk.specs.Asks.{noted}
 use Rattle.trio_walk.specs.declared.outcome.Outcome.TheVariants.{Replied}
 use Rattle.trio_calls_dir.specs.declared.replies.Replied as replied
 use Rattle.trio_walk.specs.declared.outcome.Stop.{Stop}
 use Rattle.trio_walk.specs.declared.outcome.Stop.TheVariants.{NoMemory as LacksMemory}
 use Rattle.trio_calls_dir.specs.Asks.{ComesBy, ComesTo, Target, edited, made_by, wants_of}
 use Rattle.trio_calls_dir.specs.inner.Goes.{Goes, IsRefusedAs, number_made, removing, try_ends}
-use Rattle.trio_calls_dir.proofs.Alike.{alike_room, alike_then, may_alike}
 use Rattle.trio_calls_dir.proofs.Possible.{possible_clear}
 use Rattle.trio_calls_dir.proofs.EditDone.{as_done, may_done}
 use Rattle.trio_calls_dir.proofs.Ends.{lacks, refused_goes}
 use Rattle.trio_calls_dir.proofs.RemovesCount.{held_count}
 use Rattle.trio_calls_dir.proofs.RemovesTake.{MayClear}
 use Rattle.trio_calls_dir.proofs.Then.{edited_alike}
+use Rattle.trio_session.specs.Asked.{IsAlike}
+use Rattle.trio_session.proofs.Alike.{alike_room, alike_then}
+use Rattle.trio_edit_laws.proofs.Alike.{may_alike}
 
 -- ---- entries that are counted
 

@@ -25,17 +25,17 @@ use Rattle.trio_walk.specs.declared.walks.WalkEnd.{WalkEnd}
 use Rattle.trio_walk.specs.declared.walks.WalkEnd.TheVariants.{At}
 use Rattle.trio_walk.specs.Needs.{Needed, into_needs, node_needs, reached_by, dir_needs, named_needs, removal_needs, removing_needs}
 use Rattle.trio_walk.specs.Walks.{FindsEntry, InAllShown, IsMetIn, IsStopped, MayWalk, Walked, WalksInto, shows_root}
-use Rattle.trio_walk.specs.Asks.{IsAlike}
 use Rattle.trio_walk.specs.declared.outcome.Outcome.{Outcome}
 use Rattle.trio_calls_dir.specs.declared.replies.Replied as replied
 use Rattle.trio_walk.specs.declared.outcome.Stop.{Stop}
 use Rattle.trio_walk.specs.declared.outcome.Stop.TheVariants.{NoMemory as LacksMemory}
 use Rattle.trio_calls_dir.specs.inner.Goes.{Goes, IsRefusal, IsRefusedAs, StopsBy, number_made, removing, try_ends}
 use Rattle.trio_calls_dir.specs.inner.Removes.{other_kind}
-use Rattle.trio_calls_dir.proofs.Alike.{may_alike}
 use Rattle.trio_calls_dir.proofs.Ends.{refused_goes}
 use Rattle.trio_calls_dir.proofs.Entered.{IsOneName, comes_into, one_goes, one_stops, removing_one}
 use Rattle.trio_calls_dir.proofs.Walked.{way_may}
+use Rattle.trio_session.specs.Asked.{IsAlike}
+use Rattle.trio_edit_laws.proofs.Alike.{may_alike}
 
 remove_needs : (kind : Kind) (path : Path) → is_root path ≡ false → (now : Nodes) (creds : Creds) (shown : Bool)
     → dir_needs now creds shown (removing kind path)

@@ -1,59 +1,37 @@
 -- Room for one entry more of a directory: the whole.
-use Rattle.std.proofs.Common.{◌≡◌, ℕ, ◌+◌, ◌%◌, ◌<◌, ◌≤◌, cond, eqb, List, [], length, Option, Some, None, Result, Ok, Err, sym, refl, ap, ◌∙◌, subst, inl, arith}
-use Rattle.std.specs.Prelude.{is_some, map, slice_index_or}
-use Rattle.std.specs.List.{find, position}
-use Rattle.std.specs.Option.{option_map_or}
+use Rattle.std.proofs.Common.{◌≡◌, ℕ, ◌+◌, ◌%◌, ◌<◌, ◌≤◌, List, [], length, None, Result, Ok, Err, sym, refl, ap, ◌∙◌, subst, inr, eqb, arith}
+use Rattle.std.specs.Prelude.{is_some, map}
+use Rattle.std.specs.List.{find}
 use Rattle.std.proofs.lemmas.Bool.{eqb-true}
 use Rattle.trio_lists.specs.Lists.{In}
 use Rattle.trio_rights.specs.declared.kind.Kind.TheVariants.{Directory}
 use Rattle.trio_layout.specs.declared.body.Body.{Body}
 use Rattle.trio_layout.specs.Body.{block_count}
-use Rattle.trio_layout.specs.Chain.{Chain}
-use Rattle.trio_lease.specs.Shown.{LentFile, Shown}
+use Rattle.trio_lease.specs.Shown.{Shown}
 use Rattle.trio_lease.specs.declared.parts.HoldParts.{HoldParts}
+use Rattle.trio_nodes.specs.declared.answers.AllotFault.{AllotFault}
+use Rattle.trio_nodes.specs.declared.answers.AllotFault.TheVariants.{NoMemory}
 use Rattle.trio_nodes.specs.declared.call.Done.{Done}
-use Rattle.trio_nodes.specs.declared.call.Reply.{Reply}
-use Rattle.trio_nodes.specs.declared.call.Reply.TheVariants.{Ok as IsReplied, NotFound, Exists, NotDir, IsDir, NotEmpty, Denied, IntoItself, NoSpace, NoInodes, TooLarge}
-use Rattle.trio_auxdir.specs.Places.{first_empty}
 use Rattle.trio_desk.specs.Call.{Ask, DeskSeen, Told}
 use Rattle.trio_desk.specs.Calls as desk_calls
 use Rattle.trio_desk.specs.Contents.{AreWithinLimits}
 use Rattle.trio_desk.specs.Ready.{ArePossible}
-use Rattle.trio_session.specs.Asked.{IsSame}
-use Rattle.trio_session.specs.Layout.{growth, size_in}
-use Rattle.trio_session.specs.Seen.{IsOpenDir, LeavesPlace, MadeFile, Room, SessionSeen, body_in, chain_in, empty_shown, grant_in, no_chain, room_in, slots_shown, spare_numbers, spare_pages}
+use Rattle.trio_session.specs.Asked.{Allots, IsAlike, IsSame, took}
+use Rattle.trio_session.specs.Deeds.{slot_growth, with_slot}
+use Rattle.trio_session.specs.Layout.{size_in}
+use Rattle.trio_session.specs.Seen.{IsOn, IsOpenDir, LeavesPlace, MadeFile, Room, SessionSeen, body_in, chain_in, empty_shown, grant_in, room_in, spare_numbers, spare_pages}
+use Rattle.trio_session.proofs.Alike.{alike_room, alike_then}
+use Rattle.trio_session.proofs.Others.{slot_alike}
+use Rattle.trio_edit_laws.specs.Allotting.{AllotEnds, Allotted, HasNumbers, NamesStay}
 use Rattle.trio_edit_laws.specs.Calls.{MayCall}
+use Rattle.trio_edit_laws.proofs.Alike.{go_on_alike, may_alike}
+use Rattle.trio_edit_laws.proofs.Allotting.{allotted, allotted_before, growth_files, names_room, names_then, numbers_still, room_files, spent_still, stood}
 use Rattle.trio_edit_laws.proofs.OpenChain.{open_chain}
 use Rattle.trio_edit_laws.proofs.Sized.{size_fits-body_of}
+use Rattle.trio_edit_laws.proofs.WithSlot.{IsSlotted, slotted}
 use Rattle.trio_edit_laws.proofs.directories.Stays.{grant-none, no_grant}
-use Rattle.trio_walk.specs.Asks.{IsAlike, allot_asks, took}
-use Rattle.trio_walk.specs.declared.outcome.Stop.{Stop}
-use Rattle.trio_walk.specs.declared.outcome.Stop.TheVariants.{Busy as IsBusy, NoMemory as LacksMemory}
-use Rattle.trio_calls_dir.specs.Asks.{slot_growth, with_slot}
-use Rattle.trio_calls_dir.specs.inner.Rooms.{AllotEnds, Allotted, FilesStay, HasNumbers, HasPlaces, MadeRoom, MayAddSlot, NamesStay, RoomEnds, Wanted}
-use Rattle.trio_calls_dir.proofs.Alike.{alike_room, alike_then, may_alike}
-use Rattle.trio_calls_dir.proofs.RoomsAllotted.{go_on_alike, may_go_on, names_room, names_then, wanted_none}
-use Rattle.trio_calls_dir.proofs.RoomsGrown.{IsSlotted, slotted}
-use Rattle.trio_calls_dir.proofs.Then.{slot_alike, took_alike}
-
--- ---- files that stay
-
-chain_files : (s s' : SessionSeen) → FilesStay s s' → (n : ℕ) → chain_in s' n ≡ chain_in s n
-chain_files s s' f n =
-    let by : List MadeFile → List Chain → List LentFile → Chain =
-    λ ms cs ws. option_map_or (λ (m : MadeFile). m.chain) (find (λ (m : MadeFile). eqb m.ino n) ms) (option_map_or (λ i. slice_index_or cs i no_chain) (position (λ (w : LentFile). eqb w.stands.ino n) ws) no_chain) in
-    ap (λ ms. by ms s'.chains s'.parcel.writes) f.made ∙ ap (λ cs. by s.made cs s'.parcel.writes) f.chains ∙ ap (by s.made s.chains) f.writes
-
-room_files : (s s' : SessionSeen) → FilesStay s s' → s'.room ≡ s.room → (n : ℕ) → room_in s' n ≡ room_in s n
-room_files s s' f e n =
-    let by : Room → List MadeFile → List LentFile → ℕ =
-    λ k ms ws. option_map_or (λ i. slice_index_or k.made_blocks i 0) (position (λ (m : MadeFile). eqb m.ino n) ms) (option_map_or (λ i. slice_index_or k.blocks i 0) (position (λ (w : LentFile). eqb w.stands.ino n) ws) 0) in
-    ap (λ k. by k s'.made s'.parcel.writes) e ∙ ap (λ ms. by s.room ms s'.parcel.writes) f.made ∙ ap (by s.room s.made) f.writes
-
-growth_files : (s s' : SessionSeen) → FilesStay s s' → (dir : ℕ) → slot_growth s' dir ≡ slot_growth s dir
-growth_files s s' f dir =
-    let by : Chain → List (Option (List ℕ)) → ℕ = λ c l. cond (is_some (first_empty l)) 0 (growth (length c.blocks) (length c.blocks + 1)) in
-    ap (λ c. by c (slots_shown s' dir)) (chain_files s s' f dir) ∙ ap (by (chain_in s dir)) (f.slots dir)
+use Rattle.trio_deeds.specs.Slots.{MayAddSlot}
+use Rattle.trio_calls_dir.specs.inner.Rooms.{HasPlaces, MadeRoom}
 
 -- on what the session has nothing it has nothing still
 grant_stays : (s s' : SessionSeen) (n : ℕ) → NamesStay s s' → grant_in s n ≡ None → grant_in s' n ≡ None
@@ -71,131 +49,65 @@ pub record Places (s : SessionSeen) (dir' blocks' : ℕ) : Type 0 where
 
 module _ {D : Type 0} (called : D → Ask → Told → D → Type 0) (seen : D → DeskSeen) (d : D) (s : SessionSeen) (dir numbers : ℕ) (may : MayCall (seen d) s) (s1 : SessionSeen) (same : IsSame s s1) where
   -- no memory
-  pub room_short : MadeRoom called seen d s dir numbers (Err LacksMemory) d s1
+  pub room_short : MadeRoom called seen d s dir numbers (Err NoMemory) d s1
   room_short = record {
     given = [];
     last = [];
-    wanted = wanted_none called seen d s 0 0 d s1 may [] refl (record { lib = refl; creds = refl; sizes = refl; root = refl }) (may_go_on (seen d) s may) same;
+    wanted = stood called seen d s 0 0 d s1 may refl same;
     lent = refl;
     ends = (
-      record {
-        none = refl;
-        ends = inl refl;
-        asks = (allot_asks (slot_growth s dir) numbers, refl);
-        spent = ap (λ (q : SessionSeen). spare_pages q) same ∙ may.spent;
-        spent_numbers = ap (λ (q : SessionSeen). spare_numbers q) same ∙ may.spent_numbers;
-      },
+      record { none = refl; ends = inr (refl, refl); spent = spent_still called seen d s 0 0 d s1 may same; spent_numbers = numbers_still called seen d s 0 0 d s1 may same },
       alike_room s s1 same,
+      λ other. absurd (other refl),
     );
   }
 
-  -- so it may be asked
-  pub room_may : MayCall (seen d) s1
-  room_may = may_alike (seen d) s s1 (alike_room s s1 same) may
+  module _ (d' : D) (s2 : SessionSeen) (result : Result Unit AllotFault) (room : s2.room ≡ s1.room) (on : IsOn (seen d') s2) (allots : Allots called seen d s1 (slot_growth s dir) numbers result d' s2) where
+    a1 : Allotted called seen d s1 (slot_growth s dir) numbers result d' s2
+    a1 = allotted called seen d s1 (slot_growth s dir) numbers d' s2 (may_alike (seen d) s s1 (alike_room s s1 same) may) result on allots
 
-  pub room_open : IsOpenDir s dir → IsOpenDir s1 dir
-  room_open is = subst (λ (q : SessionSeen). IsOpenDir q dir) (sym same) (record { directory = is.directory; index = is.index })
+    a : Allotted called seen d s (slot_growth s dir) numbers result d' s2
+    a = allotted_before called seen d s s1 (slot_growth s dir) numbers result d' s2 same a1
 
-  module _ (d' : D) (s2 : SessionSeen) (result : Result (Option Reply) Stop) (a : Allotted called seen d s1 (slot_growth s dir) numbers result d' s2) where
     abbrev all : SessionSeen
     all = took s (map (λ (c : desk_calls.Call). c.told) a.given)
 
-    near : IsAlike (took s (map (λ (c : desk_calls.Call). c.told) a.given)) s2
-    near =
-        alike_then all (took s1 (map (λ (c : desk_calls.Call). c.told) a.given)) s2
-        (took_alike s s1 (map (λ (c : desk_calls.Call). c.told) a.given) (alike_room s s1 same)) a.alike
+    calls_room : length s1.calls < s1.room.calls → length s2.calls < s2.room.calls
+    calls_room places = subst (λ (r : Room). length s2.calls < r.calls) (sym room) (subst (λ (l : List Done). length l < s1.room.calls) (sym a1.wanted.calls) places)
 
-    growth_same : slot_growth s1 dir ≡ slot_growth s dir
-    growth_same = ap (λ (q : SessionSeen). slot_growth q dir) same
-
-    abbrev w : Wanted called seen d s1 a.given a.last d' s2
-    w = a.wanted
-
-    stays : NamesStay s s2
-    stays = names_then s s1 s2 (names_room s s1 same) w.stays
-
-    calls : s2.calls ≡ s.calls
-    calls = w.calls ∙ ap (λ (q : SessionSeen). q.calls) same
-
-    wanted : Wanted called seen d s a.given a.last d' s2
-    wanted = record {
-      each = w.each;
-      made = w.made;
-      calls = calls;
-      same = w.same;
-      more = λ nodes rows p. subst (λ (q : SessionSeen). ArePossible (seen d') q.parcel q.reads nodes rows) same (w.more nodes rows p);
-      may = w.may;
-      stays = stays;
+    -- nothing was given
+    pub room_lacked : length s1.calls < s1.room.calls → (fault : AllotFault) → result ≡ Err fault → MadeRoom called seen d s dir numbers (Err fault) d' s2
+    room_lacked places fault is = record {
+      given = a.given;
+      last = a.last;
+      wanted = a.wanted;
+      lent = a.lent s;
+      ends = (subst (λ r. AllotEnds (seen d') (slot_growth s dir) numbers a.given a.last r s2) is a.ends, a.alike, λ other. calls_room places);
     }
-
-    module _ (blocks : ℕ) (places : Places s1 dir blocks) where
-      calls_room : length s2.calls < s2.room.calls
-      calls_room = subst (λ (r : Room). length s2.calls < r.calls) (sym a.room) (subst (λ (l : List Done). length l < s1.room.calls) (sym w.calls) places.calls)
-
-      -- nothing was given
-      pub room_lacked : (reply : Reply) → result ≡ Ok (Some reply) → MadeRoom called seen d s dir numbers (Ok (Some reply)) d' s2
-      room_lacked reply is = record {
-        given = a.given;
-        last = a.last;
-        wanted = wanted;
-        lent = a.lent s;
-        ends = by reply (subst (λ r. AllotEnds (seen d') (slot_growth s dir) numbers a.given a.last r s2) is a.ends);
-      }
-        where
-          by : (r : Reply) → AllotEnds (seen d') (slot_growth s dir) numbers a.given a.last (Ok (Some r)) s2
-              → RoomEnds dir (slot_growth s dir) numbers a.given a.last (Ok (Some r)) (took s (map (λ (c : desk_calls.Call). c.told) a.given)) s2
-          by (NoSpace many free) x = (x.0, x.1, x.2, near, calls_room)
-          by (NoInodes many free) x = (x.0, x.1, x.2, near, calls_room)
-          by (IsReplied answer) x = absurd x
-          by NotFound x = absurd x
-          by Exists x = absurd x
-          by NotDir x = absurd x
-          by IsDir x = absurd x
-          by NotEmpty x = absurd x
-          by Denied x = absurd x
-          by IntoItself x = absurd x
-          by TooLarge x = absurd x
-
-      pub room_stopped : (stop : Stop) → result ≡ Err stop → MadeRoom called seen d s dir numbers (Err stop) d' s2
-      room_stopped stop is = record {
-        given = a.given;
-        last = a.last;
-        wanted = wanted;
-        lent = a.lent s;
-        ends = by stop (subst (λ r. AllotEnds (seen d') (slot_growth s dir) numbers a.given a.last r s2) is a.ends);
-      }
-        where
-          by : (k : Stop) → AllotEnds (seen d') (slot_growth s dir) numbers a.given a.last (Err k) s2
-              → RoomEnds dir (slot_growth s dir) numbers a.given a.last (Err k) (took s (map (λ (c : desk_calls.Call). c.told) a.given)) s2
-          by LacksMemory x = (x, near)
-          by (IsBusy holder) x = absurd x
 
     -- ---- all was given
 
     module _ (is : IsOpenDir s dir) (limits : AreWithinLimits (seen d).sizes) (size : ℕ) (size_is : size ≡ size_in (body_in s dir)) (few : size ≤ 33554432)
-        (places : Places s1 dir (block_count size + 1)) (given_all : result ≡ Ok None) where
-      ends : AllotEnds (seen d') (slot_growth s dir) numbers a.given a.last (Ok None) s2
+        (places : Places s1 dir (block_count size + 1)) (given_all : result ≡ Ok tt) where
+      ends : AllotEnds (seen d') (slot_growth s dir) numbers a.given a.last (Ok tt) s2
       ends = subst (λ r. AllotEnds (seen d') (slot_growth s dir) numbers a.given a.last r s2) given_all a.ends
 
       open2 : IsOpenDir s2 dir
-      open2 = record { directory = stays.opens dir ∙ is.directory; index = subst (λ l. In dir l) (sym stays.indexed) is.index }
-
-      body_same : body_in s2 dir ≡ body_in s dir
-      body_same = a.files.bodies dir Directory ((room_open is).directory) ∙ ap (λ (q : SessionSeen). body_in q dir) same
+      open2 = record { directory = a.wanted.stays.opens dir ∙ is.directory; index = subst (λ l. In dir l) (sym a.wanted.stays.indexed) is.index }
 
       size2 : size ≡ size_in (body_in s2 dir)
-      size2 = size_is ∙ ap size_in (sym body_same)
+      size2 = size_is ∙ ap size_in (sym (a.files.bodies dir Directory is.directory))
 
       whole : size_in (body_in s2 dir) % 4096 ≡ 0
       whole =
-          let c = open_chain (seen d') s2 dir Directory w.may.edits open2.directory in
+          let c = open_chain (seen d') s2 dir Directory a.wanted.may.edits open2.directory in
           ap (λ (b : Body). b.size % 4096) c.at ∙ eqb-true (c.body.size % 4096) 0 (size_fits-body_of Directory (seen d').sizes.range (body_in s2 dir) c.body c.read)
 
       count : block_count (size_in (body_in s2 dir)) ≡ length (chain_in s2 dir).blocks
-      count = (open_chain (seen d') s2 dir Directory w.may.edits open2.directory).count
+      count = (open_chain (seen d') s2 dir Directory a.wanted.may.edits open2.directory).count
 
       pages_are : length (spare_pages s2) ≡ slot_growth s2 dir
-      pages_are = ends.3 ∙ sym (growth_files s1 s2 a.files dir ∙ growth_same)
+      pages_are = ends.3 ∙ sym (growth_files s s2 a.files dir)
 
       pub may_add : MayAddSlot s2 dir size
       may_add = record {
@@ -205,14 +117,14 @@ module _ {D : Type 0} (called : D → Ask → Told → D → Type 0) (seen : D �
         whole = ap (λ n. n % 4096) size2 ∙ whole;
         count = ap block_count size2 ∙ count;
         pages = omega (arith, pages_are);
-        room = subst (λ n. block_count size + 1 ≤ n) (sym (room_files s1 s2 a.files a.room dir)) places.blocks;
-        slots = subst (λ (r : Room). In dir r.slots) (sym a.room) places.slots;
+        room = subst (λ n. block_count size + 1 ≤ n) (sym (room_files s1 s2 a1.files room dir)) places.blocks;
+        slots = subst (λ (r : Room). In dir r.slots) (sym room) places.slots;
       }
 
       module _ (s3 : SessionSeen) (kept : s3 ≡ record (with_slot dir s2) { room = s3.room }) (same_calls : s3.room.calls ≡ s2.room.calls) (names : In dir s2.room.names → In dir s3.room.names) (place : LeavesPlace s2 s3) where
         x : IsSlotted (seen d') s2 (with_slot dir s2) dir
         x =
-            slotted (seen d') s2 dir (subst AreWithinLimits (sym w.same.sizes) limits) w.may ends.2 open2 (subst (λ n. n ≤ 33554432) size2 few) whole count pages_are
+            slotted (seen d') s2 dir (subst AreWithinLimits (sym a.wanted.same.sizes) limits) a.wanted.may ends.2 open2 (subst (λ n. n ≤ 33554432) size2 few) whole count pages_are
 
         alike3 : IsAlike (with_slot dir s2) s3
         alike3 = alike_room (with_slot dir s2) s3 kept
@@ -235,32 +147,32 @@ module _ {D : Type 0} (called : D → Ask → Told → D → Type 0) (seen : D �
         places3 : HasPlaces s3 dir
         places3 = record {
           empty = ap (λ (q : SessionSeen). is_some (empty_shown q dir)) alike3 ∙ x.empty;
-          calls = subst (λ n. length s3.calls < n) (sym same_calls) (subst (λ (l : List Done). length l < s2.room.calls) (sym calls3) (calls_room (block_count size + 1) places));
-          made = place (subst (λ (r : Room). length s2.made < r.made) (sym a.room) (subst (λ (l : List MadeFile). length l < s1.room.made) (sym a.files.made) places.made));
-          names = names (subst (λ (r : Room). In dir r.names) (sym a.room) places.names);
+          calls = subst (λ n. length s3.calls < n) (sym same_calls) (subst (λ (l : List Done). length l < s2.room.calls) (sym calls3) (calls_room places.calls));
+          made = place (subst (λ (r : Room). length s2.made < r.made) (sym room) (subst (λ (l : List MadeFile). length l < s1.room.made) (sym a1.files.made) places.made));
+          names = names (subst (λ (r : Room). In dir r.names) (sym room) places.names);
         }
 
-        pub room_made : MadeRoom called seen d s dir numbers (Ok None) d' s3
+        pub room_made : MadeRoom called seen d s dir numbers (Ok tt) d' s3
         room_made = record {
           given = a.given;
           last = a.last;
           wanted = record {
-            each = w.each;
-            made = w.made;
-            calls = calls3 ∙ calls;
-            same = w.same;
-            more = λ nodes rows p. wanted.more nodes rows (x.more nodes rows (subst (λ (q : SessionSeen). ArePossible (seen d') q.parcel q.reads nodes rows) alike3 p));
+            each = a.wanted.each;
+            made = a.wanted.made;
+            calls = calls3 ∙ a.wanted.calls;
+            same = a.wanted.same;
+            more = λ nodes rows p. a.wanted.more nodes rows (x.more nodes rows (subst (λ (q : SessionSeen). ArePossible (seen d') q.parcel q.reads nodes rows) alike3 p));
             may = go_on_alike (seen d') (with_slot dir s2) s3 alike3 x.may;
-            stays = names_then s s2 s3 stays names3;
+            stays = names_then s s2 s3 a.wanted.stays names3;
           };
           lent = a.lent s;
           ends = (
             ends.0,
             ends.1,
-            alike_then (with_slot dir all) (with_slot dir s2) s3 (slot_alike dir all s2 near) alike3,
+            alike_then (with_slot dir all) (with_slot dir s2) s3 (slot_alike dir all s2 a.alike) alike3,
             ap (λ (q : SessionSeen). spare_pages q) alike3 ∙ x.spent,
             numbers3,
             places3,
-            spare3 ∙ ap (λ (q : SessionSeen). spare_numbers q) near,
+            spare3 ∙ ap (λ (q : SessionSeen). spare_numbers q) a.alike,
           );
         }

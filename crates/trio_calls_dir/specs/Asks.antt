@@ -1,12 +1,10 @@
 -- The calls of the desk that one call on a directory's entries makes, and how it ends: Mkdir, Create, Unlink, Rmdir, Rename and List.
-use Rattle.std.specs.Prelude.{◌≡◌, ◌≤◌, ℕ, ◌+◌, ◌==◌, IsTrue, List, [], ◌∷◌, ◌++◌, map, length, is_some, unwrap_or, Option, None, Some, Ok, if◌then◌else◌}
-use Rattle.std.specs.Option.{option_map, option_map_or, option_or}
+use Rattle.std.specs.Prelude.{◌≡◌, ◌≤◌, ℕ, ◌+◌, ◌==◌, IsTrue, List, [], ◌∷◌, ◌++◌, map, Some, Ok, if◌then◌else◌}
+use Rattle.std.specs.Option.{option_map_or}
 use Rattle.trio_rights.specs.declared.kind.Kind.{Kind}
 use Rattle.trio_rights.specs.declared.kind.Kind.TheVariants.{Directory, Regular}
 use Rattle.trio_rights.specs.declared.rights.Creds.{Creds}
 use Rattle.trio_rights.specs.declared.rights.Mode.{Mode}
-use Rattle.trio_layout.specs.Body.{body_bytes}
-use Rattle.trio_lease.specs.declared.parts.HoldParts.{HoldParts}
 use Rattle.trio_nodes.specs.declared.call.Call.{Call}
 use Rattle.trio_nodes.specs.declared.call.Call.TheVariants.{Mkdir, Create, Unlink, Rmdir, Rename, List as ListNames}
 use Rattle.trio_nodes.specs.declared.call.Reply.TheVariants.{Ok as IsReplied}
@@ -14,13 +12,14 @@ use Rattle.trio_nodes.specs.Nodes.{Nodes, find_named}
 use Rattle.trio_nodes.specs.Walk.{Path, dir_of, name_of, walk, walk_into}
 use Rattle.trio_nodes.specs.Apply.{applied, is_done}
 use Rattle.trio_desk.specs.Call.{Ask, DeskSeen, Told}
-use Rattle.trio_session.specs.Layout.{growth, size_in}
-use Rattle.trio_session.specs.Seen.{MadeFile, SessionSeen, body_in, chain_in, clear, empty_shown, fill, grown, held_file, is_allotted, lowest_from, made_body, made_file, retitle, spare_numbers}
+use Rattle.trio_session.specs.Seen.{SessionSeen, clear, fill, retitle}
 use Rattle.trio_walk.specs.Needs.{asked, dir_needs}
 use Rattle.trio_walk.specs.Walks.{served_by, shows_root}
-use Rattle.trio_walk.specs.Asks.{AskedBy, Called, IsAlike, Tried, allot_asks, grant_ask, noted}
+use Rattle.trio_walk.specs.Asks.{AskedBy, Called, Tried, grant_ask, noted}
 use Rattle.trio_walk.specs.declared.outcome.Outcome.{Outcome}
 use Rattle.trio_walk.specs.declared.outcome.Outcome.TheVariants.{Replied}
+use Rattle.trio_session.specs.Asked.{IsAlike, allot_asks}
+use Rattle.trio_session.specs.Deeds.{slot_growth, with_slot, new_body, new_number, moved_shown, as_lent}
 
 -- ---- the condition
 
@@ -42,10 +41,6 @@ pub record Target : Type 0 where
   pub new_dir : ℕ
   pub ino : ℕ
 
--- the pages of one block more, where a directory has no empty slot
-abbrev pub slot_growth : SessionSeen → ℕ → ℕ
-slot_growth s dir = let b = length (chain_in s dir).blocks in if is_some (empty_shown s dir) then 0 else growth b (b + 1)
-
 -- the pages that a call wants which no check refuses, by the session with all that it was lent
 abbrev pub pages_for : Call → Target → SessionSeen → ℕ
 pages_for (Mkdir path mode) t s = slot_growth s t.dir
@@ -64,10 +59,6 @@ abbrev pub wants_of : Nodes → Creds → Call → Target → SessionSeen → Li
 wants_of nodes creds call t s =
     if is_done (applied nodes creds call 0).reply then allot_asks (pages_for call t s) (numbers_for call) else []
 
--- the session with all that it was lent, and without what was allotted to it since
-abbrev pub as_lent : SessionSeen → SessionSeen → SessionSeen
-as_lent s all = record all { parcel = record all.parcel { pages = s.parcel.pages; inodes = s.parcel.inodes } }
-
 -- What one try of a call asks, in nodes that the session shows: the grants that it needs and no lease serves, and then one allotment.
 -- `all` is the session with all that it was given.
 abbrev pub asks_of : Nodes → Creds → SessionSeen → Call → Target → SessionSeen → List Ask
@@ -76,28 +67,9 @@ asks_of nodes creds s call t all =
 
 -- ---- what is left
 
--- a directory has an empty slot: it grows by a block where it has none
-abbrev pub with_slot : ℕ → SessionSeen → SessionSeen
-with_slot dir s = if is_some (empty_shown s dir) then s else grown dir (size_in (body_in s dir) + 4096) s
-
--- the body of a new file: without pages, and the caller's
-abbrev pub new_body : Creds → Mode → List ℕ
-new_body creds mode = body_bytes (record { mode = mode; uid = creds.uid; gid = creds.gid; head = 0; size = 0 })
-
--- a new file takes the lowest spare number
-abbrev pub new_number : SessionSeen → ℕ
-new_number s = unwrap_or (lowest_from None (spare_numbers s)) 0
-
 -- and its entry the first empty slot
 abbrev pub filled_new : Creds → Kind → Path → Mode → Target → SessionSeen → SessionSeen
 filled_new creds kind path mode t s = fill t.dir (name_of path) (new_number s) kind (new_body creds mode) (with_slot t.dir s)
-
--- the kind and the body that a file takes with it to another directory: of one that was made its own, and the body of its slot; of a held
--- one, which has none of the allotted numbers, those of its hold
-abbrev pub moved_shown : SessionSeen → ℕ → Option (Kind × List ℕ)
-moved_shown s ino =
-    option_or (option_map (λ (m : MadeFile). (m.kind, made_body s m)) (made_file s ino))
-    (if is_allotted s ino then None else option_map (λ (h : HoldParts). (h.kind, h.body)) (held_file s ino))
 
 -- a file that moves clears its slot, and fills the first empty one of the other directory with the kind and the body that it takes with it
 abbrev pub moved : Path → Path → Target → SessionSeen → SessionSeen

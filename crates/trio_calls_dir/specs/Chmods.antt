@@ -1,5 +1,5 @@
 -- The calls of the desk that one Chmod makes, and how it ends.
-use Rattle.std.specs.Prelude.{◌≡◌, ◌≢◌, ◌⊎◌, ℕ, IsFalse, List, [], ◌∷◌, ◌++◌, map, Option, Some, if◌then◌else◌}
+use Rattle.std.specs.Prelude.{◌≡◌, ◌≢◌, ◌⊎◌, ℕ, IsFalse, List, [], ◌∷◌, ◌++◌, map, Option, Some}
 use Rattle.trio_rights.specs.Row.{Row}
 use Rattle.trio_rights.specs.declared.rights.Creds.{Creds}
 use Rattle.trio_rights.specs.declared.rights.LibNo.{LibNo}
@@ -21,9 +21,10 @@ use Rattle.trio_desk.specs.Ready.{ArePossible, chmod_walk}
 use Rattle.trio_session.specs.Seen.{SessionSeen, emptied}
 use Rattle.trio_walk.specs.Needs.{asked, chmod_needs}
 use Rattle.trio_walk.specs.Walks.{served_by, shows_root}
-use Rattle.trio_walk.specs.Asks.{Called, IsAlike, IsGiven, IsRootDenied, IsUnsettled, Settles, TryEnds, grant_ask, took}
+use Rattle.trio_walk.specs.Asks.{Called, IsRootDenied, IsUnsettled, Settles, TryEnds, grant_ask}
 use Rattle.trio_walk.specs.declared.outcome.Outcome.{Outcome}
 use Rattle.trio_walk.specs.declared.outcome.Outcome.TheVariants.{Replied, Busy, NoMemory}
+use Rattle.trio_session.specs.Asked.{IsAlike, IsGiven, took}
 
 -- the session with all that it was lent
 abbrev pub lent_to : SessionSeen → List desk_calls.Call → SessionSeen

@@ -8,12 +8,12 @@ ghost use Rattle.trio_session.specs.Seen.{HasReadsAlone};
 ghost use Rattle.trio_edit_laws.specs.Calls.{MayCall};
 ghost use Rattle.trio_edit_laws.proofs.Called.{may_be_settled, may_settled, may_unsettled};
 ghost use Rattle.trio_walk.proofs.Retrying.{nothing_left};
-ghost use Rattle.trio_walk.specs.Asks.{IsAlike};
 ghost use Rattle.trio_walk.specs.Walks.{InAllShown, Walked};
 ghost use Rattle.trio_calls_dir.specs.Chmods.{ChmodCalled, EndsHandedIn, EndsModed, LeavesBy, NamesOther, hand_in_ask, mode_ask};
 ghost use Rattle.trio_calls_dir.specs.inner.Chmods.{ComesBack, Finds, IsChmodCall, IsUnset, RefusesBy, RefusesSo, TriesCall, owner_met};
 ghost use Rattle.trio_calls_dir.specs.inner.Goes.{IsRefusal, IsRefusedAs};
-ghost use Rattle.trio_walk.specs.Tries.{SameDesk, HasNothing, IsBack, try_end};
+ghost use Rattle.trio_walk.specs.Tries.{HasNothing, IsBack, try_end};
+ghost use Rattle.trio_session.specs.Asked.{IsAlike, SameDesk};
 
 use crate::paths::{is_root, name_of, parent};
 use std::alloc::Global;

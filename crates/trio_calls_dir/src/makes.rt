@@ -9,14 +9,14 @@ ghost use Rattle.trio_session.specs.Seen.{IsOpenDir, place_shown};
 ghost use Rattle.trio_edit_laws.specs.Calls.{MayCall};
 ghost use Rattle.trio_laws.specs.session.DirCalls.{ComesInto};
 ghost use Rattle.trio_walk.specs.Walks.{InAllShown, shows_root};
-ghost use Rattle.trio_calls_dir.specs.Asks.{new_body};
 ghost use Rattle.trio_walk.specs.Needs.{dir_needs};
 ghost use Rattle.trio_calls_dir.specs.inner.Goes.{Goes, making, number_made, try_ends};
 ghost use Rattle.trio_walk.specs.Asks.{IsNotBusy};
 ghost use Rattle.trio_walk.specs.Tries.{OthersHold, HasNothing};
+ghost use Rattle.trio_session.specs.Deeds.{new_body};
 
 use crate::paths::{name_of, parent};
-use crate::replies::{Replied, refused, stopped};
+use crate::replies::{Replied, noted_reply, stopped, unmade};
 use crate::rooms::make_room;
 use std::alloc::Global;
 use trio_desk::Desk;
@@ -51,7 +51,7 @@ pub(crate) fn make<D: Desk>(
     match reach_into(session, desk, &writes[0], &writes) {
         Ok(met) => match look_up(session, met.ino, name_of(path)) {
             None => make_in(session, desk, call, kind, path, mode, met.ino),
-            Some(_) => refused(session, Reply::Exists),
+            Some(_) => noted_reply(session, Reply::Exists),
         },
         Err(end) => stopped(session, end),
     }
@@ -81,7 +81,7 @@ fn make_in<D: Desk>(
     let creds = desk.creds();
     let body = new_body(creds.uid, creds.gid, mode);
     match make_room(session, desk, dir, 1) {
-        Ok(None) => match session.spare_ino() {
+        Ok(()) => match session.spare_ino() {
             Some(ino) => {
                 session.fill(dir, name_of(path), ino, kind, &body);
                 Ok(Replied {
@@ -91,8 +91,7 @@ fn make_in<D: Desk>(
             }
             None => unreachable!(),
         },
-        Ok(Some(reply)) => Ok(Replied { reply, made: 0 }),
-        Err(stop) => Err(stop),
+        Err(fault) => unmade(fault),
     }
 }
 

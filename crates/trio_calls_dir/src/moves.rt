@@ -1,23 +1,24 @@
 //! Files get other names, or move to other directories.
 
-ghost use Rattle.std.specs.Prelude.{◌≡◌, ◌≢◌, ◌<◌, ◌∷◌, [], IsFalse, IsSome, MatchResult, None, OnOk, Some, length};
-ghost use Rattle.trio_lists.specs.Lists.{In};
+ghost use Rattle.std.specs.Prelude.{◌≡◌, ◌≢◌, ◌<◌, ◌∷◌, [], IsFalse, IsSome, MatchResult, None, Some, length};
 ghost use Rattle.trio_nodes.specs.declared.call.Call.{Call as AnyCall};
 ghost use Rattle.trio_nodes.specs.Walk.{dir_of, is_root, name_of};
-ghost use Rattle.trio_session.specs.Seen.{IsOpenDir, SessionSeen, place_shown, retitle};
+ghost use Rattle.trio_session.specs.Seen.{IsOpenDir, place_shown, retitle};
 ghost use Rattle.trio_edit_laws.specs.Calls.{MayCall};
 ghost use Rattle.trio_laws.specs.session.DirCalls.{early_refusal};
-ghost use Rattle.trio_walk.specs.Asks.{IsAlike, IsNotBusy};
+ghost use Rattle.trio_walk.specs.Asks.{IsNotBusy};
 ghost use Rattle.trio_walk.specs.Walks.{shows_root};
 ghost use Rattle.trio_walk.specs.Needs.{dir_needs, moving_needs};
 ghost use Rattle.trio_calls_dir.specs.inner.Goes.{Goes, number_made, try_ends};
 ghost use Rattle.trio_walk.specs.Tries.{OthersHold, HasNothing};
-ghost use Rattle.trio_calls_dir.specs.inner.Moves.{IsAcross, IsFound, IsFree, IsOut, IsRename, MayMove, MayPut, NeedsBusyAt, PutFile, across_needs};
+ghost use Rattle.trio_calls_dir.specs.inner.Moves.{IsAcross, IsFound, IsFree, IsOut, IsRename, MayMove, NeedsBusyAt, across_needs};
+ghost use Rattle.trio_session.specs.Asked.{IsAlike};
 
 use crate::paths::{is_above, is_root, name_of, parent};
-use crate::replies::{Replied, refused, stopped};
+use crate::replies::{Replied, noted_reply, stopped, unmade};
 use crate::rooms::make_room;
 use std::alloc::Global;
+use trio_deeds::{move_file, places};
 use trio_desk::Desk;
 use trio_names::Path;
 use trio_nodes::{Answer, Call, GrantKind, Reply};
@@ -44,7 +45,7 @@ pub(crate) fn rename<D: Desk>(
     ensures others { HasNothing session.old → OthersHold session.old.lib (try_ends result) }
 {
     match path_refusal(from, to) {
-        Some(reply) => refused(session, reply),
+        Some(reply) => noted_reply(session, reply),
         None => rename_from(alloc, session, desk, call, from, to),
     }
 }
@@ -129,7 +130,7 @@ fn rename_across<D: Desk>(
     ensures busy { NeedsBusyAt (D.seen desk.old) session.old (λ now. moving_needs now from.now to.now dir new_dir) (try_ends result) }
 {
     match look_up(session, dir, name_of(from)) {
-        None => refused(session, Reply::NotFound),
+        None => noted_reply(session, Reply::NotFound),
         Some(file) => rename_found(session, desk, call, from, to, dir, new_dir, file),
     }
 }
@@ -152,9 +153,9 @@ fn rename_found<D: Desk>(
     ensures busy { NeedsBusyAt (D.seen desk.old) session.old (λ now. moving_needs now from.now to.now dir new_dir) (try_ends result) }
 {
     match look_up(session, new_dir, name_of(to)) {
-        Some(_) => refused(session, Reply::Exists),
+        Some(_) => noted_reply(session, Reply::Exists),
         None if dir == new_dir => retitle(session, from, to, dir),
-        None => move_file(session, desk, call, from, to, dir, new_dir, file),
+        None => move_across(session, desk, call, from, to, dir, new_dir, file),
     }
 }
 
@@ -167,7 +168,7 @@ fn retitle(session: &mut Session, from: &Path, to: &Path, dir: u32) -> Result<Re
     requires free { place_shown session.old dir (name_of to.now) ≡ None }
     ensures ends { MatchResult result (λ r. (r ≡ record { reply = Reply.Ok Answer.Done; made = 0 }) × IsAlike (retitle dir (name_of from.now) (name_of to.now) session.old) session.new × (length session.old.calls < session.new.room.calls)) (λ stop. (stop ≡ Stop.NoMemory) × (session.new ≡ record session.old { room = session.new.room })) }
 {
-    match reserve_retitle(session, dir) {
+    match places(session, dir, 0) {
         Ok(()) => {
             session.retitle(dir, name_of(from), name_of(to));
             Ok(Replied {
@@ -179,19 +180,8 @@ fn retitle(session: &mut Session, from: &Path, to: &Path, dir: u32) -> Result<Re
     }
 }
 
-// room for another name in a directory, and for the call
-fn reserve_retitle(session: &mut Session, dir: u32) -> Result<(), NoMemory>
-    requires { IsOpenDir session.old dir }
-    ensures kept { session.new ≡ record session.old { room = session.new.room } }
-    ensures names { OnOk result (In dir session.new.room.names) }
-    ensures calls { OnOk result (length session.new.calls < session.new.room.calls) }
-{
-    session.reserve(dir, 0)?;
-    session.reserve_call()
-}
-
 // to another directory
-fn move_file<D: Desk>(
+fn move_across<D: Desk>(
     session: &mut Session,
     desk: &mut D,
     call: &Call,
@@ -211,7 +201,7 @@ fn move_file<D: Desk>(
 {
     // a directory isn't below itself
     if file.ino == new_dir {
-        return refused(session, Reply::IntoItself);
+        return noted_reply(session, Reply::IntoItself);
     }
     match take(session, desk, file, GrantKind::Hold) {
         Ok(true) => move_held(session, desk, call, from, to, dir, new_dir, file),
@@ -245,31 +235,13 @@ fn move_held<D: Desk>(
         return Err(Stop::NoMemory);
     }
     match make_room(session, desk, new_dir, 0) {
-        Ok(None) => {
-            put_file(session, from, to, dir, new_dir, file.ino);
+        Ok(()) => {
+            move_file(session, dir, name_of(from), new_dir, name_of(to), file.ino);
             Ok(Replied {
                 reply: Reply::Ok(Answer::Done),
                 made: 0,
             })
         }
-        Ok(Some(reply)) => Ok(Replied { reply, made: 0 }),
-        Err(stop) => Err(stop),
-    }
-}
-
-// the file's slot is cleared, and the first empty one of the other directory filled
-fn put_file(session: &mut Session, from: &Path, to: &Path, dir: u32, new_dir: u32, ino: u32)
-    requires from { IsFalse (is_root from.now) }
-    requires to { IsFalse (is_root to.now) }
-    requires may { MayPut session.old (name_of from.now) (name_of to.now) dir new_dir ino }
-    ensures { PutFile session.old (name_of from.now) (name_of to.now) dir new_dir ino session.new }
-{
-    match session.moving(ino) {
-        Some(moving) => {
-            let body = moving.1;
-            session.clear(dir, name_of(from));
-            session.fill(new_dir, name_of(to), ino, moving.0, &body);
-        }
-        None => unreachable!(),
+        Err(fault) => unmade(fault),
     }
 }

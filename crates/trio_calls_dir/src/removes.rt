@@ -4,7 +4,6 @@ ghost use Rattle.std.specs.Prelude.{◌≡◌, ◌<◌, IsFalse, IsSome, MatchRe
 ghost use Rattle.trio_nodes.specs.Walk.{is_root, name_of};
 ghost use Rattle.trio_session.specs.Seen.{IsOpenDir, clear, place_shown};
 ghost use Rattle.trio_edit_laws.specs.Calls.{MayCall};
-ghost use Rattle.trio_walk.specs.Asks.{IsAlike};
 ghost use Rattle.trio_walk.specs.Walks.{FindsEntry, HasMet, InAllShown, shows_root};
 ghost use Rattle.trio_laws.specs.session.DirCalls.{ComesInto};
 ghost use Rattle.trio_nodes.specs.Nodes.{find_named};
@@ -12,9 +11,10 @@ ghost use Rattle.trio_walk.specs.Needs.{dir_needs, named_needs, removing_needs};
 ghost use Rattle.trio_calls_dir.specs.inner.Goes.{Goes, number_made, removing, try_ends};
 ghost use Rattle.trio_walk.specs.Tries.{OthersHold, HasNothing};
 ghost use Rattle.trio_calls_dir.specs.inner.Removes.{HoldBusyAt, other_kind};
+ghost use Rattle.trio_session.specs.Asked.{IsAlike};
 
 use crate::paths::{name_of, parent};
-use crate::replies::{Replied, refused, stopped};
+use crate::replies::{Replied, noted_reply, stopped};
 use std::alloc::Global;
 use trio_desk::Desk;
 use trio_names::Path;
@@ -45,11 +45,11 @@ pub(crate) fn remove<D: Desk>(
     let writes = [dir];
     match reach_into(session, desk, &writes[0], &writes) {
         Ok(met) => match look_up(session, met.ino, name_of(path)) {
-            None => refused(session, Reply::NotFound),
+            None => noted_reply(session, Reply::NotFound),
             Some(file) if file.kind == kind => {
                 remove_in(session, desk, call, path, met.ino, file)
             }
-            Some(_) => refused(session, other_kind(kind)),
+            Some(_) => noted_reply(session, other_kind(kind)),
         },
         Err(end) => stopped(session, end),
     }
@@ -89,7 +89,7 @@ fn remove_in<D: Desk>(
         Ok(true) => match session.children(file.ino) {
             Some(0) => clear_held(session, path, dir),
             // a regular file has none
-            Some(_) => refused(session, Reply::NotEmpty),
+            Some(_) => noted_reply(session, Reply::NotEmpty),
             None => unreachable!(),
         },
         // a hold needs no rights

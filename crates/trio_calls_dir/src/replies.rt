@@ -1,12 +1,12 @@
 //! What a call on a directory is replied.
 
-ghost use Rattle.std.specs.Prelude.{◌≡◌, ◌<◌, IfOk, MatchResult, length};
+ghost use Rattle.std.specs.Prelude.{◌≡◌, ◌<◌, MatchResult, length};
 ghost use Rattle.trio_edit_laws.specs.Calls.{MayCall};
 ghost use Rattle.trio_walk.specs.Walks.{IsStopped, shows_root};
 ghost use Rattle.trio_calls_dir.specs.Asks.{IsEntryCall};
 ghost use Rattle.trio_walk.specs.Needs.{dir_needs};
-ghost use Rattle.trio_calls_dir.specs.inner.Goes.{Goes, StopsBy, number_made, try_ends};
-ghost use Rattle.trio_walk.specs.Tries.{OthersHold, HasNothing};
+ghost use Rattle.trio_calls_dir.specs.inner.Goes.{Goes, StopsBy, number_made, try_ends, without_file};
+ghost use Rattle.trio_walk.specs.Tries.{OthersHold, HasNothing, allot_reply};
 
 use crate::lists::list;
 use crate::makes::make;
@@ -15,11 +15,11 @@ use crate::paths::is_root;
 use crate::removes::remove;
 use std::alloc::Global;
 use trio_desk::Desk;
-use trio_nodes::{Call, Reply};
+use trio_nodes::{AllotFault, Call, Reply};
 use trio_page::NoMemory;
 use trio_rights::Kind;
 use trio_session::Session;
-use trio_walk::{Stop, WalkEnd};
+use trio_walk::{Stop, WalkEnd, allot_reply};
 
 /// What a call is replied, and the number of the file that it made, or 0.
 #[derive(Drop)]
@@ -43,8 +43,8 @@ pub(crate) fn reply_to<D: Desk>(
 {
     match call {
         // the root is there
-        Call::Mkdir { path, .. } if is_root(path) => refused(session, Reply::Exists),
-        Call::Create { path, .. } if is_root(path) => refused(session, Reply::Exists),
+        Call::Mkdir { path, .. } if is_root(path) => noted_reply(session, Reply::Exists),
+        Call::Create { path, .. } if is_root(path) => noted_reply(session, Reply::Exists),
         Call::Mkdir { path, mode } => {
             make(alloc, session, desk, call, Kind::Directory, path, *mode)
         }
@@ -52,8 +52,8 @@ pub(crate) fn reply_to<D: Desk>(
             make(alloc, session, desk, call, Kind::Regular, path, *mode)
         }
         // and isn't removed
-        Call::Unlink { path } if is_root(path) => refused(session, Reply::IsDir),
-        Call::Rmdir { path } if is_root(path) => refused(session, Reply::Denied),
+        Call::Unlink { path } if is_root(path) => noted_reply(session, Reply::IsDir),
+        Call::Rmdir { path } if is_root(path) => noted_reply(session, Reply::Denied),
         Call::Unlink { path } => remove(alloc, session, desk, call, Kind::Regular, path),
         Call::Rmdir { path } => remove(alloc, session, desk, call, Kind::Directory, path),
         Call::Rename { from, to } => rename(alloc, session, desk, call, from, to),
@@ -62,8 +62,8 @@ pub(crate) fn reply_to<D: Desk>(
     }
 }
 
-/// A refusal is noted too.
-pub(crate) fn refused(session: &mut Session, reply: Reply) -> Result<Replied, Stop>
+/// A reply, and a place for the call's note.
+pub(crate) fn noted_reply(session: &mut Session, reply: Reply) -> Result<Replied, Stop>
     ensures kept { session.new ≡ record session.old { room = session.new.room } }
     ensures ends { MatchResult result (λ r. (r ≡ record { reply = reply; made = 0 }) × (length session.new.calls < session.new.room.calls)) (λ stop. stop ≡ Stop.NoMemory) }
 {
@@ -80,9 +80,20 @@ pub(crate) fn stopped(session: &mut Session, end: WalkEnd) -> Result<Replied, St
     ensures stops { StopsBy end result session.new }
 {
     match end {
-        WalkEnd::Reply(reply) => refused(session, reply),
+        WalkEnd::Reply(reply) => noted_reply(session, reply),
         WalkEnd::Busy(holder) => Err(Stop::Busy(holder)),
         WalkEnd::NoMemory => Err(Stop::NoMemory),
         WalkEnd::At(_) => unreachable!(),
+    }
+}
+
+/// The reply of a call that isn't given the pages and numbers that it wants; it made no file. Want of
+/// memory ends the try.
+pub(crate) fn unmade(fault: AllotFault) -> Result<Replied, Stop>
+    ensures { result ≡ without_file (allot_reply fault) }
+{
+    match allot_reply(fault) {
+        Ok(reply) => Ok(Replied { reply, made: 0 }),
+        Err(stop) => Err(stop),
     }
 }

@@ -1,28 +1,15 @@
--- Sessions that differ in indexes, look-ups and room alone.
-use Rattle.std.proofs.Common.{◌≡◌, ℕ, true, false, cond, eqb, List, ◌+◌, length, max, refl, ap}
+-- A session that is alike has the same files open; and what a write edits, of some bytes and of none.
+use Rattle.std.proofs.Common.{◌≡◌, ℕ, true, false, cond, eqb, List, ◌+◌, length, max, ap}
 use Rattle.trio_nodes.specs.declared.call.Call.TheVariants.{Write as WriteCall}
 use Rattle.trio_nodes.specs.Walk.{Path}
-use Rattle.trio_desk.specs.Call.{DeskSeen}
 use Rattle.trio_session.specs.Layout.{size_in}
 use Rattle.trio_session.specs.Seen.{IsOpen, SessionSeen, body_in, put}
-use Rattle.trio_edit_laws.specs.EditLaws.{AreSpare}
-use Rattle.trio_walk.specs.Asks.{IsAlike}
-use Rattle.trio_calls_file.specs.Asks.{edited, sized}
-use Rattle.trio_calls_file.specs.inner.Rooms.{MayGoOn}
-use Rattle.trio_calls_file.proofs.Still.{alike_by, edit_but}
-
-pub alike_back : (x s : SessionSeen) → IsAlike x s → IsAlike s x
-alike_back x s e = alike_by (λ q. IsAlike q x) x s e (λ is n r. refl)
+use Rattle.trio_calls_file.specs.Asks.{edited}
+use Rattle.trio_session.specs.Asked.{IsAlike}
+use Rattle.trio_session.proofs.Alike.{alike_by}
+use Rattle.trio_session.specs.Deeds.{sized}
 
 -- ---- what a session may
-
-pub go_on_alike : (desk : DeskSeen) (x s : SessionSeen) → IsAlike x s → MayGoOn desk x → MayGoOn desk s
-go_on_alike desk x s e m =
-    alike_by (λ q. MayGoOn desk q) x s e (λ is n r. record { edits = edit_but desk x is n r x.calls m.edits; comes = m.comes; made = m.made; spent_numbers = m.spent_numbers })
-
-pub spare_alike : (desk : DeskSeen) (x s : SessionSeen) → IsAlike x s → AreSpare desk x → AreSpare desk s
-spare_alike desk x s e a =
-    alike_by (λ q. AreSpare desk q) x s e (λ is n r k i. (let z = a k i in record { zero = z.zero; unchained = z.unchained; unlisted = z.unlisted }))
 
 pub open_alike : (x s : SessionSeen) (ino : ℕ) → IsAlike x s → IsOpen x ino → IsOpen s ino
 open_alike x s ino e o = alike_by (λ q. IsOpen q ino) x s e (λ is n r. o)

@@ -38,16 +38,17 @@ use Rattle.trio_walk.specs.declared.outcome.Outcome.{Outcome}
 use Rattle.trio_walk.specs.declared.outcome.Outcome.TheVariants.{Replied, NoMemory}
 use Rattle.trio_walk.specs.declared.outcome.Stop.{Stop}
 use Rattle.trio_walk.specs.declared.outcome.Stop.TheVariants.{Busy as IsBusy, NoMemory as LacksMemory}
-use Rattle.trio_walk.specs.Asks.{IsAlike, allot_asks}
 use Rattle.trio_calls_file.specs.Asks.{IsFileCall, growth_of, wanted_pages, walked_growth}
 use Rattle.trio_edit_laws.specs.Calls.{MayCall}
 use Rattle.trio_calls_file.specs.inner.Goes.{BusyAt, ComesHere, Goes, bytes_refusal, TookFile, Unrefused, Went, asks_at, checked, grant_for, need_for, one_ask, refusal_at, try_ends, wants_pages_for}
-use Rattle.trio_calls_file.specs.inner.Reads.{IsHad}
 use Rattle.trio_calls_file.proofs.AfterTaking.{goes_on}
 use Rattle.trio_calls_file.proofs.Checking.{asks_none, asks_own, known_unrefused, refused_at, refuses_call, root_kind}
-use Rattle.trio_calls_file.proofs.Had.{had_served}
 use Rattle.trio_calls_file.proofs.Looked.{IsLook, look_goes, may_looked, refused_look, refused_undone}
-use Rattle.trio_calls_file.proofs.Shown.{alike_room, both_alike, both_went, met_went, stood, went_alike}
+use Rattle.trio_calls_file.proofs.Shown.{both_alike, both_went, met_went, stood, went_alike}
+use Rattle.trio_session.specs.Asked.{IsAlike, allot_asks}
+use Rattle.trio_session.proofs.Alike.{alike_room}
+use Rattle.trio_edit_laws.proofs.Had.{had_served}
+use Rattle.trio_session.specs.Deeds.{IsHad}
 
 -- ---- what no check refuses
 
@@ -144,7 +145,7 @@ module _ {D : Type 0} (called : D → Ask → Told → D → Type 0) (seen : D �
       taken_limits l = subst (λ (z : Sizes). AreWithinLimits z) (sym took_it.went.same.sizes) l
 
       pub taken_had : AreWithinLimits (seen d).sizes → IsHad s1 m.ino
-      taken_had l = had_served (seen d1) s1 m.ino took_it.went.may (taken_limits l) (grant_for call) (not_held call) took_it.taken.2
+      taken_had l = had_served (seen d1) s1 m.ino took_it.went.may.edits (taken_limits l) (grant_for call) (not_held call) took_it.taken.2
 
       pub taken_kind : kind_shown s1 m.ino ≡ Some m.kind
       taken_kind = took_it.taken.3 (not_held call)

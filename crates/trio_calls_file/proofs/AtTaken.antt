@@ -1,7 +1,9 @@
 -- What is done at the file that is taken.
 use Rattle.std.proofs.Common.{◌≡◌, ℕ, ◌<◌, Bool, true, false, cond, List, [], length, take, drop, Option, Some, None, Result, sym, refl, ap, ◌∙◌, subst}
-use Rattle.std.specs.Prelude.{not, MatchResult}
-use Rattle.std.specs.Option.{option_map}
+use Rattle.std.specs.Prelude.{is_some, not, MatchResult}
+use Rattle.std.specs.Option.{option_map, option_or}
+use Rattle.std.proofs.lemmas.Bool.{false≢true}
+use Rattle.trio_lease.specs.Shown.{Shown}
 use Rattle.trio_rights.specs.Row.{Row}
 use Rattle.trio_rights.specs.declared.kind.Kind.{Kind}
 use Rattle.trio_rights.specs.declared.kind.Kind.TheVariants.{Directory, Regular}
@@ -21,7 +23,7 @@ use Rattle.trio_desk.specs.Edits.{DoesCall}
 use Rattle.trio_desk.specs.Ready.{ArePossible}
 use Rattle.trio_laws.specs.session.FileCalls.{gives, refusal}
 use Rattle.trio_laws.proofs.session.FileCalls.{done_by_bytes, refused_by_check, stats_directory}
-use Rattle.trio_session.specs.Seen.{IsOpen, SessionSeen, kind_shown, serves, pages_shown}
+use Rattle.trio_session.specs.Seen.{IsOpen, SessionSeen, kind_shown, open_kind, pages_shown, read_file, serves}
 use Rattle.trio_walk.specs.declared.met.Met.{Met}
 use Rattle.trio_walk.specs.Needs.{path_of}
 use Rattle.trio_walk.specs.Walks.{InAllShown, HasMet}
@@ -31,13 +33,21 @@ use Rattle.trio_walk.specs.declared.outcome.Stop.TheVariants.{NoMemory as LacksM
 use Rattle.trio_calls_file.specs.Asks.{IsFileCall}
 use Rattle.trio_edit_laws.specs.Calls.{MayCall}
 use Rattle.trio_calls_file.specs.inner.Goes.{ComesHere, Goes, Unrefused, bytes_reply, checked, grant_for, size_had, stat_reply, try_ends, wants_pages_for}
-use Rattle.trio_calls_file.specs.inner.Reads.{IsHad, body_had, bytes_had, entries_counted}
 use Rattle.trio_calls_file.proofs.AtFile.{look_pages, write_regular}
-use Rattle.trio_calls_file.proofs.Had.{open_served}
 use Rattle.trio_calls_file.proofs.Checking.{regular_unrefused}
 use Rattle.trio_calls_file.proofs.Contents.{HadHere, had_count, had_here, had_length}
 use Rattle.trio_calls_file.proofs.Looked.{IsLook, look_goes, read_look, refused_look}
 use Rattle.trio_calls_file.proofs.Shown.{stood}
+use Rattle.trio_session.specs.Deeds.{IsHad, body_had, bytes_had}
+use Rattle.trio_deeds.specs.Reads.{entries_counted}
+
+-- a regular file that is taken for writing is open
+pub open_served : (s : SessionSeen) (ino : ℕ) → serves s ino WriteGrant ≡ true → kind_shown s ino ≡ Some Regular → IsOpen s ino
+open_served s ino served kind = by (open_kind s ino) refl
+  where
+    by : (o : Option Kind) → open_kind s ino ≡ o → IsOpen s ino
+    by (Some k) e = (let same : Some k ≡ Some Regular = sym (ap (λ (q : Option Kind). option_or q (option_map (λ (f : Shown). f.kind) (read_file s ino))) e) ∙ kind in e ∙ same)
+    by None e = absurd (false≢true (sym (ap (λ (q : Option Kind). is_some q) e) ∙ served))
 
 module _ {D : Type 0} (called : D → Ask → Told → D → Type 0) (seen : D → DeskSeen) (d : D) (s : SessionSeen) (m : Met) (may : MayCall (seen d) s) (met : HasMet (seen d) s m) (had : IsHad s m.ino) where
   -- ---- edits

@@ -32,10 +32,11 @@ use Rattle.trio_walk.specs.declared.met.Rights as shown_rights
 use Rattle.trio_walk.specs.Needs.{Needed, asked, path_of}
 use Rattle.trio_walk.specs.Walks.{IsMet, served_by, HasMet, gives_met}
 use Rattle.trio_calls_file.specs.Asks.{IsFileCall, wanted_pages, walked_growth}
-use Rattle.trio_walk.specs.Asks.{allot_asks, grant_ask}
+use Rattle.trio_walk.specs.Asks.{grant_ask}
 use Rattle.trio_calls_file.specs.inner.Goes.{ComesHere, MayBeDone, asks_at, bytes_refusal, checked, grant_for, need_for, one_ask, refusal_at}
 use Rattle.trio_calls_file.proofs.KnownRights.{gives_known}
 use Rattle.trio_calls_file.proofs.Looked.{IsRefused}
+use Rattle.trio_session.specs.Asked.{allot_asks}
 
 -- ---- refusals
 

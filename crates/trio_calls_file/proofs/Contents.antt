@@ -39,10 +39,12 @@ use Rattle.trio_edit_laws.specs.Calls.{MayCall}
 use Rattle.trio_edit_laws.specs.Written.{bytes_in}
 use Rattle.trio_edit_laws.proofs.Reading.{sees_bytes}
 use Rattle.trio_edit_laws.proofs.directories.Sees.{open_rights, sees_directory}
-use Rattle.trio_calls_file.specs.inner.Reads.{IsHad, body_had, bytes_had, entries_counted, entries_within, is_entry}
-use Rattle.trio_calls_file.proofs.Had.{body_had-open, body_had-read, pages_shown-open, pages_shown-read}
-use Rattle.trio_calls_file.proofs.Reading.{length-joined}
-use Rattle.trio_calls_file.proofs.Walkable.{shows_calls, view_calls}
+use Rattle.trio_deeds.proofs.Reading.{length-joined}
+use Rattle.trio_edit_laws.proofs.Walkable.{shows_calls, view_calls}
+use Rattle.trio_session.proofs.Shows.{body_had-open, body_had-read, pages_shown-open}
+use Rattle.trio_edit_laws.proofs.Had.{pages_shown-lent}
+use Rattle.trio_session.specs.Deeds.{IsHad, body_had, bytes_had}
+use Rattle.trio_deeds.specs.Reads.{entries_counted, entries_within, is_entry}
 
 -- as many bytes as the size says
 pub had_length : (s : SessionSeen) (ino : ℕ) → IsHad s ino → length (bytes_had s ino) ≡ size_in (body_had s ino)
@@ -162,7 +164,7 @@ module _ (desk : DeskSeen) (s : SessionSeen) (may : MayCall desk s) (ino : ℕ) 
     lent_here =
         let now : Nodes = batch_nodes desk.creds s.calls nodes in
         let body : body_had s ino ≡ f.body = body_had-read s ino f none there in
-        let pages : pages_shown s ino ≡ map (λ (q : LentPage). q.page) f.blocks = pages_shown-read s ino f none there in
+        let pages : pages_shown s ino ≡ map (λ (q : LentPage). q.page) f.blocks = pages_shown-lent s ino f none there in
         let bytes : bytes_had s ino ≡ bytes_shown f =
         ap (λ b. take (size_in b) (flat_map (λ q. q) (pages_shown s ino))) body
         ∙ ap (λ l. take (size_in f.body) (flat_map (λ q. q) l)) pages
@@ -181,7 +183,7 @@ module _ (desk : DeskSeen) (s : SessionSeen) (may : MayCall desk s) (ino : ℕ) 
         let well = may.edits.on.reads f among in
         let lists = sees_lent desk (in_hand s) (in_hand s) nodes now rows f view (In-right f (lent_files s.parcel.writes) s.reads among) (may.edits.alone f among) well in
         ap (count_in now) (sym number) ∙ lists.count ∙ blocks_count desk.sizes.inodes f.blocks (entries_shown desk.sizes f) (lent_gathers desk.sizes f well (record { ino = f.ino; kind = f.kind; parent = 0; page = 0; slot = 0; body = f.body }) refl refl dir)
-        ∙ sym (ap entries_counted (pages_shown-read s ino f none there))
+        ∙ sym (ap entries_counted (pages_shown-lent s ino f none there))
 
   -- and one that is open
   open_count : open_kind s ino ≡ Some Directory → count_in (batch_nodes desk.creds s.calls nodes) ino ≡ entries_counted (pages_shown s ino)

@@ -1,40 +1,37 @@
 -- How a call that writes ends: with its edit and its note, or for want of room.
-use Rattle.std.proofs.Common.{◌≡◌, ℕ, ◌+◌, ◌<◌, ◌≤◌, max, arith, Bool, true, false, cond, eqb, List, [], ◌∷◌, ◌++◌, length, Option, Some, None, Result, Ok, Err, sym, refl, ap, ◌∙◌, subst, inl, inr}
+use Rattle.std.proofs.Common.{◌≡◌, ℕ, ◌+◌, ◌<◌, ◌≤◌, max, arith, Bool, true, false, cond, eqb, List, [], ◌∷◌, ◌++◌, length, Some, None, Result, Ok, Err, sym, refl, ap, ◌∙◌, subst, inl, inr}
 use Rattle.std.specs.Prelude.{map}
 use Rattle.std.specs.Option.{option_map}
 use Rattle.std.proofs.lemmas.Bool.{eqb-true, true≢false}
+use Rattle.std.proofs.lemmas.List.{append-nil}
 use Rattle.trio_rights.specs.declared.kind.Kind.TheVariants.{Regular}
-use Rattle.trio_lists.specs.Lists.{In}
 use Rattle.trio_layout.specs.Body.{block_count}
 use Rattle.trio_lease.specs.declared.parts.InoParts.{InoParts}
 use Rattle.trio_nodes.specs.declared.call.Answer.{Answer}
 use Rattle.trio_nodes.specs.declared.call.Answer.TheVariants.{Count, Done as IsDone}
 use Rattle.trio_nodes.specs.declared.call.Call.{Call}
 use Rattle.trio_nodes.specs.declared.call.Done.{Done}
-use Rattle.trio_nodes.specs.declared.call.Reply.{Reply}
+use Rattle.trio_nodes.specs.declared.answers.AllotFault.{AllotFault}
+use Rattle.trio_nodes.specs.declared.answers.AllotFault.TheVariants.{NoInodes as NoFreeInodes, NoPages, NoMemory as NoAllotMemory}
 use Rattle.trio_nodes.specs.declared.call.Call.TheVariants.{Truncate, Write}
-use Rattle.trio_nodes.specs.declared.call.Reply.TheVariants.{Ok as IsReplied, NotFound, Exists, NotDir, IsDir, NotEmpty, Denied, IntoItself, NoSpace, NoInodes, TooLarge}
+use Rattle.trio_nodes.specs.declared.call.Reply.TheVariants.{Ok as IsReplied, NoSpace}
 use Rattle.trio_nodes.specs.declared.node.Node.{Node}
 use Rattle.trio_nodes.specs.Apply.{applied, is_done, largest_size, put_at, resized, wants_pages}
 use Rattle.trio_nodes.specs.After.{batch_nodes}
-use Rattle.trio_nodes.specs.Legal.{LegalCalls}
 use Rattle.trio_nodes.specs.Nodes.{Nodes, node_at}
 use Rattle.trio_nodes.specs.Walk.{Path, walk}
 use Rattle.trio_desk.specs.Agrees.{HasRights}
-use Rattle.trio_desk.specs.Call.{Ask, DeskSeen, Told}
+use Rattle.trio_desk.specs.Call.{Allot, Ask, DeskSeen, NotGiven, Told}
+use Rattle.trio_desk.specs.Calls as desk_calls
 use Rattle.trio_desk.specs.Contents.{AreWithinLimits, Rights, rights_in}
 use Rattle.trio_desk.specs.Edits.{DoesCall, MayShow, TakesMore}
 use Rattle.trio_desk.specs.Out.{ino_numbers}
-use Rattle.trio_desk.specs.Ready.{ComesToShown, parcel_case}
-use Rattle.trio_desk.specs.Shows.{Shows}
 use Rattle.trio_laws.specs.session.FileCalls.{answer_of, changed_by, file_path, refusal}
 use Rattle.trio_laws.specs.session.FileEdits.{with_content}
-use Rattle.trio_laws.specs.session.Takes.{Becomes}
-use Rattle.trio_laws.proofs.session.Calls.{batch_more, reply_more}
 use Rattle.trio_laws.proofs.session.FileCalls.{done_by_bytes, refused_for_room}
 use Rattle.trio_laws.proofs.session.LentNodes.{mapped}
 use Rattle.trio_session.specs.Layout.{growth, size_in}
-use Rattle.trio_session.specs.Seen.{IsOpen, SessionSeen, body_in, chain_in, in_hand, put, room_in, spare_pages}
+use Rattle.trio_session.specs.Seen.{IsOpen, SessionSeen, body_in, chain_in, in_hand, put, room_in, spare_numbers, spare_pages}
 use Rattle.trio_edit_laws.specs.Written.{bytes_in}
 use Rattle.trio_edit_laws.proofs.OpenChain.{open_chain}
 use Rattle.trio_edit_laws.proofs.Reading.{length-bytes_in, sees_bytes}
@@ -42,19 +39,25 @@ use Rattle.trio_edit_laws.proofs.Resized.{length-resized}
 use Rattle.trio_edit_laws.proofs.Shown.{shown_by}
 use Rattle.trio_walk.specs.Needs.{path_of}
 use Rattle.trio_walk.specs.Walks.{InAllShown}
-use Rattle.trio_walk.specs.Asks.{IsAlike, allot_asks, noted, took, IsNotBusy}
-use Rattle.trio_edit_laws.specs.Calls.{MayCall}
-use Rattle.trio_calls_file.specs.Asks.{edited, growth_of, new_length, sized, walked_growth, wanted_pages}
-use Rattle.trio_walk.specs.declared.outcome.Outcome.TheVariants.{Replied}
-use Rattle.trio_walk.specs.declared.outcome.Stop.{Stop}
-use Rattle.trio_walk.specs.declared.outcome.Stop.TheVariants.{Busy as IsBusy, NoMemory as LacksMemory}
-use Rattle.trio_calls_file.specs.inner.Goes.{Goes, IsBytes, IsPlain, MayBeDone, Unrefused, try_ends, wants_pages_for}
-use Rattle.trio_calls_file.specs.inner.Rooms.{MadeRoom, MayGoOn, RoomEnds}
+use Rattle.trio_walk.specs.Asks.{AskedBy, IsNotBusy, TryEnds, noted}
+use Rattle.trio_walk.specs.Tries.{allot_reply}
+use Rattle.trio_edit_laws.specs.Allotting.{AllotEnds, IsUngiven}
+use Rattle.trio_edit_laws.specs.Calls.{MayCall, MayGoOn}
+use Rattle.trio_edit_laws.proofs.Allotting.{asks_fault, asks_short, told_fault}
+use Rattle.trio_edit_laws.proofs.WithSlot.{no_length}
+use Rattle.trio_calls_file.specs.Asks.{edited, growth_of, new_length, walked_growth, wanted_pages}
+use Rattle.trio_walk.specs.declared.outcome.Outcome.{Outcome}
+use Rattle.trio_walk.specs.declared.outcome.Outcome.TheVariants.{NoMemory, Replied}
+use Rattle.trio_calls_file.specs.inner.Goes.{AfterTry, Goes, IsBytes, IsPlain, LeavesHere, MayBeDone, Unrefused, try_ends, wants_pages_for}
+use Rattle.trio_calls_file.specs.inner.Rooms.{HasPlaces, MadeRoom}
 use Rattle.trio_calls_file.proofs.AfterTaking.{edited_alike}
-use Rattle.trio_calls_file.proofs.Looked.{made_noted, may_looked}
-use Rattle.trio_calls_file.proofs.Shown.{alike_then, both_then}
-use Rattle.trio_calls_file.proofs.Still.{edit_but}
+use Rattle.trio_calls_file.proofs.Looked.{may_looked}
 use Rattle.trio_calls_file.proofs.Writes.{Edits, edits_none, edits_put, edits_sized}
+use Rattle.trio_session.specs.Asked.{IsAlike, allot_asks, took}
+use Rattle.trio_session.proofs.Alike.{alike_then}
+use Rattle.trio_session.specs.Deeds.{sized}
+use Rattle.trio_walk.proofs.Then.{both_then, short_ends}
+use Rattle.trio_edit_laws.proofs.Noting.{may_noted as note_done}
 
 -- ---- a call that changes the bytes of a file
 
@@ -116,42 +119,21 @@ module _ (desk : DeskSeen) (s : SessionSeen) (call : Call) (new : List ℕ → L
       subst (λ (cs : List Done). wanted_pages (batch_nodes desk.creds cs nodes) desk.creds call ≡ growth (block_count (size_in (body_in s ino))) (block_count (new_length call (size_in (body_in s ino))))) (sym calls)
       (wants_growth (batch_nodes desk.creds s.calls nodes) (known nodes rows (more nodes rows p)))
 
-  -- ---- noted
-
-  noted_comes : (t : SessionSeen) → Becomes desk (in_hand s) (in_hand t) (with_content ino (new (bytes_in s ino))) → t.calls ≡ s.calls → ComesToShown desk t.parcel t.reads (t.calls ++ record { call = call; reply = IsReplied answer; made = 0 } ∷ [])
-  noted_comes t becomes calls nodes rows p =
-      let n1 : Nodes = batch_nodes desk.creds s.calls nodes in
-      let q = becomes.more nodes rows p in
-      let was = may.comes nodes rows q in
-      let it = does n1 (known nodes rows q) in
-      let shown = shown_by desk (in_hand s) (in_hand t) s.calls nodes rows becomes.more may.comes p in
-      let end : batch_nodes desk.creds (s.calls ++ done ∷ []) nodes ≡ with_content ino (new (bytes_in s ino)) n1 =
-      batch_more desk.creds s.calls done nodes ∙ it.2 ∙ writing.change ino (bytes_in s ino) n1 in
-      subst
-      (λ (cs : List Done). LegalCalls desk.creds nodes (cs ++ record { call = call; reply = IsReplied answer; made = 0 } ∷ [])
-      × Shows (parcel_case desk.sizes desk.creds rows t.parcel) nodes (batch_nodes desk.creds (cs ++ record { call = call; reply = IsReplied answer; made = 0 } ∷ []) nodes)) (sym calls) (
-        reply_more desk.creds s.calls done nodes was.0 it.0 it.1,
-        subst (λ (k : Nodes). Shows (parcel_case desk.sizes desk.creds rows t.parcel) nodes k) (sym end) (becomes.shows nodes n1 rows shown),
-      )
-
   -- ---- the end
 
   -- with its edit and its note the session may go on
-  pub may_noted : (t : SessionSeen) → Edits desk s t ino (new (bytes_in s ino)) → MayCall desk (noted call (IsReplied answer) 0 t)
-  may_noted t e = record {
-    edits = edit_but desk t t.indexed t.finds t.room (t.calls ++ record { call = call; reply = IsReplied answer; made = 0 } ∷ []) e.may;
-    comes = noted_comes t e.becomes e.calls;
-    made = λ x i some.
-        subst (λ (l : List InoParts). In x.made (ino_numbers l)) (sym e.inodes)
-        (made_noted t call (IsReplied answer) (ino_numbers s.parcel.inodes) (λ y j k. may.made y (subst (λ (cs : List Done). In y cs) e.calls j) k) x i some);
-    spent = e.spent;
-    spent_numbers = e.numbers ∙ may.spent_numbers;
-  }
+  pub may_noted : spare_numbers s ≡ [] → (t : SessionSeen) → Edits desk s t ino (new (bytes_in s ino)) → MayCall desk (noted call (IsReplied answer) 0 t)
+  may_noted numbers t e =
+      note_done desk s t done (with_content ino (new (bytes_in s ino))) e.calls (λ some. absurd (some refl)) may.comes may.made e.becomes.more e.becomes.shows e.may (ap (λ (l : List InoParts). ino_numbers l) e.inodes) e.spent (e.numbers ∙ numbers)
+      (λ nodes rows p.
+      let now : Nodes = batch_nodes desk.creds s.calls nodes in
+      let it = does now (known nodes rows p) in
+      (it.0, it.1, it.2 ∙ writing.change ino (bytes_in s ino) now))
 
   -- so it may with the note that there is no room
-  pub may_lacking : (wanted free : ℕ) → free < wanted → spare_pages s ≡ [] → MayCall desk (noted call (NoSpace wanted free) 0 s)
-  may_lacking wanted free less spent =
-      may_looked desk s call (NoSpace wanted free) (record { edits = may.edits; comes = may.comes; made = may.made; spent = spent; spent_numbers = may.spent_numbers })
+  pub may_lacking : (wanted free : ℕ) → free < wanted → spare_pages s ≡ [] → spare_numbers s ≡ [] → MayCall desk (noted call (NoSpace wanted free) 0 s)
+  may_lacking wanted free less spent numbers =
+      may_looked desk s call (NoSpace wanted free) (record { edits = may.edits; comes = may.comes; made = may.made; spent = spent; spent_numbers = numbers })
       (λ nodes rows p.
       let k = known nodes rows p in
       refused_for_room desk (record { call = call; reply = NoSpace wanted free; made = 0 }) (batch_nodes desk.creds s.calls nodes) (path_of call) ino k.rights wanted free
@@ -159,20 +141,23 @@ module _ (desk : DeskSeen) (s : SessionSeen) (call : Call) (new : List ℕ → L
 
 -- ---- what is known after room was made
 
-module _ {D : Type 0} (called : D → Ask → Told → D → Type 0) (seen : D → DeskSeen) (d : D) (s : SessionSeen) (ino old size : ℕ) (result : Result (Option Reply) Stop) (d' : D) (s1 : SessionSeen)
+module _ {D : Type 0} (called : D → Ask → Told → D → Type 0) (seen : D → DeskSeen) (d : D) (s : SessionSeen) (ino old size : ℕ) (result : Result Unit AllotFault) (d' : D) (s1 : SessionSeen)
     (o : IsOpen s ino) (old_is : old ≡ size_in (body_in s ino)) (room : MadeRoom called seen d s ino old size result d' s1) where
   pub open_room : IsOpen s1 ino
-  open_room = room.wanted.files.opens ino ∙ o
+  open_room = room.wanted.stays.opens ino ∙ o
 
   pub old_room : old ≡ size_in (body_in s1 ino)
-  old_room = old_is ∙ sym (ap size_in (room.wanted.files.body ino Regular o))
+  old_room = old_is ∙ sym (ap size_in (room.files.bodies ino Regular o))
 
-  module _ (is : result ≡ Ok None) where
-    ends_room : RoomEnds (seen d') ino (block_count size) (growth (block_count old) (block_count size)) room.given room.last (Ok None) s1
-    ends_room = subst (λ r. RoomEnds (seen d') ino (block_count size) (growth (block_count old) (block_count size)) room.given room.last r s1) is room.ends
+  module _ (is : result ≡ Ok tt) where
+    ends_room : AllotEnds (seen d') (growth (block_count old) (block_count size)) 0 room.given room.last (Ok tt) s1
+    ends_room = subst (λ r. AllotEnds (seen d') (growth (block_count old) (block_count size)) 0 room.given room.last r s1) is room.ends
+
+    places_room : HasPlaces s1 ino (block_count size)
+    places_room = room.places (λ other. (let wrong : Ok tt ≡ Err NoAllotMemory = sym is ∙ other in absurd (cc wrong)))
 
     many_room : length (spare_pages s1) ≡ growth (block_count (size_in (body_in s1 ino))) (block_count size)
-    many_room = ends_room.2.many ∙ ap (λ n. growth (block_count n) (block_count size)) old_room
+    many_room = ends_room.3 ∙ ap (λ n. growth (block_count n) (block_count size)) old_room
 
     pub pages_room : growth (length (chain_in s1 ino).blocks) (block_count size) ≤ length (spare_pages s1)
     pages_room =
@@ -181,24 +166,24 @@ module _ {D : Type 0} (called : D → Ask → Told → D → Type 0) (seen : D �
         omega (arith, same)
 
     pub blocks_room : block_count size ≤ room_in s1 ino
-    blocks_room = ends_room.3.blocks
+    blocks_room = places_room.blocks
 
     pub calls_room : (t : SessionSeen) → t.calls ≡ s1.calls → t.room.calls ≡ s1.room.calls → length t.calls < t.room.calls
     calls_room t calls places =
-        subst (λ n. length t.calls < n) (sym places) (subst (λ (cs : List Done). length cs < s1.room.calls) (sym calls) ends_room.3.calls)
+        subst (λ n. length t.calls < n) (sym places) (subst (λ (cs : List Done). length cs < s1.room.calls) (sym calls) places_room.calls)
 
     module _ (limits : AreWithinLimits (seen d).sizes) where
       limits_room : AreWithinLimits (seen d').sizes
       limits_room = subst AreWithinLimits (sym room.wanted.same.sizes) limits
 
       pub edits_room : size ≤ largest_size → Edits (seen d') s1 (sized ino size s1) ino (resized size (bytes_in s1 ino))
-      edits_room largest = edits_sized (seen d') s1 ino room.wanted.may.edits open_room size limits_room ends_room.2.spare largest many_room
+      edits_room largest = edits_sized (seen d') s1 ino room.wanted.may.edits open_room size limits_room ends_room.2 largest many_room
 
       pub size_room : size ≤ largest_size → size_in (body_in (sized ino size s1) ino) ≡ size
       size_room largest = (edits_room largest).size ∙ length-resized size (bytes_in s1 ino)
 
       pub none_room : size ≤ largest_size → size ≡ old → Edits (seen d') s1 s1 ino (bytes_in s1 ino)
-      none_room largest e = edits_none (seen d') s1 ino room.wanted.may.edits open_room size limits_room ends_room.2.spare largest many_room (e ∙ old_room)
+      none_room largest e = edits_none (seen d') s1 ino room.wanted.may.edits open_room size limits_room ends_room.2 largest many_room (e ∙ old_room)
 
       pub put_room : (at : ℕ) (bytes : List ℕ) → eqb (length bytes) 0 ≡ false → at + length bytes ≤ largest_size → old ≤ largest_size → size ≡ max old (at + length bytes)
           → Edits (seen d') s1 (put ino at bytes (sized ino size s1)) ino (put_at at bytes (bytes_in s1 ino))
@@ -206,7 +191,7 @@ module _ {D : Type 0} (called : D → Ask → Told → D → Type 0) (seen : D �
       put_room at (b ∷ bs) some largest old_largest e =
           let is_max : size ≡ max (size_in (body_in s1 ino)) (at + length (b ∷ bs)) = e ∙ ap (λ n. max n (at + length (b ∷ bs))) old_room in
           subst (λ n. Edits (seen d') s1 (put ino at (b ∷ bs) (sized ino n s1)) ino (put_at at (b ∷ bs) (bytes_in s1 ino))) (sym is_max)
-          (edits_put (seen d') s1 ino room.wanted.may.edits open_room limits_room ends_room.2.spare at b bs largest (subst (λ n. n ≤ largest_size) old_room old_largest)
+          (edits_put (seen d') s1 ino room.wanted.may.edits open_room limits_room ends_room.2 at b bs largest (subst (λ n. n ≤ largest_size) old_room old_largest)
           (many_room ∙ ap (λ n. growth (block_count (size_in (body_in s1 ino))) (block_count n)) is_max))
 
 -- the size of a file after a write
@@ -229,18 +214,14 @@ put_at-none at [] old none = refl
 put_at-none at (b ∷ bs) old none = absurd (let e = eqb-true (length (b ∷ bs)) 0 none in omega (arith, e))
 
 -- it is never busy
-pub idle_room : {D : Type 0} (called : D → Ask → Told → D → Type 0) (seen : D → DeskSeen) (d : D) (s : SessionSeen) (ino old size : ℕ) (result : Result (Option Reply) Stop) (d' : D) (s1 : SessionSeen)
-    → MadeRoom called seen d s ino old size result d' s1 → (stop : Stop) → result ≡ Err stop → IsNotBusy (try_ends (Err stop))
-idle_room called seen d s ino old size result d' s1 room stop is =
-    by stop (subst (λ r. RoomEnds (seen d') ino (block_count size) (growth (block_count old) (block_count size)) room.given room.last r s1) is room.ends)
-  where
-    by : (p : Stop) → RoomEnds (seen d') ino (block_count size) (growth (block_count old) (block_count size)) room.given room.last (Err p) s1 → IsNotBusy (try_ends (Err p))
-    by (IsBusy holder) x = absurd x
-    by LacksMemory x = tt
+pub idle_fault : (fault : AllotFault) → IsNotBusy (try_ends (allot_reply fault))
+idle_fault (NoPages wanted free) = tt
+idle_fault (NoFreeInodes wanted free) = tt
+idle_fault NoAllotMemory = tt
 
 -- ---- a call that writes, after room was made
 
-module _ {D : Type 0} (called : D → Ask → Told → D → Type 0) (seen : D → DeskSeen) (d : D) (s : SessionSeen) (call : Call) (new : List ℕ → List ℕ) (answer : Answer) (ino old size : ℕ) (result : Result (Option Reply) Stop) (d' : D) (s1 : SessionSeen)
+module _ {D : Type 0} (called : D → Ask → Told → D → Type 0) (seen : D → DeskSeen) (d : D) (s : SessionSeen) (call : Call) (new : List ℕ → List ℕ) (answer : Answer) (ino old size : ℕ) (result : Result Unit AllotFault) (d' : D) (s1 : SessionSeen)
     (o : IsOpen s ino) (writing : IsWriting call new answer) (old_is : old ≡ size_in (body_in s ino)) (size_is : new_length call old ≡ size) (room : MadeRoom called seen d s ino old size result d' s1) where
   opens : IsOpen s1 ino
   opens = open_room called seen d s ino old size result d' s1 o old_is room
@@ -263,10 +244,10 @@ module _ {D : Type 0} (called : D → Ask → Told → D → Type 0) (seen : D �
         (asks_growth (seen d') s1 call new answer ino room.wanted.may opens writing unrefused_room t more calls nodes rows p ∙ growth_is))
 
     -- it is done
-    pub goes_done : result ≡ Ok None → (t : SessionSeen) → Edits (seen d') s1 t ino (new (bytes_in s1 ino)) → IsAlike (edited call ino s1) t → length t.calls < t.room.calls
+    pub goes_done : result ≡ Ok tt → (t : SessionSeen) → Edits (seen d') s1 t ino (new (bytes_in s1 ino)) → IsAlike (edited call ino s1) t → length t.calls < t.room.calls
         → Goes called seen d s call ino (wants_pages_for (seen d).creds call) (Replied (IsReplied answer)) d' t
     goes_done is t e alike places =
-        let ends = subst (λ r. RoomEnds (seen d') ino (block_count size) (growth (block_count old) (block_count size)) room.given room.last r s1) is room.ends in
+        let ends = subst (λ r. AllotEnds (seen d') (growth (block_count old) (block_count size)) 0 room.given room.last r s1) is room.ends in
         record {
           given = room.given;
           last = room.last;
@@ -275,74 +256,68 @@ module _ {D : Type 0} (called : D → Ask → Told → D → Type 0) (seen : D �
           ends = ends.0;
           leaves =
               alike_then (edited call ino (took s (map (λ c. c.told) room.given))) (edited call ino s1) t
-              (edited_alike call ino (took s (map (λ c. c.told) room.given)) s1 room.wanted.alike) alike;
+              (edited_alike call ino (took s (map (λ c. c.told) room.given)) s1 room.alike) alike;
           calls = e.calls ∙ room.wanted.calls;
           same = room.wanted.same;
-          asks = λ nodes rows p. asked t e.becomes.more e.calls nodes rows p ∙ ends.1;
+          asks = λ nodes rows p.
+              asked t e.becomes.more e.calls nodes rows p ∙ ends.1 ∙ sym (ap (λ (l : List desk_calls.Call). map (λ c. c.ask) (room.given ++ l)) ends.0 ∙ ap (map (λ c. c.ask)) (append-nil room.given));
           more = λ nodes rows p. room.wanted.more nodes rows (e.becomes.more nodes rows p);
           after = (
-            may_noted (seen d') s1 call new answer ino room.wanted.may opens writing unrefused_room t e,
+            may_noted (seen d') s1 call new answer ino room.wanted.may opens writing unrefused_room (no_length (spare_numbers s1) ends.4.many) t e,
             places,
             writing.plain,
             λ b. absurd (writing.unread b),
           );
         }
 
-    -- there is no room for it
-    pub goes_lacking : (reply : Reply) → result ≡ Ok (Some reply) → Goes called seen d s call ino (wants_pages_for (seen d).creds call) (Replied reply) d' s1
-    goes_lacking reply is = by reply (subst (λ r. RoomEnds (seen d') ino (block_count size) (growth (block_count old) (block_count size)) room.given room.last r s1) is room.ends)
+    -- there is no room for it, or no memory
+    pub goes_fault : (fault : AllotFault) → result ≡ Err fault → Goes called seen d s call ino (wants_pages_for (seen d).creds call) (try_ends (allot_reply fault)) d' s1
+    goes_fault fault is = by fault is (subst (λ r. AllotEnds (seen d') (growth (block_count old) (block_count size)) 0 room.given room.last r s1) is room.ends)
       where
-        by : (r : Reply) → RoomEnds (seen d') ino (block_count size) (growth (block_count old) (block_count size)) room.given room.last (Ok (Some r)) s1
-            → Goes called seen d s call ino (wants_pages_for (seen d).creds call) (Replied r) d' s1
-        by (NoSpace wanted free) x = record {
-          given = room.given;
-          last = room.last;
-          each = room.wanted.each;
-          made = room.wanted.made;
-          ends = (0, x.1);
-          leaves = room.wanted.alike;
-          calls = room.wanted.calls;
-          same = room.wanted.same;
-          asks = λ nodes rows p. asked s1 (λ n r q. q) refl nodes rows p ∙ x.2;
-          more = room.wanted.more;
-          after = (
-            may_lacking (seen d') s1 call new answer ino room.wanted.may opens writing unrefused_room wanted free x.3 x.4,
-            x.5.calls,
-            tt,
-            λ b. absurd b,
-          );
-        }
-        by (IsReplied a) x = absurd x
-        by NotFound x = absurd x
-        by Exists x = absurd x
-        by NotDir x = absurd x
-        by IsDir x = absurd x
-        by NotEmpty x = absurd x
-        by Denied x = absurd x
-        by IntoItself x = absurd x
-        by (NoInodes wanted free) x = absurd x
-        by TooLarge x = absurd x
+        pages : ℕ
+        pages = growth (block_count old) (block_count size)
 
-    -- or no memory
-    pub goes_short : (stop : Stop) → result ≡ Err stop → Goes called seen d s call ino (wants_pages_for (seen d).creds call) (try_ends (Err stop)) d' s1
-    goes_short stop is = by stop (subst (λ r. RoomEnds (seen d') ino (block_count size) (growth (block_count old) (block_count size)) room.given room.last r s1) is room.ends)
-      where
-        by : (p : Stop) → RoomEnds (seen d') ino (block_count size) (growth (block_count old) (block_count size)) room.given room.last (Err p) s1
-            → Goes called seen d s call ino (wants_pages_for (seen d).creds call) (try_ends (Err p)) d' s1
-        by (IsBusy holder) x = absurd x
-        by LacksMemory x = record {
+        asks_here : InAllShown (seen d') s1 (λ now. allot_asks (wanted_pages now (seen d).creds call) 0 ≡ allot_asks (growth (block_count old) (block_count size)) 0)
+        asks_here nodes rows p = asked s1 (λ n r q. q) refl nodes rows p
+
+        goes_by : (end : Outcome) → TryEnds end room.last → LeavesHere call ino (took s (map (λ (c : desk_calls.Call). c.told) room.given)) end s1
+            → InAllShown (seen d') s1 (λ now. AskedBy end (map (λ (c : desk_calls.Call). c.ask) (room.given ++ room.last)) (wants_pages_for (seen d).creds call now)) → AfterTry (seen d') call end s1
+            → Goes called seen d s call ino (wants_pages_for (seen d).creds call) end d' s1
+        goes_by end ends leaves asks after = record {
           given = room.given;
           last = room.last;
           each = room.wanted.each;
           made = room.wanted.made;
-          ends = x.1;
-          leaves = room.wanted.alike;
+          ends = ends;
+          leaves = leaves;
           calls = room.wanted.calls;
           same = room.wanted.same;
-          asks = λ nodes rows p. (x.2.0, asked s1 (λ n r q. q) refl nodes rows p ∙ x.2.1);
+          asks = asks;
           more = room.wanted.more;
-          after = (let m = room.wanted.may in record { edits = m.edits; comes = m.comes; made = m.made; spent = x.3; spent_numbers = m.spent_numbers });
+          after = after;
         }
+
+        by : (f : AllotFault) → result ≡ Err f → IsUngiven (growth (block_count old) (block_count size)) 0 f room.given room.last s1
+            → Goes called seen d s call ino (wants_pages_for (seen d).creds call) (try_ends (allot_reply f)) d' s1
+        by (NoPages wanted free) is x =
+            let told = told_fault pages 0 room.given room.last s1 (NoPages wanted free) x (λ e. absurd (cc e)) in
+            goes_by (Replied (NoSpace wanted free)) (0, told.told ∙ ap (λ n. record { ask = Allot n 0; told = NotGiven (NoPages wanted free) } ∷ []) (sym told.lack.0)) room.alike
+            (λ nodes rows p. asks_here nodes rows p ∙ asks_fault pages 0 room.given room.last s1 (NoPages wanted free) x.none told) (
+              may_lacking (seen d') s1 call new answer ino room.wanted.may opens writing unrefused_room wanted free told.lack.1 x.spent x.spent_numbers,
+              (room.places (λ other. (let wrong : Err (NoPages wanted free) ≡ Err NoAllotMemory = sym is ∙ other in absurd (cc wrong)))).calls,
+              tt,
+              λ b. absurd b,
+            )
+        by (NoFreeInodes wanted free) is x =
+            let lack = (told_fault pages 0 room.given room.last s1 (NoFreeInodes wanted free) x (λ e. absurd (cc e))).lack in
+            let none = lack.0 in
+            let less = lack.1 in
+            absurd (omega (arith, none, less))
+        by NoAllotMemory is x =
+            let m = room.wanted.may in
+            let rest = asks_short pages 0 room.given room.last s1 x in
+            goes_by NoMemory (short_ends pages 0 room.last (elim x.ends [ inl told ↦ inl told.told | inr none ↦ inr none.0 ])) room.alike (λ nodes rows p. (rest.0, asks_here nodes rows p ∙ rest.1))
+            (record { edits = m.edits; comes = m.comes; made = m.made; spent = x.spent; spent_numbers = x.spent_numbers })
 
 -- ---- the calls
 

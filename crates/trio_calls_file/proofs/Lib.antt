@@ -1,5 +1,3 @@
-pub mod Reading
-pub mod Still
 pub mod Alike
 pub mod KnownRights
 pub mod Shown
@@ -10,7 +8,6 @@ pub mod Noted
 pub mod Walkable
 pub mod Walked
 pub mod Taking
-pub mod Had
 pub mod Contents
 pub mod Rooms
 pub mod Writes
@@ -19,4 +16,3 @@ pub mod AtTaken
 pub mod OwnReads
 pub mod WholeTries
 pub mod Ends
-pub mod Made

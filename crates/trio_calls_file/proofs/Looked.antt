@@ -1,13 +1,10 @@
 -- A call that looks or is refused, and its note.
-use Rattle.std.proofs.Common.{◌≡◌, ℕ, ◌<◌, false, List, [], ◌∷◌, ◌++◌, length, Result, Ok, Err, sym, refl, ap, ◌∙◌, subst, inl, inr}
-use Rattle.std.specs.Prelude.{◌≢◌, map, MatchResult}
+use Rattle.std.proofs.Common.{◌≡◌, ℕ, ◌<◌, false, List, [], ◌++◌, length, Result, Ok, Err, sym, refl, ap, ◌∙◌, subst, inl, inr}
+use Rattle.std.specs.Prelude.{map, MatchResult}
 use Rattle.std.proofs.lemmas.List.{append-nil}
-use Rattle.trio_lists.specs.Lists.{In}
-use Rattle.trio_lists.proofs.Members.{In-cases}
 use Rattle.trio_nodes.specs.declared.call.Answer.TheVariants.{Bytes}
 use Rattle.trio_nodes.specs.declared.call.Call.{Call}
 use Rattle.trio_nodes.specs.declared.call.Call.TheVariants.{Read}
-use Rattle.trio_nodes.specs.declared.call.Done.{Done}
 use Rattle.trio_nodes.specs.declared.call.Reply.{Reply}
 use Rattle.trio_nodes.specs.declared.call.Reply.TheVariants.{Ok as IsReplied, NotFound, NotDir, IsDir, Denied, TooLarge, Exists, NotEmpty, IntoItself, NoSpace, NoInodes}
 use Rattle.trio_nodes.specs.Nodes.{Nodes}
@@ -16,54 +13,24 @@ use Rattle.trio_nodes.specs.After.{call_nodes}
 use Rattle.trio_desk.specs.Call.{Ask, DeskSeen, Told}
 use Rattle.trio_desk.specs.Calls as desk_calls
 use Rattle.trio_desk.specs.Edits.{DoesCall}
-use Rattle.trio_desk.specs.Out.{ino_numbers}
-use Rattle.trio_desk.specs.Ready.{ComesToShown, parcel_case}
-use Rattle.trio_desk.specs.Shows.{Shows}
-use Rattle.trio_laws.proofs.session.Calls.{batch_more, reply_more}
 use Rattle.trio_session.specs.Seen.{SessionSeen}
 use Rattle.trio_walk.specs.Walks.{InAllShown}
 use Rattle.trio_walk.specs.declared.outcome.Outcome.TheVariants.{Replied, NoMemory}
 use Rattle.trio_walk.specs.declared.outcome.Stop.{Stop}
 use Rattle.trio_walk.specs.declared.outcome.Stop.TheVariants.{NoMemory as LacksMemory}
-use Rattle.trio_walk.specs.Asks.{IsAlike, TryEnds, noted, took}
+use Rattle.trio_walk.specs.Asks.{TryEnds, noted}
 use Rattle.trio_edit_laws.specs.Calls.{MayCall}
 use Rattle.trio_calls_file.specs.inner.Goes.{Goes, IsBytes, IsPlain, IsRead, LeavesHere, Went, try_ends}
-use Rattle.trio_calls_file.proofs.Shown.{alike_room, both_alike, went_alike}
-use Rattle.trio_calls_file.proofs.Still.{edit_but}
+use Rattle.trio_calls_file.proofs.Shown.{both_alike, went_alike}
+use Rattle.trio_session.specs.Asked.{IsAlike, took}
+use Rattle.trio_session.proofs.Alike.{alike_room}
+use Rattle.trio_edit_laws.proofs.Noting.{may_looked as note_look}
 
 -- ---- the note
 
--- a call that is noted makes no file
-pub made_noted : (s : SessionSeen) (call : Call) (reply : Reply) (numbers : List ℕ) → ((x : Done) → In x s.calls → x.made ≢ 0 → In x.made numbers)
-    → (x : Done) → In x (s.calls ++ record { call = call; reply = reply; made = 0 } ∷ []) → x.made ≢ 0 → In x.made numbers
-made_noted s call reply numbers made x i some =
-    elim (In-cases x s.calls (record { call = call; reply = reply; made = 0 } ∷ []) i) [
-      | inl old ↦ made x old some
-      | inr (inl e) ↦ absurd (some (ap (λ (y : Done). y.made) e))
-      | inr (inr no') ↦ absurd no'
-    ]
-
-module _ (desk : DeskSeen) (s : SessionSeen) (call : Call) (reply : Reply) where
-  abbrev pub done : Done
-  done = record { call = call; reply = reply; made = 0 }
-
-  look_comes : ComesToShown desk s.parcel s.reads s.calls → InAllShown desk s (λ now. DoesCall desk (record { call = call; reply = reply; made = 0 }) now now) → ComesToShown desk s.parcel s.reads (s.calls ++ record { call = call; reply = reply; made = 0 } ∷ [])
-  look_comes comes does nodes rows p =
-      let was = comes nodes rows p in
-      let it = does nodes rows p in (
-        reply_more desk.creds s.calls done nodes was.0 it.0 it.1,
-        subst (λ (k : Nodes). Shows (parcel_case desk.sizes desk.creds rows s.parcel) nodes k) (sym (batch_more desk.creds s.calls done nodes ∙ it.2)) was.1,
-      )
-
-  -- with a look that is noted the session may go on
-  pub may_looked : MayCall desk s → InAllShown desk s (λ now. DoesCall desk (record { call = call; reply = reply; made = 0 }) now now) → MayCall desk (noted call reply 0 s)
-  may_looked may does = record {
-    edits = edit_but desk s s.indexed s.finds s.room (s.calls ++ done ∷ []) may.edits;
-    comes = look_comes may.comes does;
-    made = made_noted s call reply (ino_numbers s.parcel.inodes) may.made;
-    spent = may.spent;
-    spent_numbers = may.spent_numbers;
-  }
+-- with a look that is noted the session may go on
+pub may_looked : (desk : DeskSeen) (s : SessionSeen) (call : Call) (reply : Reply) → MayCall desk s → InAllShown desk s (λ now. DoesCall desk (record { call = call; reply = reply; made = 0 }) now now) → MayCall desk (noted call reply 0 s)
+may_looked desk s call reply may does = note_look desk s (record { call = call; reply = reply; made = 0 }) refl may does
 
 -- ---- replies that edit nothing
 

@@ -18,11 +18,12 @@ use Rattle.trio_session.specs.Seen.{SessionSeen}
 use Rattle.trio_walk.specs.declared.outcome.Outcome.{Outcome}
 use Rattle.trio_walk.specs.declared.outcome.Outcome.TheVariants.{Replied, Busy, NoMemory}
 use Rattle.trio_desk.specs.Calls as desk_calls
-use Rattle.trio_walk.specs.Asks.{IsAlike, TryEnds, noted, took}
+use Rattle.trio_walk.specs.Asks.{TryEnds, noted}
 use Rattle.trio_walk.specs.Tries.{TakesMemory}
 use Rattle.trio_calls_file.specs.Asks.{Leaves, FileTried, TriedIn, edited}
 use Rattle.trio_edit_laws.specs.Calls.{MayCall}
 use Rattle.trio_calls_file.specs.inner.Goes.{IsBytes, IsPlain, IsRead, LeavesHere, RepliesTo}
+use Rattle.trio_session.specs.Asked.{IsAlike, took}
 
 -- ---- what is left
 

@@ -1,55 +1,29 @@
 -- What is known of all nodes that are shown passes to later moments of a try.
-use Rattle.std.proofs.Common.{◌≡◌, ◌⊎◌, Bool, true, eqb, List, [], ◌∷◌, Option, sym, refl, ap, ◌∙◌, subst}
+use Rattle.std.proofs.Common.{◌≡◌, ◌⊎◌, Bool, true, eqb, List, [], ◌∷◌, sym, refl, ap, ◌∙◌, subst}
 use Rattle.std.specs.List.{find}
-use Rattle.trio_rights.specs.Row.{Row}
 use Rattle.trio_rights.specs.declared.rights.Creds.{Creds}
-use Rattle.trio_nodes.specs.declared.call.Done.{Done as CallDone}
 use Rattle.trio_nodes.specs.Nodes.{Nodes}
 use Rattle.trio_nodes.specs.After.{batch_nodes}
 use Rattle.trio_desk.specs.Call.{Ask, DeskSeen, Told, Lent, NotLent, Given, NotGiven, Done, Judged, NotJudged, Settled, NotSettled, ModeSet, NotModeSet}
 use Rattle.trio_desk.specs.Calls as desk_calls
-use Rattle.trio_desk.specs.Edits.{TakesMore}
 use Rattle.trio_desk.specs.Ready.{ArePossible}
 use Rattle.trio_lease.specs.declared.lease.Lease.TheVariants.{Write as WriteLease, Read as ReadLease, Hold as HoldLease}
-use Rattle.trio_session.specs.Asked.{with_allotted, with_lease}
-use Rattle.trio_session.specs.Seen.{MadeFile, SessionSeen, in_hand}
+use Rattle.trio_session.specs.Asked.{with_allotted, with_lease, IsAlike, took}
+use Rattle.trio_session.specs.Seen.{MadeFile, SessionSeen}
 use Rattle.trio_walk.specs.declared.met.Met.{Met}
 use Rattle.trio_walk.specs.Walks.{InBoth, IsLive, IsMet, HasMet}
-use Rattle.trio_walk.proofs.Possible.{possible_before}
 use Rattle.std.specs.Prelude.{is_some, map}
-use Rattle.trio_walk.specs.Asks.{IsAlike, took}
 use Rattle.trio_edit_laws.specs.Calls.{MayCall}
 use Rattle.trio_calls_file.specs.inner.Goes.{Went}
-use Rattle.trio_walk.specs.Tries.{SameDesk}
-use Rattle.trio_calls_file.proofs.Still.{may_alike}
+use Rattle.trio_session.proofs.Alike.{alike_then}
+use Rattle.trio_walk.proofs.Then.{both_then}
+use Rattle.trio_edit_laws.proofs.Alike.{may_alike}
 
 -- ---- sessions that are alike
-
--- but for its room
-pub alike_room : (s s' : SessionSeen) → s' ≡ record s { room = s'.room } → IsAlike s s'
-alike_room s s' e =
-    e ∙ ap (λ i. record s { indexed = i; room = s'.room }) (sym (ap (λ (x : SessionSeen). x.indexed) e))
-    ∙ ap (λ f. record s { indexed = s'.indexed; finds = f; room = s'.room }) (sym (ap (λ (x : SessionSeen). x.finds) e))
-
-pub alike_then : (x y z : SessionSeen) → IsAlike x y → IsAlike y z → IsAlike x z
-alike_then x y z a b = b ∙ ap (λ (q : SessionSeen). record q { indexed = z.indexed; finds = z.finds; room = z.room }) a
 
 -- what is shown is shown by a session that is alike
 pub both_alike : (desk : DeskSeen) (s s' : SessionSeen) (P : Nodes → Nodes → Type 0) → IsAlike s s' → InBoth desk s P → InBoth desk s' P
 both_alike desk s s' P e h = subst (λ (x : SessionSeen). InBoth desk x P) (sym e) h
-
--- ---- another moment of the desk
-
-pub possible_then : (desk desk' : DeskSeen) (s : SessionSeen) → SameDesk desk desk' → (nodes : Nodes) (rows : List (Option Row)) → ArePossible desk' s.parcel s.reads nodes rows → ArePossible desk s.parcel s.reads nodes rows
-possible_then desk desk' s same nodes rows p =
-    possible_before desk desk' s s [] (record { same = refl; indexed = λ n i. i }) nodes rows same.sizes same.root p
-
-pub both_then : (desk desk' : DeskSeen) (s s' : SessionSeen) (P : Nodes → Nodes → Type 0) → SameDesk desk desk' → TakesMore desk' (in_hand s) (in_hand s') → s'.calls ≡ s.calls
-    → InBoth desk s P → InBoth desk' s' P
-both_then desk desk' s s' P same more calls h nodes rows p =
-    let was = h nodes rows (possible_then desk desk' s same nodes rows (more nodes rows p)) in
-    let now : P nodes (batch_nodes desk.creds s'.calls nodes) = subst (λ (cs : List CallDone). P nodes (batch_nodes desk.creds cs nodes)) (sym calls) was in
-    subst (λ (k : Creds). P nodes (batch_nodes k s'.calls nodes)) (sym same.creds) now
 
 -- ---- files that were made
 

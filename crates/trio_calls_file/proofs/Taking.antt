@@ -20,7 +20,8 @@ use Rattle.trio_walk.specs.Walks.{EndsBy, Took, lent_call, need_of, one_need}
 use Rattle.trio_walk.proofs.Possible.{moment_possible}
 use Rattle.trio_walk.specs.declared.outcome.Stop.TheVariants.{Busy as IsBusy, NoMemory as LacksMemory}
 use Rattle.trio_calls_file.specs.inner.Goes.{TookFile, one_ask}
-use Rattle.trio_calls_file.proofs.Walked.{asks_lent, walked_went}
+use Rattle.trio_calls_file.proofs.Walked.{walked_went}
+use Rattle.trio_walk.proofs.Then.{asks_lent}
 
 -- what is asked of one file
 one_asked : (s : SessionSeen) (ino : ℕ) (kind : GrantKind) → map grant_ask (one_need s ino kind) ≡ one_ask s ino kind

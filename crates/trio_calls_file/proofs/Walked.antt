@@ -1,5 +1,5 @@
 -- A try after its walk.
-use Rattle.std.proofs.Common.{◌≡◌, ℕ, ◌+◌, Bool, true, false, cond, eqb, ltb, leb, List, [], ◌∷◌, length, Option, Some, None, sym, refl, ap, ◌∙◌, subst, inl}
+use Rattle.std.proofs.Common.{◌≡◌, ℕ, ◌+◌, Bool, true, false, cond, eqb, ltb, leb, List, [], ◌∷◌, length, Option, Some, None, sym, refl, ap, ◌∙◌, subst}
 use Rattle.std.specs.Prelude.{map, not, is_some, ◌||◌, ◌&&◌}
 use Rattle.std.proofs.Math.Bool.{or-false}
 use Rattle.trio_rights.specs.declared.kind.Kind.{Kind}
@@ -7,7 +7,6 @@ use Rattle.trio_rights.specs.declared.kind.Kind.TheVariants.{Directory, Regular}
 use Rattle.trio_rights.specs.declared.rights.Creds.{Creds}
 use Rattle.trio_rights.specs.declared.rights.Need.TheVariants.{Read as ToRead}
 use Rattle.trio_lists.specs.Lists.{In}
-use Rattle.trio_lists.proofs.Members.{map-In}
 use Rattle.trio_lease.specs.Shown.{Shown, LentFile}
 use Rattle.trio_lease.specs.declared.lease.Lease.{Lease}
 use Rattle.trio_lease.specs.declared.lease.Lease.TheVariants.{Write as WriteLease}
@@ -18,36 +17,29 @@ use Rattle.trio_nodes.specs.declared.grant.GrantKind.TheVariants.{Read as ReadGr
 use Rattle.trio_nodes.specs.Nodes.{Nodes}
 use Rattle.trio_nodes.specs.Walk.{Path, is_directory}
 use Rattle.trio_nodes.specs.Apply.{largest_size}
-use Rattle.trio_desk.specs.Call.{Ask, DeskSeen, Grant, Told}
+use Rattle.trio_desk.specs.Call.{Ask, DeskSeen, Told}
 use Rattle.trio_desk.specs.Calls as desk_calls
 use Rattle.trio_desk.specs.Contents.{rights_of}
-use Rattle.trio_desk.specs.Out.{kind_lent}
 use Rattle.trio_laws.specs.session.FileCalls.{gives}
-use Rattle.trio_session.specs.Asked.{with_lease}
+use Rattle.trio_session.specs.Asked.{IsAlike, took}
 use Rattle.trio_session.specs.Seen.{SessionSeen, serves}
 use Rattle.trio_edit_laws.specs.Calls.{MayCall}
 use Rattle.trio_walk.specs.declared.met.Met.{Met}
 use Rattle.trio_walk.specs.declared.met.Rights as shown_rights
-use Rattle.trio_walk.specs.Asks.{IsAlike, IsGiven, grant_ask, took}
 use Rattle.trio_walk.specs.Needs.{Needed, asked, asked_beside, own_needs}
-use Rattle.trio_walk.specs.Walks.{IsMet, MayWalk, TookLeases, Way, file_of, gives_met, lent_call, need_of, served_by, with_leases}
+use Rattle.trio_walk.specs.Walks.{IsMet, MayWalk, TookLeases, Way, gives_met, lent_call, need_of, served_by, with_leases}
 use Rattle.trio_walk.proofs.Possible.{calls_same, possible_before}
 use Rattle.trio_walk.proofs.Stepping.{served_more}
 use Rattle.trio_calls_file.specs.Asks.{IsFileCall}
 use Rattle.trio_calls_file.specs.inner.Goes.{Went, bytes_refusal, checked, grant_for, met_needs, need_for}
 use Rattle.trio_calls_file.proofs.KnownRights.{gives_known}
 use Rattle.trio_calls_file.proofs.Checking.{not-leb}
-use Rattle.trio_calls_file.proofs.Still.{may_alike, on_alike}
 use Rattle.trio_calls_file.proofs.Walkable.{lends_may}
+use Rattle.trio_session.proofs.Alike.{on_alike, alike_back}
+use Rattle.trio_walk.proofs.Then.{given_all, took_leases}
+use Rattle.trio_edit_laws.proofs.Alike.{may_alike}
 
 -- ---- what a walk takes
-
-took-lent : (s : SessionSeen) (more : List Lease) → took s (map (λ (c : desk_calls.Call). c.told) (map lent_call more)) ≡ with_leases s more
-took-lent s [] = refl
-took-lent s (lease ∷ more) = took-lent (with_lease s lease) more
-
-given_all : (more : List Lease) (c : desk_calls.Call) → In c (map lent_call more) → IsGiven c
-given_all more c i = (let lease = map-In lent_call c more i in inl (lease.0, ap (λ (x : desk_calls.Call). x.told) lease.2))
 
 module _ {D : Type 0} (called : D → Ask → Told → D → Type 0) (seen : D → DeskSeen) (d : D) (s : SessionSeen) (more : List Lease) (last : List desk_calls.Call) (d1 : D) (s1 : SessionSeen) (may : MayCall (seen d) s) (way : Way called seen d s more last d1 s1) (walks : MayWalk (seen d1) s1) where
   abbrev x : SessionSeen
@@ -60,18 +52,14 @@ module _ {D : Type 0} (called : D → Ask → Told → D → Type 0) (seen : D �
   walked_went = record {
     each = given_all more;
     made = way.made;
-    alike = subst (λ (y : SessionSeen). IsAlike y s1) (sym (took-lent s more)) alike;
+    alike = subst (λ (y : SessionSeen). IsAlike y s1) (sym (took_leases s more)) alike;
     calls = calls_same (seen d) (seen d1) s s1 more way.took;
     same = record { lib = way.lib; creds = way.creds; sizes = way.sizes; root = way.root };
-    may = may_alike (seen d1) x s1 alike (lends_may more (seen d) (seen d1) s may way.lends (on_alike (seen d1) x s1 alike walks.on));
+    may = may_alike (seen d1) x s1 alike (lends_may more (seen d) (seen d1) s may way.lends (on_alike (seen d1) s1 x (alike_back x s1 alike) walks.on));
     more = λ nodes rows p. possible_before (seen d1) (seen d1) s s1 more way.took nodes rows refl refl p;
   }
 
 -- ---- what is asked, one after another
-
-pub asks_lent : (more : List Lease) → map grant_ask (map need_of more) ≡ map (λ (c : desk_calls.Call). c.ask) (map lent_call more)
-asks_lent [] = refl
-asks_lent (lease ∷ more) = ap (λ l. Grant (file_of lease) (kind_lent lease) ∷ l) (asks_lent more)
 
 module _ (s s1 : SessionSeen) (more : List Lease) (took_them : TookLeases s more s1) (as_lent : (f : LentFile) → In (WriteLease f) more → f.stands ≡ f.lent) where
   pub own_asked : (creds : Creds) (m : Met) (call : Call) → asked_beside (served_by s) (map need_of more) (met_needs creds m call) ≡ asked (served_by s1) (met_needs creds m call)

@@ -25,7 +25,7 @@ use Rattle.trio_walk.specs.declared.outcome.Outcome.{Outcome}
 use Rattle.trio_walk.specs.declared.outcome.Outcome.TheVariants.{Replied, Busy, NoMemory}
 use Rattle.trio_walk.specs.declared.walks.WalkEnd.{WalkEnd}
 use Rattle.trio_walk.specs.declared.walks.WalkEnd.TheVariants.{At, Reply as IsReply, Busy as IsBusy, NoMemory as HasNoMemory}
-use Rattle.trio_walk.specs.Asks.{AskedBy, IsAlike, TryEnds, took, allot_asks, grant_ask}
+use Rattle.trio_walk.specs.Asks.{AskedBy, TryEnds, grant_ask}
 use Rattle.trio_walk.specs.Needs.{Needed, asked, asked_beside, own_needs, node_needs, path_of, reached_needs, walk_needs}
 use Rattle.trio_walk.specs.Walks.{EndsBy, InAllShown, IsMetIn, IsStopped, MayWalk, Walked, Walks, lent_call, need_of, served_by, shows_root}
 use Rattle.trio_walk.proofs.Agreeing.{asked_beside-append}
@@ -38,9 +38,12 @@ use Rattle.trio_calls_file.proofs.AfterTaking.{goes_on}
 use Rattle.trio_calls_file.proofs.Checking.{file_path_of, root_kind}
 use Rattle.trio_calls_file.proofs.Looked.{IsLook, IsRefused, may_looked, refused_look}
 use Rattle.trio_calls_file.proofs.OwnReads.{none_busy}
-use Rattle.trio_calls_file.proofs.Shown.{alike_room, both_alike, both_then, went_alike}
+use Rattle.trio_calls_file.proofs.Shown.{both_alike, went_alike}
 use Rattle.trio_calls_file.proofs.Taking.{short_asks, short_ends}
-use Rattle.trio_calls_file.proofs.Walked.{asks_lent, own_asked, own_is, walked_went}
+use Rattle.trio_calls_file.proofs.Walked.{own_asked, own_is, walked_went}
+use Rattle.trio_session.specs.Asked.{IsAlike, took, allot_asks}
+use Rattle.trio_session.proofs.Alike.{alike_room}
+use Rattle.trio_walk.proofs.Then.{both_then, asks_lent}
 
 module _ {D : Type 0} (called : D → Ask → Told → D → Type 0) (seen : D → DeskSeen) (d : D) (s : SessionSeen) (call : Call) (may : MayCall (seen d) s) (file : IsFileCall call) (m : Met) (d1 : D) (s1 : SessionSeen) (walks : MayWalk (seen d1) s1)
     (w : Walked called seen d s (Walks (seen d1) s [] (path_of call) (At m.ino)) (At m.ino) d1 s1) (met : IsMetIn (shows_root s) (seen d1) s1 m) where

@@ -1,7 +1,7 @@
 -- What an edit of a file shows: bytes that are put, and another size.
 use Rattle.std.proofs.Common.{◌≡◌, ℕ, zero, suc, Bool, true, false, cond, ◌+◌, ◌-◌, ◌/◌, ◌≤◌, max, List, [], ◌∷◌, ◌++◌, length, take, drop, replicate, Option, Some, None, sym, refl, ap, ◌∙◌, subst, inl, inr, arith, append_assoc}
-use Rattle.std.specs.Prelude.{is_some, map, nat_lt, slice_index, slice_set}
-use Rattle.std.specs.Option.{option_map, option_map_or}
+use Rattle.std.specs.Prelude.{nat_lt, slice_index}
+use Rattle.std.specs.Option.{option_map}
 use Rattle.std.proofs.lemmas.Bool.{cases_lt, ltb-false, ltb-true}
 use Rattle.std.proofs.lemmas.List.{length-append, length-drop, length-replicate, replicate-append-replicate, take-append-le, take_all, take_at}
 use Rattle.std.proofs.Math.ListN.{drop_of_length-le}
@@ -26,7 +26,7 @@ use Rattle.trio_laws.specs.session.Takes.{Becomes}
 use Rattle.trio_laws.proofs.session.LentNodes.{mapped}
 use Rattle.trio_laws.proofs.session.TakenMore.{becomes_through}
 use Rattle.trio_session.specs.Layout.{Home, InSlot, Leased, blocks_under, body_sized, chain_cut, chain_grown, gap, growth, linked, new_index, numbered, put_block, put_blocks, put_bytes, size_in, unlinked, unnamed, with_block_number, with_body, with_body_at, with_number_in, with_page}
-use Rattle.trio_session.specs.Seen.{IsOpen, SessionSeen, body_in, chain_in, cut, grown, home_in, in_hand, made_chained, made_file, place_in, put, spare_numbers, spare_pages, with_chain}
+use Rattle.trio_session.specs.Seen.{IsOpen, SessionSeen, body_in, chain_in, cut, grown, home_in, in_hand, put, spare_numbers, spare_pages}
 use Rattle.trio_session.proofs.Stays.{fresh_numbers}
 use Rattle.trio_edit_laws.specs.EditLaws.{AreSpare, GetsBytes}
 use Rattle.trio_edit_laws.specs.Written.{MayEdit, bytes_in}
@@ -37,10 +37,11 @@ use Rattle.trio_edit_laws.proofs.Opens.{with_chain-beside}
 use Rattle.trio_edit_laws.proofs.Puts.{put_shows}
 use Rattle.trio_edit_laws.proofs.Reading.{length-bytes_in, sees_bytes}
 use Rattle.trio_edit_laws.proofs.Resized.{length-resized}
-use Rattle.trio_walk.specs.Asks.{IsAlike}
-use Rattle.trio_calls_file.specs.Asks.{sized}
 use Rattle.trio_calls_file.proofs.Alike.{open_alike}
-use Rattle.trio_calls_file.proofs.Still.{alike_by, edit_alike}
+use Rattle.trio_session.specs.Asked.{IsAlike}
+use Rattle.trio_session.proofs.Alike.{alike_by, calls-with_chain, calls-grown, placed-grown}
+use Rattle.trio_session.specs.Deeds.{sized}
+use Rattle.trio_edit_laws.proofs.Alike.{edit_alike}
 
 -- ---- nodes
 
@@ -192,24 +193,11 @@ spare-put ino at new s = ap (drop s.placed) (pages-put_blocks (chain_in s ino).b
 drop-spent : (xs : List ℕ) (k more : ℕ) → length (drop k xs) ≡ more → drop (k + more) xs ≡ []
 drop-spent xs k more e = drop_of_length-le xs (omega (arith, length-drop k xs, e))
 
--- a growth by all pages that are spare leaves none
-placed-grown : (ino size : ℕ) (s : SessionSeen) → (grown ino size s).placed ≡ s.placed + growth (length (chain_in s ino).blocks) (block_count size)
-unfolding grown
-placed-grown ino size s = refl
-
 spent-grown : (ino size : ℕ) (s : SessionSeen) → length (spare_pages s) ≡ growth (length (chain_in s ino).blocks) (block_count size) → spare_pages (grown ino size s) ≡ []
 spent-grown ino size s all =
     let wanted : ℕ = growth (length (chain_in s ino).blocks) (block_count size) in
     ap (λ n. drop n (page_numbers (grown ino size s).parcel.pages)) (placed-grown ino size s)
     ∙ ap (drop (s.placed + wanted)) (pages-grown ino size s) ∙ drop-spent (page_numbers s.parcel.pages) s.placed wanted all
-
--- another chain is no call, and places no page
-calls-with_chain : (ino : ℕ) (chain : Chain) (s : SessionSeen) → (with_chain ino chain s).calls ≡ s.calls
-calls-with_chain ino chain s = by (is_some (made_file s ino))
-  where
-    by : (b : Bool) → (cond b (record s { made = map (made_chained ino chain) s.made }) (record s { chains = option_map_or (λ i. slice_set s.chains i chain) (place_in s ino) s.chains })).calls ≡ s.calls
-    by true = refl
-    by false = refl
 
 placed-cut : (ino size : ℕ) (s : SessionSeen) → (cut ino size s).placed ≡ s.placed
 unfolding cut
@@ -217,10 +205,6 @@ placed-cut ino size s = (with_chain-beside s ino (chain_cut (chain_in s ino) (bl
 
 spare-cut : (ino size : ℕ) (s : SessionSeen) → spare_pages (cut ino size s) ≡ spare_pages s
 spare-cut ino size s = ap (λ n. drop n (page_numbers (cut ino size s).parcel.pages)) (placed-cut ino size s) ∙ ap (drop s.placed) (pages-cut ino size s)
-
-pub calls-grown : (ino size : ℕ) (s : SessionSeen) → (grown ino size s).calls ≡ s.calls
-unfolding grown
-calls-grown ino size s = calls-with_chain ino _ s
 
 pub calls-cut : (ino size : ℕ) (s : SessionSeen) → (cut ino size s).calls ≡ s.calls
 unfolding cut

@@ -1,5 +1,5 @@
 -- The calls of the desk that one call of a file makes, and how it ends.
-use Rattle.std.specs.Prelude.{◌≡◌, ◌≤◌, ℕ, ◌+◌, ◌==◌, nat_lt, List, [], ◌++◌, map, length, max, Option, None, Some, Result, Ok, Err, if◌then◌else◌}
+use Rattle.std.specs.Prelude.{◌≡◌, ◌≤◌, ℕ, ◌+◌, ◌==◌, List, [], ◌++◌, map, length, max, Option, None, Some, Result, Ok, Err, if◌then◌else◌}
 use Rattle.trio_rights.specs.declared.rights.Creds.{Creds}
 use Rattle.trio_layout.specs.Body.{block_count}
 use Rattle.trio_nodes.specs.declared.node.Node.{Node}
@@ -12,12 +12,14 @@ use Rattle.trio_nodes.specs.Walk.{walk}
 use Rattle.trio_nodes.specs.Apply.{applied, is_done}
 use Rattle.trio_desk.specs.Call.{Ask, DeskSeen, Told}
 use Rattle.trio_session.specs.Layout.{growth, size_in}
-use Rattle.trio_session.specs.Seen.{SessionSeen, body_in, cut, grown, put}
+use Rattle.trio_session.specs.Seen.{SessionSeen, body_in, put}
 use Rattle.trio_walk.specs.Needs.{asked, file_needs, path_of}
 use Rattle.trio_walk.specs.Walks.{served_by, shows_root}
-use Rattle.trio_walk.specs.Asks.{AskedBy, Called, IsAlike, Tried, allot_asks, grant_ask, noted}
+use Rattle.trio_walk.specs.Asks.{AskedBy, Called, Tried, grant_ask, noted}
 use Rattle.trio_walk.specs.declared.outcome.Outcome.{Outcome}
 use Rattle.trio_walk.specs.declared.outcome.Outcome.TheVariants.{Replied}
+use Rattle.trio_session.specs.Asked.{IsAlike, allot_asks}
+use Rattle.trio_session.specs.Deeds.{sized}
 
 -- ---- the condition
 
@@ -59,11 +61,6 @@ asks_of nodes creds s call =
     map grant_ask (asked (served_by s) (file_needs nodes creds (shows_root s) call)) ++ allot_asks (wanted_pages nodes creds call) 0
 
 -- ---- what is left
-
--- a file comes to this size: it grows, is cut, or stays
-abbrev pub sized : ℕ → ℕ → SessionSeen → SessionSeen
-sized ino size s =
-    let old = size_in (body_in s ino) in if nat_lt old size then grown ino size s else (if nat_lt size old then cut ino size s else s)
 
 -- What a call that is done edits, of the file to which it comes, as the layout has it: bytes that are written past the end let the file
 -- grow before; no bytes edit nothing.

@@ -1,30 +1,30 @@
 //! What is done at the file to which a call comes: checks, grants and edits.
 
-ghost use Rattle.std.specs.Prelude.{◌≡◌, ◌+◌, ◌≤◌, ◌<◌, ◌==◌, IsTrue, MatchResult, None, OnOk, Some, if◌then◌else◌, length, max};
+ghost use Rattle.std.specs.Prelude.{◌≡◌, ◌+◌, ◌≤◌, ◌<◌, ◌==◌, IsTrue, MatchResult, None, Some, if◌then◌else◌, length, max};
 ghost use Rattle.trio_desk.specs.Contents.{AreWithinLimits};
 ghost use Rattle.trio_layout.specs.Body.{block_count};
 ghost use Rattle.trio_nodes.specs.Apply.{largest_size};
 ghost use Rattle.trio_nodes.specs.Walk.{Path as NamePath};
-ghost use Rattle.trio_session.specs.Layout.{growth, size_in};
-ghost use Rattle.trio_session.specs.Seen.{IsOpen, body_in, chain_in, kind_shown, room_in, serves, spare_pages};
+ghost use Rattle.trio_session.specs.Layout.{growth};
+ghost use Rattle.trio_session.specs.Seen.{IsOpen, kind_shown, serves};
 ghost use Rattle.trio_walk.specs.Needs.{path_of};
 ghost use Rattle.trio_edit_laws.specs.Calls.{MayCall};
-ghost use Rattle.trio_walk.specs.Walks.{HasMet, gives_met};
-ghost use Rattle.trio_calls_file.specs.Asks.{IsFileCall, sized};
+ghost use Rattle.trio_walk.specs.Walks.{HasMet};
+ghost use Rattle.trio_calls_file.specs.Asks.{IsFileCall};
 ghost use Rattle.trio_calls_file.specs.inner.Goes.{BusyAt, ComesHere, Goes, Unrefused, asks_at, bytes_refusal, bytes_reply, checked, grant_for, need_for, refusal_at, stat_reply, try_ends, wants_pages_for};
 ghost use Rattle.trio_walk.specs.Asks.{IsNotBusy};
-ghost use Rattle.trio_calls_file.specs.inner.Reads.{IsHad};
-ghost use Rattle.trio_calls_file.specs.inner.Rooms.{Allotted, MadeRoom};
+ghost use Rattle.trio_session.specs.Deeds.{IsHad};
+ghost use Rattle.trio_calls_file.specs.inner.Rooms.{MadeRoom};
 
-use crate::reads::{block_count, bytes_of, entry_count, index_count, size_of};
 use std::alloc::Global;
+use trio_deeds::{allot, block_count, bytes_of, entry_count, growth, places, resize, size_of};
 use trio_desk::Desk;
 use trio_nodes::{AllotFault, Answer, Call, GrantKind, Reply};
 use trio_page::NoMemory;
 use trio_page::field::{u16_in, u32_in};
 use trio_rights::{Creds, Kind, Mode, Need, may};
 use trio_session::Session;
-use trio_walk::{Met, Stop, WalkEnd, take};
+use trio_walk::{Met, Stop, WalkEnd, allot_reply, gives, take};
 
 /// No file may end past so many bytes.
 const LARGEST_SIZE: u64 = 33_554_432;
@@ -47,7 +47,7 @@ pub(crate) fn at_file<D: Desk>(
 {
     let given = gives(desk.creds(), met, need_for(call));
     match refusal(met.kind, given, call) {
-        Some(reply) => refused(session, reply),
+        Some(reply) => noted_reply(session, reply),
         None => at_unrefused(alloc, session, desk, call, met),
     }
 }
@@ -72,7 +72,7 @@ fn at_unrefused<D: Desk>(
     match take(session, desk, met, grant_for(call)) {
         Ok(true) => at_taken(alloc, session, desk, call, met),
         // only a stat takes a directory, and only the root's rights may be unknown before its grant
-        Ok(false) => refused(session, Reply::Denied),
+        Ok(false) => noted_reply(session, Reply::Denied),
         Err(WalkEnd::Busy(holder)) => Err(Stop::Busy(holder)),
         Err(WalkEnd::NoMemory) => Err(Stop::NoMemory),
         Err(WalkEnd::At(_)) => unreachable!(),
@@ -129,16 +129,6 @@ fn grant_for(call: &Call) -> GrantKind
     }
 }
 
-// the rights that are known of a file give what is needed, or none are known
-fn gives(creds: Creds, met: Met, need: Need) -> bool
-    ensures { result ≡ gives_met creds met need }
-{
-    match met.rights {
-        Some(rights) => may(creds, met.kind, rights.mode, rights.uid, rights.gid, need),
-        None => true,
-    }
-}
-
 // why a call is refused at a file of this kind, whose rights give what is needed or don't
 fn refusal(kind: Kind, given: bool, call: &Call) -> Option<Reply>
     ensures { result ≡ refusal_at kind given call.now }
@@ -147,17 +137,17 @@ fn refusal(kind: Kind, given: bool, call: &Call) -> Option<Reply>
         Call::Write { at, bytes, .. } => {
             let count = bytes.as_slice().len() as u64;
             let fits = *at <= LARGEST_SIZE && count <= LARGEST_SIZE - *at;
-            refusal_to_write(kind, given, fits)
+            bytes_refusal(kind, given, fits)
         }
-        Call::Truncate { size, .. } => refusal_to_write(kind, given, *size <= LARGEST_SIZE),
-        Call::Read { .. } => refusal_to_write(kind, given, true),
+        Call::Truncate { size, .. } => bytes_refusal(kind, given, *size <= LARGEST_SIZE),
+        Call::Read { .. } => bytes_refusal(kind, given, true),
         Call::Stat { .. } if !given => Some(Reply::Denied),
         _ => None,
     }
 }
 
 // why bytes aren't read or written at a file of this kind
-fn refusal_to_write(kind: Kind, given: bool, fits: bool) -> Option<Reply>
+fn bytes_refusal(kind: Kind, given: bool, fits: bool) -> Option<Reply>
     ensures { result ≡ bytes_refusal kind given fits }
 {
     match kind {
@@ -168,8 +158,8 @@ fn refusal_to_write(kind: Kind, given: bool, fits: bool) -> Option<Reply>
     }
 }
 
-// a refusal is noted too
-pub(crate) fn refused(session: &mut Session, reply: Reply) -> Result<Reply, Stop>
+// a reply, and a place for the call's note
+pub(crate) fn noted_reply(session: &mut Session, reply: Reply) -> Result<Reply, Stop>
     ensures kept { session.new ≡ record session.old { room = session.new.room } }
     ensures ends { MatchResult result (λ r. (r ≡ reply) × (length session.new.calls < session.new.room.calls)) (λ stop. stop ≡ Stop.NoMemory) }
 {
@@ -179,65 +169,23 @@ pub(crate) fn refused(session: &mut Session, reply: Reply) -> Result<Reply, Stop
     }
 }
 
-// places and pages for a file that comes from one size to another; the reply where the desk has no
-// such pages
+// places and pages for a file that comes from one size to another
 fn make_room<D: Desk>(
     session: &mut Session,
     desk: &mut D,
     ino: u32,
     old: u64,
     size: u64,
-) -> Result<Option<Reply>, Stop>
+) -> Result<(), AllotFault>
     requires may { MayCall (D.seen desk.old) session.old }
     requires open { IsOpen session.old ino }
     requires old { old ≤ largest_size }
     requires size { size ≤ largest_size }
     ensures room { MadeRoom D.called D.seen desk.old session.old ino old size result desk.new session.new }
 {
-    let pages = growth(old, size);
-    match make_places(session, ino, block_count(size)) {
-        Ok(()) if pages == 0 => Ok(None),
-        Ok(()) => allot(session, desk, pages),
-        Err(NoMemory) => Err(Stop::NoMemory),
-    }
-}
-
-// by how many pages a file grows from one size to another
-fn growth(old: u64, size: u64) -> u32
-    requires old { old ≤ largest_size }
-    requires size { size ≤ largest_size }
-    ensures { result ≡ growth (block_count old) (block_count size) }
-{
-    let (from, to) = (block_count(old), block_count(size));
-    if to <= from {
-        return 0;
-    }
-    (to - from) + (index_count(to) - index_count(from))
-}
-
-// places for one call done, and for so many blocks of a file
-fn make_places(session: &mut Session, ino: u32, blocks: u32) -> Result<(), NoMemory>
-    requires { IsOpen session.old ino }
-    ensures kept { session.new ≡ record session.old { room = session.new.room } }
-    ensures calls { OnOk result (length session.new.calls < session.new.room.calls) }
-    ensures blocks { OnOk result (blocks ≤ room_in session.new ino) }
-{
-    match session.reserve_call() {
-        Ok(()) => session.reserve(ino, blocks),
-        Err(NoMemory) => Err(NoMemory),
-    }
-}
-
-// so many pages, or the reply where the desk has none
-fn allot<D: Desk>(session: &mut Session, desk: &mut D, pages: u32) -> Result<Option<Reply>, Stop>
-    requires { MayCall (D.seen desk.old) session.old }
-    ensures allotted { Allotted D.called D.seen desk.old session.old pages result desk.new session.new }
-{
-    match session.want(desk, pages, 0) {
-        Ok(()) => Ok(None),
-        Err(AllotFault::NoPages { wanted, free }) => Ok(Some(Reply::NoSpace { wanted, free })),
-        Err(AllotFault::NoMemory) => Err(Stop::NoMemory),
-        Err(AllotFault::NoInodes { .. }) => unreachable!(),
+    match places(session, ino, block_count(size)) {
+        Ok(()) => allot(session, desk, growth(old, size), 0),
+        Err(NoMemory) => Err(AllotFault::NoMemory),
     }
 }
 
@@ -262,14 +210,13 @@ fn write<D: Desk>(
     let old = size_of(session, ino);
     let size = size_written(old, at, bytes);
     match make_room(session, desk, ino, old, size) {
-        Ok(None) if bytes.is_empty() => Ok(Reply::Ok(Answer::Count(0))),
-        Ok(None) => {
+        Ok(()) if bytes.is_empty() => Ok(Reply::Ok(Answer::Count(0))),
+        Ok(()) => {
             resize(session, ino, old, size);
             session.put(ino, at, bytes);
             Ok(Reply::Ok(Answer::Count(bytes.len() as u32)))
         }
-        Ok(Some(reply)) => Ok(reply),
-        Err(stop) => Err(stop),
+        Err(fault) => allot_reply(fault),
     }
 }
 
@@ -303,28 +250,11 @@ fn truncate<D: Desk>(
 {
     let old = size_of(session, ino);
     match make_room(session, desk, ino, old, size) {
-        Ok(None) => {
+        Ok(()) => {
             resize(session, ino, old, size);
             Ok(Reply::Ok(Answer::Done))
         }
-        Ok(Some(reply)) => Ok(reply),
-        Err(stop) => Err(stop),
-    }
-}
-
-// a file comes from one size to another, by room that was made
-fn resize(session: &mut Session, ino: u32, old: u64, size: u64)
-    requires open { IsOpen session.old ino }
-    requires old { old ≡ size_in (body_in session.old ino) }
-    requires pages { growth (length (chain_in session.old ino).blocks) (block_count size) ≤ length (spare_pages session.old) }
-    requires room { block_count size ≤ room_in session.old ino }
-    ensures kept { session.new ≡ record (sized ino size session.old) { room = session.new.room } }
-    ensures calls { session.new.room.calls ≡ session.old.room.calls }
-{
-    if old < size {
-        session.grow(ino, size);
-    } else if size < old {
-        session.cut(ino, size);
+        Err(fault) => allot_reply(fault),
     }
 }
 
@@ -335,7 +265,7 @@ fn read(alloc: Global, session: &mut Session, ino: u32, at: u64, len: u32) -> Re
     ensures ends { MatchResult result (λ r. (r ≡ bytes_reply session.old ino at len) × (length session.new.calls < session.new.room.calls)) (λ stop. stop ≡ Stop.NoMemory) }
 {
     match bytes_of(alloc, session, ino, at, len) {
-        Ok(bytes) => refused(session, Reply::Ok(Answer::Bytes(bytes))),
+        Ok(bytes) => noted_reply(session, Reply::Ok(Answer::Bytes(bytes))),
         Err(NoMemory) => Err(Stop::NoMemory),
     }
 }
@@ -351,13 +281,13 @@ fn stat(session: &mut Session, creds: Creds, met: Met) -> Result<Reply, Stop>
     };
     let (mode, uid, gid) = (Mode(u16_in(body, 0)), u32_in(body, 4), u32_in(body, 8));
     if !may(creds, met.kind, mode, uid, gid, Need::Read) {
-        return refused(session, Reply::Denied);
+        return noted_reply(session, Reply::Denied);
     }
     let size = match met.kind {
         Kind::Directory => entry_count(session, met.ino),
         Kind::Regular => size_of(session, met.ino),
     };
-    refused(
+    noted_reply(
         session,
         Reply::Ok(Answer::Stat {
             kind: met.kind,

@@ -6,7 +6,6 @@
 
 mod calls;
 mod files;
-mod reads;
 mod replies;
 
 pub use calls::file_call;

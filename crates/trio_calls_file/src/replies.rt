@@ -7,7 +7,7 @@ ghost use Rattle.trio_calls_file.specs.Asks.{IsFileCall};
 ghost use Rattle.trio_calls_file.specs.inner.Goes.{RepliesTo, try_ends};
 ghost use Rattle.trio_walk.specs.Tries.{OthersHold, HasNothing};
 
-use crate::files::{at_file, refused};
+use crate::files::{at_file, noted_reply};
 use std::alloc::Global;
 use trio_desk::Desk;
 use trio_names::Path;
@@ -29,7 +29,7 @@ pub(crate) fn reply_to<D: Desk>(
 {
     match reach(session, desk, path_of(call), &[]) {
         Ok(met) => at_file(alloc, session, desk, call, met),
-        Err(WalkEnd::Reply(reply)) => refused(session, reply),
+        Err(WalkEnd::Reply(reply)) => noted_reply(session, reply),
         Err(WalkEnd::Busy(holder)) => Err(Stop::Busy(holder)),
         Err(WalkEnd::NoMemory) => Err(Stop::NoMemory),
         Err(WalkEnd::At(_)) => unreachable!(),

@@ -4,13 +4,14 @@ use Rattle.trio_desk.specs.Call.{Ask, DeskSeen, NotSettled, SeenAfter, Settle, S
 use Rattle.trio_desk.specs.Calls.{Made, NotMade, OneCall}
 use Rattle.trio_desk.specs.Out.{LibOut}
 use Rattle.trio_laws.proofs.session.Calls.{nothing_is_ready}
-use Rattle.trio_session.specs.Asked.{AfterSettle}
+use Rattle.trio_session.specs.Asked.{AfterSettle, SameDesk}
 use Rattle.trio_session.specs.Seen.{IsOn, SessionSeen, emptied, in_hand}
+use Rattle.trio_session.proofs.Alike.{desk_same, same_seen}
 use Rattle.trio_edit_laws.specs.Written.{MayEdit}
 use Rattle.trio_edit_laws.specs.Calls.{BeginsToCall, MayBeSettled, MayCall}
 use Rattle.trio_edit_laws.proofs.Beginning.{begins_to_edit}
 use Rattle.trio_edit_laws.proofs.HandsIn.{hands_in, sound}
-use Rattle.trio_edit_laws.proofs.Shown.{comes_now, desk_after, order_now}
+use Rattle.trio_edit_laws.proofs.Shown.{comes_now, order_now}
 use Rattle.trio_edit_laws.proofs.Taken.{chains_now, entries_now, held_now, made_now, shows_now}
 
 emptied-calls : (desk : DeskSeen) (s : SessionSeen) → MayEdit desk (emptied s) → MayCall desk (emptied s)
@@ -25,7 +26,7 @@ may_be_settled desk s m = record { all = m.edits.all; made = m.made; comes = m.c
 -- ---- after a call of the desk
 
 -- on a desk that has other things out, on which it stands, the session may go on as before
-pub may_now : (desk : DeskSeen) (out' : LibOut) (s : SessionSeen) → MayCall desk s → IsOn (record desk { out = out' }) s → MayCall (record desk { out = out' }) s
+may_now : (desk : DeskSeen) (out' : LibOut) (s : SessionSeen) → MayCall desk s → IsOn (record desk { out = out' }) s → MayCall (record desk { out = out' }) s
 may_now desk out' s may on = record {
   edits = record {
     on = on;
@@ -49,10 +50,13 @@ may_now desk out' s may on = record {
   spent_numbers = may.spent_numbers;
 }
 
-pub may_after : (desk desk' : DeskSeen) (ask : Ask) (told : Told) (s : SessionSeen) → SeenAfter desk ask told desk' → MayCall desk s → IsOn desk' s → MayCall desk' s
-may_after desk desk' ask told s seen may on =
-    let e = desk_after desk desk' ask told seen in
+pub may_same : (desk desk' : DeskSeen) (s : SessionSeen) → SameDesk desk desk' → MayCall desk s → IsOn desk' s → MayCall desk' s
+may_same desk desk' s same may on =
+    let e = desk_same desk desk' same in
     subst (λ (k : DeskSeen). MayCall k s) (sym e) (may_now desk desk'.out s may (subst (λ (k : DeskSeen). IsOn k s) e on))
+
+pub may_after : (desk desk' : DeskSeen) (ask : Ask) (told : Told) (s : SessionSeen) → SeenAfter desk ask told desk' → MayCall desk s → IsOn desk' s → MayCall desk' s
+may_after desk desk' ask told s seen may on = may_same desk desk' s (same_seen desk desk' ask told seen) may on
 
 -- ---- after a settle
 

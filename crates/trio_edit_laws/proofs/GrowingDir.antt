@@ -36,8 +36,9 @@ use Rattle.trio_edit_laws.proofs.OpenChain.{OpenChain, open_chain}
 use Rattle.trio_edit_laws.proofs.Opens.{pages_of_chain}
 use Rattle.trio_edit_laws.proofs.Resized.{few_core}
 use Rattle.trio_edit_laws.proofs.Sized.{size_fits-body_of}
-use Rattle.trio_edit_laws.proofs.SlotsShown.{block_slots, entry_same, leaves_others, pages_shown-open, slots_of-same}
+use Rattle.trio_edit_laws.proofs.SlotsShown.{block_slots, entry_same, leaves_others, slots_of-same}
 use Rattle.trio_edit_laws.proofs.Whole.{view_then}
+use Rattle.trio_session.proofs.Shows.{pages_shown-open}
 
 -- of one element more there is just one
 one_more : (xs : List ℕ) → length xs ≡ 1 → (x : ℕ) × (xs ≡ x ∷ [])

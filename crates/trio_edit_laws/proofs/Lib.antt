@@ -39,4 +39,10 @@ pub mod TakenAllotment
 pub mod Beginning
 pub mod TakenWrite
 pub mod Called
+pub mod Alike
+pub mod Noting
+pub mod Had
+pub mod Walkable
 pub mod directories
+pub mod Allotting
+pub mod WithSlot

@@ -1,6 +1,6 @@
 -- What an edit of one open file leaves of all others, and of what directories show.
-use Rattle.std.proofs.Common.{◌≡◌, ◌≢◌, ℕ, ◌<◌, eqb, Bool, List, [], ◌∷◌, ◌++◌, Option, Some, None, sym, refl, ap, ◌∙◌, subst, inl, inr, arith}
-use Rattle.std.specs.Prelude.{is_some, map, not, slice_get, if◌then◌else◌}
+use Rattle.std.proofs.Common.{◌≡◌, ◌≢◌, ℕ, ◌<◌, eqb, List, [], ◌∷◌, ◌++◌, Option, Some, None, sym, refl, ap, ◌∙◌, subst, inl, inr, arith}
+use Rattle.std.specs.Prelude.{map, not, slice_get, if◌then◌else◌}
 use Rattle.std.specs.List.{filter, find}
 use Rattle.std.specs.Option.{option_and_then, option_map, option_map_or}
 use Rattle.trio_rights.specs.declared.kind.Kind.{Kind}
@@ -19,8 +19,9 @@ use Rattle.trio_auxdir.specs.Slots.{name_in, slot_on, slots_of, slots_on}
 use Rattle.trio_auxdir.proofs.PageSlots.{tabulated-same_below}
 use Rattle.trio_desk.specs.Call.{DeskSeen}
 use Rattle.trio_session.specs.Layout.{page_in}
-use Rattle.trio_session.specs.Seen.{SessionSeen, block_shown, chain_in, dir_pages, entry_in, entry_shown, every_number, open_kind, pages_shown, read_file, slots_shown, spare_numbers, used_numbers}
+use Rattle.trio_session.specs.Seen.{SessionSeen, chain_in, dir_pages, entry_in, entry_shown, every_number, open_kind, slots_shown, spare_numbers, used_numbers}
 use Rattle.trio_session.proofs.Lists.{slice_get-In}
+use Rattle.trio_session.proofs.Shows.{block_shown-open, block_shown-read, pages_shown-open, pages_shown-read}
 use Rattle.trio_edit_laws.specs.Written.{MayEdit}
 use Rattle.trio_edit_laws.specs.EditLaws.{LeavesOthers}
 use Rattle.trio_edit_laws.proofs.Keeps.{IsEdit, body_else, chain_else, front_stays, made_at, made_numbers_now, open_now, other_untouched, page_stays}
@@ -35,26 +36,6 @@ pub slots_of-same : (inodes : ℕ) (page page' : ℕ → List ℕ) (ns : List �
 slots_of-same inodes page page' [] same = refl
 slots_of-same inodes page page' (n ∷ ns) same =
     ap (λ l. l ++ slots_of inodes (map page' ns)) (same n (inl refl)) ∙ ap (λ l. slots_on inodes (page n) ++ l) (slots_of-same inodes page page' ns (λ k i. same k (inr i)))
-
--- what a file shows that is open, and one that isn't
-abbrev pages_by : SessionSeen → ℕ → Bool → List (List ℕ)
-pages_by s dir t = if t then map (page_in s.parcel) (chain_in s dir).blocks else option_map_or dir_pages (read_file s dir) []
-
-pub pages_shown-open : (s : SessionSeen) (dir : ℕ) (kind : Kind) → open_kind s dir ≡ Some kind → pages_shown s dir ≡ map (page_in s.parcel) (chain_in s dir).blocks
-pages_shown-open s dir kind o = ap (λ q. pages_by s dir (is_some q)) o
-
-pub pages_shown-read : (s : SessionSeen) (dir : ℕ) → open_kind s dir ≡ None → pages_shown s dir ≡ option_map_or dir_pages (read_file s dir) []
-pages_shown-read s dir o = ap (λ q. pages_by s dir (is_some q)) o
-
--- the blocks that they show
-abbrev block_by : SessionSeen → ℕ → ℕ → Bool → Option (List ℕ)
-block_by s d k t = if t then option_map (page_in s.parcel) (slice_get (chain_in s d).blocks k) else option_and_then (λ (f : Shown). page_at f.blocks k) (read_file s d)
-
-pub block_shown-open : (s : SessionSeen) (d : ℕ) (kind : Kind) (k : ℕ) → open_kind s d ≡ Some kind → block_shown s d k ≡ option_map (page_in s.parcel) (slice_get (chain_in s d).blocks k)
-block_shown-open s d kind k o = ap (λ q. block_by s d k (is_some q)) o
-
-pub block_shown-read : (s : SessionSeen) (d k : ℕ) → open_kind s d ≡ None → block_shown s d k ≡ option_and_then (λ (f : Shown). page_at f.blocks k) (read_file s d)
-block_shown-read s d k o = ap (λ q. block_by s d k (is_some q)) o
 
 module _ (desk : DeskSeen) (s s' : SessionSeen) (ino : ℕ) (kind : Kind) (m : MayEdit desk s) (o : open_kind s ino ≡ Some kind) (e : IsEdit desk s s' ino kind) where
   -- what the slots of another open file's pages say is as it was

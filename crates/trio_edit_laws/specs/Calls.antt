@@ -18,6 +18,12 @@ pub record MayCall (desk : DeskSeen) (s : SessionSeen) : Type 0 where
   pub spent : spare_pages s ≡ []
   pub spent_numbers : spare_numbers s ≡ []
 
+-- A session in the course of a call: pages and numbers may be spare, and all else is as before a call.
+pub record MayGoOn (desk : DeskSeen) (s : SessionSeen) : Type 0 where
+  pub edits : MayEdit desk s
+  pub comes : ComesToShown desk s.parcel s.reads s.calls
+  pub made : (d : Done) → In d s.calls → d.made ≢ 0 → In d.made (ino_numbers s.parcel.inodes)
+
 -- A session that has nothing may make calls, where nothing is out to its library.
 abbrev pub BeginsToCall : Type 0
 BeginsToCall = (desk : DeskSeen) (s : SessionSeen) → Begins desk s → MayCall desk s

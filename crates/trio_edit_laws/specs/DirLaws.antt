@@ -1,23 +1,21 @@
 -- What a session sees of its directories, and what its edits of their slots come to.
-use Rattle.std.specs.Prelude.{◌≡◌, ◌≢◌, ℕ, ◌<◌, ◌==◌, not, is_some, IsTrue, List, [], ◌∷◌, map, slice_set, Option, None, Some}
-use Rattle.std.specs.List.{filter, filter_map, flat_map}
+use Rattle.std.specs.Prelude.{◌≡◌, ◌≢◌, ℕ, ◌<◌, ◌==◌, not, is_some, IsTrue, List, [], ◌∷◌, slice_set, Option, None, Some}
+use Rattle.std.specs.List.{filter}
 use Rattle.std.specs.Option.{option_map}
 use Rattle.trio_names.specs.Name.{is_name}
 use Rattle.trio_rights.specs.Row.{Row}
 use Rattle.trio_rights.specs.declared.kind.Kind.{Kind}
 use Rattle.trio_rights.specs.declared.kind.Kind.TheVariants.{Directory}
-use Rattle.trio_lists.specs.Lists.{In, tabulated}
-use Rattle.trio_lists.specs.Sorting.{sorted_by_name}
+use Rattle.trio_lists.specs.Lists.{In}
 use Rattle.trio_layout.specs.declared.body.Body.{Body}
 use Rattle.trio_layout.specs.Body.{body_of}
-use Rattle.trio_layout.specs.Entries.{body_in_slot, slot_bytes}
-use Rattle.trio_layout.specs.Slot.{slot_of}
+use Rattle.trio_layout.specs.Entries.{body_in_slot}
 use Rattle.trio_layout.specs.declared.slot.EntryPart.{EntryPart}
 use Rattle.trio_auxdir.specs.declared.place.Place.{Place}
 use Rattle.trio_auxdir.specs.Places.{slot_number}
 use Rattle.trio_lease.specs.declared.parts.HoldParts.{HoldParts}
 use Rattle.trio_nodes.specs.declared.node.Node.{Node}
-use Rattle.trio_nodes.specs.Nodes.{Nodes, count_in, entry_name, find_named, names_in, node_at, with_node}
+use Rattle.trio_nodes.specs.Nodes.{Nodes, count_in, find_named, names_in, node_at, with_node}
 use Rattle.trio_desk.specs.Agrees.{HasRights}
 use Rattle.trio_desk.specs.Call.{DeskSeen}
 use Rattle.trio_desk.specs.Contents.{AreWithinLimits, rights_in}
@@ -25,22 +23,11 @@ use Rattle.trio_desk.specs.Edits.{MayShow}
 use Rattle.trio_desk.specs.Out.{ino_numbers}
 use Rattle.trio_laws.specs.session.Takes.{Becomes}
 use Rattle.trio_laws.specs.session.SlotEdits.{KeepsTree, moved, retitled, with_changed}
-use Rattle.trio_session.specs.Seen.{MadeFile, SessionSeen, IsOpenDir, block_shown, body_in, chain_in, children_shown, clear, cleared_file, empty_shown, entry_count, entry_in, entry_shown, every_number, fill, grant_in, held_file, in_hand, made_body, made_file, number_shown, open_kind, pages_shown, place_shown, retitle, slots_shown, spare_numbers, spare_pages}
+use Rattle.trio_session.specs.Seen.{MadeFile, SessionSeen, IsOpenDir, block_shown, body_in, chain_in, children_shown, clear, cleared_file, empty_shown, entry_count, entry_shown, fill, grant_in, held_file, in_hand, made_body, made_file, number_shown, open_kind, place_shown, retitle, slots_shown, spare_numbers, spare_pages}
 use Rattle.trio_edit_laws.specs.Written.{MayEdit}
+use Rattle.trio_session.specs.Deeds.{names_here}
 
 -- ---- what is seen of a directory
-
--- what a page's slots have, each an entry or none
-abbrev pub slots_of_page : List ℕ → List (Option EntryPart)
-slots_of_page page = tabulated (λ slot. entry_in (slot_of every_number (slot_bytes slot page))) 16
-
--- the entries of a directory, in the order of block and slot
-abbrev pub entries_here : SessionSeen → ℕ → List EntryPart
-entries_here s dir = filter_map (λ e. e) (flat_map slots_of_page (pages_shown s dir))
-
--- its names and kinds, in the byte order of names
-abbrev pub names_here : SessionSeen → ℕ → List (List ℕ × Kind)
-names_here s dir = sorted_by_name entry_name (map (λ e. (e.name, e.kind)) (entries_here s dir))
 
 -- What a session sees of a directory that it has open is so in these nodes: its rights by its body; what a name is, how many entries there
 -- are and their names by its slots; and the kind and the rights of each entry's file by its slot. An allotted number that an entry names

@@ -25,7 +25,7 @@ use Rattle.trio_ctl.specs.Backs.{back_entries}
 use Rattle.trio_ctl.specs.Desk.{bundled_of, entries_told}
 use Rattle.trio_ctl.specs.Logged.{with_calls}
 use Rattle.trio_session.specs.Seen.{SessionSeen}
-use Rattle.trio_walk.specs.Asks.{Called, IsGiven, Settles, Tried, TryEnds, Once, Unsettled, Again, GivesUp, LeftOut, took}
+use Rattle.trio_walk.specs.Asks.{Called, Settles, Tried, TryEnds, Once, Unsettled, Again, GivesUp, LeftOut}
 use Rattle.trio_calls_file.specs.Asks.{FileCalled, FileTried}
 use Rattle.trio_calls_dir.specs.Asks.{DirTried, EntryCalled}
 use Rattle.trio_calls_dir.specs.Chmods.{BreaksOff, Begun, ChmodCalled, ChmodTried, Comes, EndsAs, EndsHandedIn, EndsModed, HandsIn, SetsMode, Unbegun, hand_in_ask, lent_to, mode_ask}
@@ -44,6 +44,7 @@ use Rattle.trio_runner.specs.Honest.{CallComes, HonestComes, SessionCalled, told
 use Rattle.trio_runner.specs.Logged.{IsBack, IsSettle, LineMakes, call_told, calls_in}
 use Rattle.trio_runner.proofs.Left.{left_by_chmod, left_by_dir, left_by_file, replied, took_calls, with_replies}
 use Rattle.trio_runner.proofs.Entries.{Makes}
+use Rattle.trio_session.specs.Asked.{IsGiven, took}
 
 -- calls, each with its reply
 abbrev pub Replies : Type 0

@@ -16,19 +16,21 @@ use Rattle.trio_nodes.specs.declared.call.Reply.{Reply}
 use Rattle.trio_nodes.specs.declared.call.Reply.TheVariants as reply
 use Rattle.trio_nodes.specs.Walk.{Path, name_of}
 use Rattle.trio_desk.specs.Call.{Told, Lent, Given}
-use Rattle.trio_session.specs.Asked.{with_allotted, with_lease}
+use Rattle.trio_session.specs.Asked.{with_allotted, with_lease, IsAlike, took}
 use Rattle.trio_session.specs.Layout.{size_in}
 use Rattle.trio_session.specs.Seen.{SessionSeen, body_in, clear, empty_shown, entry_shown, fill, is_allotted, place_shown, retitle}
-use Rattle.trio_walk.specs.Asks.{IsAlike, noted, took}
+use Rattle.trio_walk.specs.Asks.{noted}
 use Rattle.trio_walk.specs.declared.outcome.Outcome.{Outcome}
 use Rattle.trio_walk.specs.declared.outcome.Outcome.TheVariants.{Replied, Busy, NoMemory}
-use Rattle.trio_calls_file.specs.Asks.{new_length, sized}
+use Rattle.trio_calls_file.specs.Asks.{new_length}
 use Rattle.trio_calls_file.specs.Asks as on_file
-use Rattle.trio_calls_file.proofs.Writes.{calls-cut, calls-grown, calls-put}
-use Rattle.trio_calls_dir.specs.Asks.{Target, filled_new, moved, moved_shown, new_body, new_number, with_slot}
+use Rattle.trio_calls_file.proofs.Writes.{calls-cut, calls-put}
+use Rattle.trio_calls_dir.specs.Asks.{Target, filled_new, moved}
 use Rattle.trio_calls_dir.specs.Asks as on_dir
 use Rattle.trio_calls_dir.specs.Chmods.{LeavesBy}
 use Rattle.trio_runner.specs.Logged.{call_and_reply}
+use Rattle.trio_session.proofs.Alike.{calls-grown}
+use Rattle.trio_session.specs.Deeds.{sized, moved_shown, new_body, new_number, with_slot}
 
 -- calls that were done, each with its reply
 abbrev pub with_replies : List Done → List (call.Call × Reply)

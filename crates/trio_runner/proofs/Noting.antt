@@ -22,7 +22,7 @@ use Rattle.trio_ctl.specs.Ctl.{Controller}
 use Rattle.trio_ctl.specs.Desk.{Happens, LogsCall, desk_of, entries_told}
 use Rattle.trio_session.specs.Seen.{SessionSeen}
 use Rattle.trio_edit_laws.specs.Calls.{MayCall}
-use Rattle.trio_walk.specs.Asks.{Called, IsUnsettled, Settles, Tried, took, Once, Unsettled, Again, GivesUp, LeftOut}
+use Rattle.trio_walk.specs.Asks.{Called, IsUnsettled, Settles, Tried, Once, Unsettled, Again, GivesUp, LeftOut}
 use Rattle.trio_calls_file.specs.Asks.{FileCalled, FileTried}
 use Rattle.trio_calls_file.specs.Asks as on_file
 use Rattle.trio_calls_dir.specs.Asks.{DirTried, EntryCalled}
@@ -38,6 +38,7 @@ use Rattle.trio_report.specs.declared.answer.LineAnswer.{LineAnswer}
 use Rattle.trio_runner.specs.Honest.{HonestComes, Noted, Notes, SessionCalled, sees, unnoted, is_dir_call}
 use Rattle.trio_runner.specs.Moves.{AreMoves, apart, back_call, entries_of, move_of}
 use Rattle.trio_runner.proofs.Moves.{entries_joined, moves_joined}
+use Rattle.trio_session.specs.Asked.{took}
 
 -- ---- a call, apart
 

@@ -34,19 +34,16 @@ use Rattle.trio_state.specs.State.{creds_of}
 use Rattle.trio_order.specs.Order.{all_parts, back_call, parts_of}
 use Rattle.trio_session.specs.Seen.{SessionSeen, emptied}
 use Rattle.trio_edit_laws.specs.Calls.{MayCall}
-use Rattle.trio_walk.specs.Asks.{AskedBy, Called, IsAlike, IsGiven, IsNotBusy, Settles, Once, Unsettled, Again, GivesUp, LeftOut, grant_ask, took}
+use Rattle.trio_walk.specs.Asks.{AskedBy, Called, IsNotBusy, Settles, Once, Unsettled, Again, GivesUp, LeftOut, grant_ask}
 use Rattle.trio_walk.specs.Needs.{asked, dir_needs}
 use Rattle.trio_walk.specs.Walks.{served_by, shows_root}
 use Rattle.trio_walk.specs.declared.outcome.Outcome.{Outcome}
 use Rattle.trio_walk.specs.declared.outcome.Outcome.TheVariants.{Replied, Busy, NoMemory}
 use Rattle.trio_calls_file.specs.Asks.{FileCalled, FileTried}
 use Rattle.trio_calls_file.specs.Asks as on_file
-use Rattle.trio_calls_file.proofs.AfterTaking.{took_alike}
-use Rattle.trio_calls_file.proofs.Alike.{alike_back}
-use Rattle.trio_calls_dir.specs.Asks.{ComesBy, DirTried, EntryCalled, as_lent, wants_of}
+use Rattle.trio_calls_dir.specs.Asks.{ComesBy, DirTried, EntryCalled, wants_of}
 use Rattle.trio_calls_dir.specs.Asks as on_dir
 use Rattle.trio_calls_dir.specs.Chmods.{Begun, BreaksOff, ChmodCalled, ChmodTried, Comes, EndsAs, EndsBroken, EndsHandedIn, EndsModed, HandsIn, LeavesBy, SetsMode, Unbegun, hand_in_ask, lent_to, mode_ask}
-use Rattle.trio_calls_dir.proofs.Then.{took_more}
 use Rattle.trio_turn.specs.Origins.{Origin}
 use Rattle.trio_shared.specs.Laws.{DeskIsLeft, OthersLeave}
 use Rattle.trio_shared.specs.Left.{started}
@@ -72,6 +69,9 @@ use Rattle.trio_runner.proofs.OneReply.{last_legal, reply_is, same_end}
 use Rattle.trio_runner.proofs.OneTry.{BothReplied, EndsSame, Final, Gets, NoneLast, OneLast, SameEnd, asks, final_of, first_same, given_goes_on, outcome_told, part_of, rest_same}
 use Rattle.trio_runner.proofs.RanFree.{HoldsAt, turn_holds}
 use Rattle.trio_runner.proofs.SeatHas.{AtSeat, Exact, Less, Possible, all_get, at_calls, at_goes, less_alike, less_exact, less_then, less_took, may_exact, own_creds, possible_at, possible_less, same_root, same_sizes, seat_settled, tolds, tried_exact}
+use Rattle.trio_session.specs.Asked.{IsAlike, IsGiven, took}
+use Rattle.trio_session.proofs.Alike.{took_alike, alike_back, took_more}
+use Rattle.trio_session.specs.Deeds.{as_lent}
 
 -- ---- calls in their parts
 

@@ -20,17 +20,17 @@ use Rattle.trio_laws.specs.history.Stands.{nodes_of}
 use Rattle.trio_ctl.specs.Desk.{answer_of, out_of}
 use Rattle.trio_session.specs.Seen.{SessionSeen, emptied}
 use Rattle.trio_edit_laws.specs.Calls.{MayCall}
-use Rattle.trio_walk.specs.Asks.{AskedBy, Called, IsAlike, IsNotBusy, Settles, Tried, Once, Unsettled, Again, GivesUp, LeftOut, took}
+use Rattle.trio_walk.specs.Asks.{AskedBy, Called, IsNotBusy, Settles, Tried, Once, Unsettled, Again, GivesUp, LeftOut}
 use Rattle.trio_walk.specs.declared.outcome.Outcome.{Outcome}
 use Rattle.trio_walk.specs.declared.outcome.Outcome.TheVariants.{Replied, Busy, NoMemory}
-use Rattle.trio_calls_file.proofs.Alike.{alike_back}
-use Rattle.trio_calls_file.proofs.Shown.{alike_then}
 use Rattle.trio_runner.specs.Honest.{Noted, Notes, sees}
 use Rattle.trio_runner.specs.Moves.{AreMoves, apart, back_call}
 use Rattle.trio_runner.proofs.OneTry.{Carried, OneGoing, final_of, one_going, part_of, tried_carried}
 use Rattle.trio_runner.proofs.SameAnswers.{calls_known}
 use Rattle.trio_runner.proofs.SameNodes.{HasOut, StandsTrue, moves_true, possible_here}
 use Rattle.trio_runner.proofs.Sessions.{settle_plain}
+use Rattle.trio_session.specs.Asked.{IsAlike, took}
+use Rattle.trio_session.proofs.Alike.{alike_back, alike_then}
 
 -- ---- alike sessions
 

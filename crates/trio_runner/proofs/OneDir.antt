@@ -27,20 +27,22 @@ use Rattle.trio_laws.specs.Known.{Known}
 use Rattle.trio_laws.specs.history.Stands.{nodes_of}
 use Rattle.trio_ctl.specs.Desk.{out_of}
 use Rattle.trio_session.specs.Seen.{SessionSeen, clear, fill}
-use Rattle.trio_walk.specs.Asks.{AskedBy, IsAlike, TryEnds, allot_asks, grant_ask, noted, took}
+use Rattle.trio_walk.specs.Asks.{AskedBy, TryEnds, grant_ask, noted}
 use Rattle.trio_walk.specs.Needs.{asked, dir_needs}
 use Rattle.trio_walk.specs.Walks.{served_by, shows_root}
 use Rattle.trio_walk.specs.declared.outcome.Outcome.{Outcome}
 use Rattle.trio_walk.specs.declared.outcome.Outcome.TheVariants.{Replied, Busy, NoMemory}
-use Rattle.trio_calls_file.proofs.AfterTaking.{took_alike}
-use Rattle.trio_calls_dir.specs.Asks.{ComesBy, ComesTo, DirTried, Leaves, Target, TriedIn, as_lent, asks_of, edited, made_by, new_body, new_number, numbers_for, pages_for, slot_growth, wants_of, with_slot}
-use Rattle.trio_calls_dir.proofs.Then.{edited_alike, made_alike, took_more, wants_alike}
+use Rattle.trio_calls_dir.specs.Asks.{ComesBy, ComesTo, DirTried, Leaves, Target, TriedIn, asks_of, edited, made_by, numbers_for, pages_for, wants_of}
+use Rattle.trio_calls_dir.proofs.Then.{edited_alike, made_alike, wants_alike}
 use Rattle.trio_runner.specs.Honest.{Noted, Notes, sees}
 use Rattle.trio_runner.proofs.Left.{dir_edited, took_calls}
 use Rattle.trio_runner.proofs.OneCall.{Facts, MayEnd, OneTry, alike_both, facts, may_some}
 use Rattle.trio_runner.proofs.OneReply.{reply_shown, same_end}
 use Rattle.trio_runner.proofs.OneTry.{Gets, asks, behind_going, calls_get, final_of, first_same, part_of, rest_same}
 use Rattle.trio_runner.proofs.SameNodes.{HasOut, StandsTrue, has_alike, may_has, nodes_known}
+use Rattle.trio_session.specs.Asked.{IsAlike, allot_asks, took}
+use Rattle.trio_session.proofs.Alike.{took_alike, took_more}
+use Rattle.trio_session.specs.Deeds.{as_lent, new_body, new_number, slot_growth, with_slot}
 
 -- ---- replies
 

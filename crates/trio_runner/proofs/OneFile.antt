@@ -16,16 +16,18 @@ use Rattle.trio_laws.specs.Known.{Known}
 use Rattle.trio_laws.specs.history.Stands.{nodes_of}
 use Rattle.trio_ctl.specs.Desk.{out_of}
 use Rattle.trio_session.specs.Seen.{SessionSeen}
-use Rattle.trio_walk.specs.Asks.{AskedBy, IsAlike, noted, took}
+use Rattle.trio_walk.specs.Asks.{AskedBy, noted}
 use Rattle.trio_walk.specs.declared.outcome.Outcome.{Outcome}
 use Rattle.trio_walk.specs.declared.outcome.Outcome.TheVariants.{Replied, Busy, NoMemory}
 use Rattle.trio_calls_file.specs.Asks.{ComesTo, FileTried, Leaves, TriedIn, asks_of, edited}
-use Rattle.trio_calls_file.proofs.AfterTaking.{edited_alike, took_alike}
+use Rattle.trio_calls_file.proofs.AfterTaking.{edited_alike}
 use Rattle.trio_runner.specs.Honest.{Noted, Notes, sees}
 use Rattle.trio_runner.proofs.Left.{file_edited, took_calls}
 use Rattle.trio_runner.proofs.OneCall.{Facts, MayEnd, OneTry, alike_both, facts, may_some, tried_going}
 use Rattle.trio_runner.proofs.OneReply.{reply_shown, same_end}
 use Rattle.trio_runner.proofs.SameNodes.{HasOut, StandsTrue, has_alike, may_has, nodes_known}
+use Rattle.trio_session.specs.Asked.{IsAlike, took}
+use Rattle.trio_session.proofs.Alike.{took_alike}
 
 -- ---- what a try leaves
 

@@ -34,13 +34,11 @@ use Rattle.trio_ctl.specs.Desk.{Happens, out_of}
 use Rattle.trio_ctl.proofs.DeskSteps.{happens_creds, others_see}
 use Rattle.trio_ctl.proofs.LeasesBack.{backs_kept}
 use Rattle.trio_session.specs.Seen.{SessionSeen, emptied}
-use Rattle.trio_walk.specs.Asks.{IsAlike, grant_ask}
+use Rattle.trio_walk.specs.Asks.{grant_ask}
 use Rattle.trio_walk.specs.Needs.{asked, chmod_needs}
 use Rattle.trio_walk.specs.Walks.{served_by, shows_root}
 use Rattle.trio_walk.specs.declared.outcome.Outcome.{Outcome}
 use Rattle.trio_walk.specs.declared.outcome.Outcome.TheVariants.{Replied, Busy, NoMemory}
-use Rattle.trio_calls_file.proofs.AfterTaking.{took_alike}
-use Rattle.trio_calls_file.proofs.Shown.{possible_then}
 use Rattle.trio_calls_dir.specs.Chmods.{AsksSo, BreaksOff, ChmodCalled, ChmodTried, Begun, Unbegun, Comes, ComesSo, EndsAs, EndsBroken, EndsHandedIn, EndsModed, HandsIn, LeavesBy, Refuses, SetsMode, TriedSo, hand_in_ask, lent_to, mode_ask}
 use Rattle.trio_runner.specs.Honest.{Noted, Notes, sees}
 use Rattle.trio_runner.specs.Moves.{apart}
@@ -49,6 +47,9 @@ use Rattle.trio_runner.proofs.OneCall.{MayEnd, OneEnd, OneTry, alike_both, may_s
 use Rattle.trio_runner.proofs.OneTry.{BothReplied, Carried, EndsSame, Final, PartOf, SameEnd, final_of, one_going, tried_carried}
 use Rattle.trio_runner.proofs.SameNodes.{HasOut, StandsTrue, moves_true, nodes_known, possible_here}
 use Rattle.trio_runner.proofs.Sessions.{IsAsked, asked_plain}
+use Rattle.trio_session.specs.Asked.{IsAlike}
+use Rattle.trio_session.proofs.Alike.{took_alike}
+use Rattle.trio_walk.proofs.Then.{possible_then}
 
 -- ---- the grants
 

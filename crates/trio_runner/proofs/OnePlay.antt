@@ -47,7 +47,6 @@ use Rattle.trio_state.specs.Run.{IsWhole}
 use Rattle.trio_laws.specs.session.Lent.{LentIsTrue}
 use Rattle.trio_session.specs.Seen.{SessionSeen}
 use Rattle.trio_edit_laws.specs.Calls.{MayCall}
-use Rattle.trio_walk.specs.Asks.{IsAlike}
 use Rattle.trio_walk.specs.declared.outcome.Outcome.{Outcome}
 use Rattle.trio_walk.specs.declared.outcome.Outcome.TheVariants.{Replied, Busy as BusyCall, NoMemory}
 use Rattle.trio_calls_file.specs.Asks.{FileCalled, FileTried}
@@ -66,6 +65,7 @@ use Rattle.trio_runner.proofs.Moves.{Stands, moves_parted, moves_stand, no_move,
 use Rattle.trio_runner.proofs.Held.{held_after, held_stands, noted_of}
 use Rattle.trio_runner.proofs.EndFree.{Libraries, libraries_later, script_libraries, start_held, within_some}
 use Rattle.trio_runner.proofs.SameAnswers.{Alike, Lends, answers_alike, calls_known, lends_same, no_lease, Same, BothRefused}
+use Rattle.trio_session.specs.Asked.{IsAlike}
 
 -- ---- answers
 

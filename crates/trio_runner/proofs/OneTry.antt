@@ -26,9 +26,9 @@ use Rattle.trio_laws.proofs.KnownSteps.{same_event_same_answer}
 use Rattle.trio_ctl.specs.Backs.{all_back}
 use Rattle.trio_ctl.specs.Desk.{Happens, answer_of, event_of, out_of}
 use Rattle.trio_ctl.proofs.DeskSteps.{happens_creds}
-use Rattle.trio_session.specs.Asked.{with_allotted, with_lease}
+use Rattle.trio_session.specs.Asked.{with_allotted, with_lease, IsGiven, took}
 use Rattle.trio_session.specs.Seen.{SessionSeen}
-use Rattle.trio_walk.specs.Asks.{AskedBy, IsGiven, TryEnds, took}
+use Rattle.trio_walk.specs.Asks.{AskedBy, TryEnds}
 use Rattle.trio_walk.specs.declared.outcome.Outcome.{Outcome}
 use Rattle.trio_walk.specs.declared.outcome.Outcome.TheVariants.{Replied, Busy, NoMemory}
 use Rattle.trio_runner.specs.Honest.{Noted, Notes}

@@ -46,15 +46,14 @@ use Rattle.trio_ctl.proofs.DeskOuts.{numbers_to-In}
 use Rattle.trio_ctl.proofs.DeskSteps.{IsPlain, plain_step}
 use Rattle.trio_ctl.proofs.Settling.{hold_lent, read_lent, write_lent}
 use Rattle.trio_session.proofs.Seeing.{find-map}
-use Rattle.trio_session.specs.Asked.{with_allotted, with_lease}
+use Rattle.trio_session.specs.Asked.{with_allotted, with_lease, IsAlike}
 use Rattle.trio_session.specs.Seen.{SessionSeen}
 use Rattle.trio_edit_laws.specs.Calls.{MayCall}
-use Rattle.trio_walk.specs.Asks.{IsAlike}
-use Rattle.trio_calls_file.proofs.Still.{alike_by}
 use Rattle.trio_runner.specs.Moves.{AreMoves}
 use Rattle.trio_runner.proofs.Moves.{Stands, call_stands}
 use Rattle.trio_runner.proofs.Plain.{plain_given}
 use Rattle.trio_runner.proofs.Sessions.{ArePlain}
+use Rattle.trio_session.proofs.Alike.{alike_by}
 
 -- ---- by what is known
 

@@ -48,10 +48,10 @@ use Rattle.trio_ctl.proofs.Told.{step_told}
 use Rattle.trio_ctl.specs.Backs.{all_back}
 use Rattle.trio_ctl.specs.Desk.{Happens, desk_of, grants_of, out_of}
 use Rattle.trio_ctl.proofs.DeskOuts.{numbers_to-In, seen-part, seen_of}
-use Rattle.trio_session.specs.Asked.{with_allotted, with_lease}
+use Rattle.trio_session.specs.Asked.{with_allotted, with_lease, IsAlike, IsGiven, took}
 use Rattle.trio_session.specs.Seen.{SessionSeen, emptied}
 use Rattle.trio_edit_laws.specs.Calls.{MayCall}
-use Rattle.trio_walk.specs.Asks.{IsAlike, IsGiven, Settles, took}
+use Rattle.trio_walk.specs.Asks.{Settles}
 use Rattle.trio_walk.specs.declared.outcome.Outcome.{Outcome}
 use Rattle.trio_walk.proofs.Possible.{possible_desk}
 use Rattle.trio_turn.specs.Origins.{Origin}

@@ -25,7 +25,7 @@ use Rattle.trio_ctl.specs.Backs.{all_back}
 use Rattle.trio_ctl.specs.Desk.{Happens, handed_back}
 use Rattle.trio_ctl.proofs.DeskSteps.{IsPlain}
 use Rattle.trio_session.specs.Seen.{SessionSeen}
-use Rattle.trio_walk.specs.Asks.{Called, IsGiven, Settles, Tried, TryEnds, Once, Unsettled, Again, GivesUp, LeftOut}
+use Rattle.trio_walk.specs.Asks.{Called, Settles, Tried, TryEnds, Once, Unsettled, Again, GivesUp, LeftOut}
 use Rattle.trio_calls_file.specs.Asks.{FileCalled, FileTried}
 use Rattle.trio_calls_dir.specs.Asks.{DirTried, EntryCalled}
 use Rattle.trio_calls_dir.specs.Chmods.{BreaksOff, ChmodCalled, ChmodTried, Begun, Comes, EndsAs, EndsHandedIn, EndsModed, HandsIn, SetsMode, Unbegun, hand_in_ask, lent_to, mode_ask}
@@ -39,6 +39,7 @@ use Rattle.trio_script.specs.declared.honest.HonestLine.TheVariants.{Call as Cal
 use Rattle.trio_report.specs.declared.answer.LineAnswer.{LineAnswer}
 use Rattle.trio_runner.specs.Honest.{HonestComes, Noted, Notes, SessionCalled, told_outcome, is_dir_call}
 use Rattle.trio_runner.specs.Moves.{apart, back_call}
+use Rattle.trio_session.specs.Asked.{IsGiven}
 
 -- ---- what is asked
 

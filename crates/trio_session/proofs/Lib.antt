@@ -1,3 +1,6 @@
+pub mod Alike
+pub mod Others
+pub mod Shows
 pub mod Lists
 pub mod Places
 pub mod Pages

@@ -1,5 +1,5 @@
 -- What comes of a session's calls of its desk, by what the desk told it.
-use Rattle.std.specs.Prelude.{◌≡◌, ◌⊎◌, ⊤, ℕ, Bool, IsTrue, IsErr, List, [], ◌∷◌, ◌++◌, map, length, Option, Some, Result, Ok, Err}
+use Rattle.std.specs.Prelude.{◌≡◌, ◌⊎◌, ⊤, ℕ, ◌==◌, Bool, ◌&&◌, IsTrue, IsErr, List, [], ◌∷◌, ◌++◌, map, length, Option, Some, Result, Ok, Err, if◌then◌else◌}
 use Rattle.trio_layout.specs.Chain.{Chain}
 use Rattle.trio_lists.specs.Lists.{In}
 use Rattle.trio_lease.specs.Shown.{LentFile, Shown}
@@ -14,7 +14,9 @@ use Rattle.trio_nodes.specs.declared.answers.AllotFault.TheVariants.{NoMemory as
 use Rattle.trio_desk.specs.Out.{HasWanted, IsFreshAllotment, IsFreshLease, ino_numbers, kind_lent, lent_numbers, new_ino, page_numbers, zero_page}
 use Rattle.trio_desk.specs.Refusals.{TellsCause, TellsLack}
 use Rattle.trio_lease.specs.declared.fresh.Allotted.{Allotted}
-use Rattle.trio_desk.specs.Call.{Allot, DeskSeen, Grant, SeenAfter, SetMode, TellsHolder, Told, Lent, NotLent, Given, NotGiven, ModeSet, NotModeSet, Settled, NotSettled, call_back}
+use Rattle.trio_desk.specs.Call.{Allot, Ask, DeskSeen, Grant, SeenAfter, SetMode, TellsHolder, Told, Lent, NotLent, Given, NotGiven, ModeSet, NotModeSet, Settled, NotSettled, call_back}
+use Rattle.trio_desk.specs.Calls as desk_calls
+use Rattle.trio_desk.specs.Calls.{OneCall}
 use Rattle.trio_nodes.specs.declared.grant.GrantKind.{GrantKind}
 use Rattle.trio_session.specs.Seen.{SessionSeen, emptied}
 
@@ -114,3 +116,39 @@ abbrev pub AfterMode : SessionSeen → Call → Result Unit (Option Call × Mode
 AfterMode s call result s' ModeSet = (result ≡ Ok tt) × (s' ≡ record (emptied s) { room = s'.room })
 AfterMode s call result s' (NotModeSet fault) = (result ≡ Err (call_back (Some call) fault, fault)) × (s' ≡ s)
 AfterMode s call result s' told = ⊥
+
+-- ---- what was told so far
+
+-- each call was given what it asked for
+abbrev pub IsGiven : desk_calls.Call → Type 0
+IsGiven c = ((lease : Lease) × (c.told ≡ Lent lease)) ⊎ ((pages : List ℕ) × (numbers : List ℕ) × (c.told ≡ Given pages numbers))
+
+-- an allotment is asked for, if any page or number is wanted
+abbrev pub allot_asks : ℕ → ℕ → List Ask
+allot_asks pages numbers = if pages == 0 && numbers == 0 then [] else Allot pages numbers ∷ []
+
+-- So many pages and numbers are wanted: none of either, or the desk is asked for them.
+pub data Allots {D : Type 0} (called : D → Ask → Told → D → Type 0) (seen : D → DeskSeen) (d : D) (s : SessionSeen) (pages numbers : ℕ) (result : Result Unit AllotFault) (d' : D) (s' : SessionSeen) : Type 0 where
+  NoneWanted : pages ≡ 0 → numbers ≡ 0 → result ≡ Ok tt → d' ≡ d → s' ≡ s → Allots called seen d s pages numbers result d' s'
+  SomeWanted :
+      allot_asks pages numbers ≡ Allot pages numbers ∷ []
+      → OneCall called d (Allot pages numbers) d' (λ told. TellsAllotment (seen d) pages numbers told (seen d') × AfterWant s result s' told) (NoWant s result s')
+      → Allots called seen d s pages numbers result d' s'
+
+-- the session with all that it was given, and nothing written into it
+abbrev pub took : SessionSeen → List Told → SessionSeen
+took s [] = s
+took s (Lent lease ∷ more) = took (with_lease s lease) more
+took s (Given pages numbers ∷ more) = took (with_allotted s pages numbers) more
+took s (told ∷ more) = took s more
+
+-- the same session, but for indexes, look-ups and room
+abbrev pub IsAlike : SessionSeen → SessionSeen → Type 0
+IsAlike s s' = s' ≡ record s { indexed = s'.indexed; finds = s'.finds; room = s'.room }
+
+-- another state of the same desk
+pub record SameDesk (desk desk' : DeskSeen) : Type 0 where
+  pub lib : desk'.lib ≡ desk.lib
+  pub creds : desk'.creds ≡ desk.creds
+  pub sizes : desk'.sizes ≡ desk.sizes
+  pub root : desk'.root ≡ desk.root

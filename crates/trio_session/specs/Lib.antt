@@ -1,4 +1,5 @@
 pub mod Layout
 pub mod Seen
 pub mod Asked
+pub mod Deeds
 pub mod inner

@@ -8,11 +8,11 @@ use Rattle.trio_desk.specs.Call.{Ask, DeskSeen, Settle, Told, Settled, NotSettle
 use Rattle.trio_session.specs.Seen.{SessionSeen}
 use Rattle.trio_walk.specs.Asks.{Called, IsUnsettled, Settles, Once, Unsettled, Again, GivesUp, LeftOut}
 use Rattle.trio_walk.specs.declared.outcome.Outcome.{Outcome}
-use Rattle.trio_calls_file.proofs.AfterTaking.{calls_then}
 use Rattle.trio_calls_dir.specs.Asks.{DirTried}
 use Rattle.trio_calls_dir.specs.Dir.{DirCalled}
 use Rattle.trio_calls_dir.specs.Chmods.{Begun, ChmodCalled, ChmodTried, Unbegun}
 use Rattle.trio_session_tests.specs.Turns.{SomeCalls}
+use Rattle.trio_walk.proofs.Then.{calls_then}
 
 module _ {D : Type 0} (called : D → Ask → Told → D → Type 0) where
   pub joined : (d d1 d' : D) → SomeCalls called d d1 → SomeCalls called d1 d' → SomeCalls called d d'

@@ -1,4 +1,5 @@
 pub mod Possible
+pub mod Then
 pub mod Opened
 pub mod Leased
 pub mod Slots

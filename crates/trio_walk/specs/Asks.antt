@@ -1,8 +1,7 @@
 -- The calls of the desk that one call of an honest library makes, and how it ends: what calls on files and on directories have in common.
-use Rattle.std.specs.Prelude.{◌≡◌, ◌≢◌, ◌⊎◌, ℕ, ◌==◌, ◌&&◌, List, [], ◌∷◌, ◌++◌, map, Option, if◌then◌else◌}
+use Rattle.std.specs.Prelude.{◌≡◌, ◌≢◌, ◌⊎◌, ℕ, List, [], ◌∷◌, ◌++◌, map, Option}
 use Rattle.trio_rights.specs.Row.{Row}
 use Rattle.trio_lists.specs.Lists.{In}
-use Rattle.trio_lease.specs.declared.lease.Lease.{Lease}
 use Rattle.trio_nodes.specs.declared.grant.Holder.{Holder}
 use Rattle.trio_nodes.specs.declared.grant.GrantKind.{GrantKind}
 use Rattle.trio_nodes.specs.declared.answers.GrantFault.TheVariants.{Busy as BusyGrant, Denied as DeniedGrant, NoMemory as NoGrantMemory}
@@ -12,11 +11,11 @@ use Rattle.trio_nodes.specs.declared.call.Reply as reply
 use Rattle.trio_nodes.specs.declared.call.Reply.TheVariants.{Denied, NoInodes, NoSpace}
 use Rattle.trio_nodes.specs.Nodes.{Nodes}
 use Rattle.trio_nodes.specs.After.{batch_nodes}
-use Rattle.trio_desk.specs.Call.{Ask, Allot, DeskSeen, Grant, Settle, Told, Lent, NotLent, Given, NotGiven, Settled, NotSettled}
+use Rattle.trio_desk.specs.Call.{Ask, Allot, DeskSeen, Grant, Settle, Told, NotLent, NotGiven, Settled, NotSettled}
 use Rattle.trio_desk.specs.Calls.{Calls}
 use Rattle.trio_desk.specs.Calls as desk_calls
 use Rattle.trio_desk.specs.Ready.{ArePossible}
-use Rattle.trio_session.specs.Asked.{with_allotted, with_lease}
+use Rattle.trio_session.specs.Asked.{took, IsGiven}
 use Rattle.trio_session.specs.Seen.{SessionSeen, emptied}
 use Rattle.trio_walk.specs.Needs.{Needed}
 use Rattle.trio_walk.specs.declared.outcome.Outcome.{Outcome}
@@ -28,20 +27,12 @@ use Rattle.trio_walk.specs.declared.outcome.Outcome.TheVariants.{Replied, Busy, 
 abbrev pub grant_ask : Needed → Ask
 grant_ask n = Grant n.ino n.kind
 
--- an allotment is asked for, if any page or number is wanted
-abbrev pub allot_asks : ℕ → ℕ → List Ask
-allot_asks pages numbers = if pages == 0 && numbers == 0 then [] else Allot pages numbers ∷ []
-
 -- these were just what is to be asked; where the try is broken off, the first of it
 abbrev pub AskedBy : Outcome → List Ask → List Ask → Type 0
 AskedBy (Replied answer) these wanted = wanted ≡ these
 AskedBy end these wanted = (rest : List Ask) × (wanted ≡ these ++ rest)
 
 -- ---- what is told
-
--- each call was given what it asked for
-abbrev pub IsGiven : desk_calls.Call → Type 0
-IsGiven c = ((lease : Lease) × (c.told ≡ Lent lease)) ⊎ ((pages : List ℕ) × (numbers : List ℕ) × (c.told ≡ Given pages numbers))
 
 -- want of memory was told
 abbrev pub LacksMemory : Told → Type 0
@@ -63,17 +54,6 @@ TryEnds (Busy holder) last = (ino : ℕ) × (kind : GrantKind) × (last ≡ reco
 TryEnds NoMemory last = (last ≡ []) ⊎ ((c : desk_calls.Call) × (last ≡ c ∷ []) × (LacksMemory c.told ⊎ IsRootDenied c))
 
 -- ---- what the session has then
-
--- the same session, but for indexes, look-ups and room
-abbrev pub IsAlike : SessionSeen → SessionSeen → Type 0
-IsAlike s s' = s' ≡ record s { indexed = s'.indexed; finds = s'.finds; room = s'.room }
-
--- the session with all that it was given, and nothing written into it
-abbrev pub took : SessionSeen → List Told → SessionSeen
-took s [] = s
-took s (Lent lease ∷ more) = took (with_lease s lease) more
-took s (Given pages numbers ∷ more) = took (with_allotted s pages numbers) more
-took s (told ∷ more) = took s more
 
 -- with one call more that is done, which made a file of this number, or none
 abbrev pub noted : Call → reply.Reply → ℕ → SessionSeen → SessionSeen

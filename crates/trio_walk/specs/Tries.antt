@@ -1,14 +1,18 @@
 -- Words of one try of a call, and of the settle between two.
-use Rattle.std.specs.Prelude.{◌≡◌, ◌≢◌, []}
+use Rattle.std.specs.Prelude.{◌≡◌, ◌≢◌, [], Result, Ok, Err}
 use Rattle.trio_rights.specs.declared.rights.LibNo.{LibNo}
+use Rattle.trio_nodes.specs.declared.answers.AllotFault.{AllotFault}
+use Rattle.trio_nodes.specs.declared.answers.AllotFault.TheVariants.{NoInodes as NoFreeInodes, NoPages, NoMemory as NoAllotMemory}
 use Rattle.trio_nodes.specs.declared.call.Answer.TheVariants.{Bytes, Names}
 use Rattle.trio_nodes.specs.declared.call.Reply.{Reply}
-use Rattle.trio_nodes.specs.declared.call.Reply.TheVariants.{Ok as Succeeds}
+use Rattle.trio_nodes.specs.declared.call.Reply.TheVariants.{Ok as Succeeds, NoInodes, NoSpace}
 use Rattle.trio_desk.specs.Call.{DeskSeen, SeenAfter, Settle, Settled, NotSettled}
 use Rattle.trio_desk.specs.Edits.{nothing}
 use Rattle.trio_session.specs.Seen.{IsOn, SessionSeen, emptied}
 use Rattle.trio_walk.specs.declared.outcome.Outcome.{Outcome}
 use Rattle.trio_walk.specs.declared.outcome.Outcome.TheVariants.{Replied as IsReplied, Busy as IsBusy, NoMemory as HasNoMemory}
+use Rattle.trio_walk.specs.declared.outcome.Stop.{Stop}
+use Rattle.trio_walk.specs.declared.outcome.Stop.TheVariants.{NoMemory as LacksMemory}
 use Rattle.trio_walk.specs.declared.attempts.TryEnd.{TryEnd}
 use Rattle.trio_walk.specs.declared.attempts.TryEnd.TheVariants.{Replied, Busy, NoMemory}
 
@@ -43,12 +47,11 @@ TakesMemory (Succeeds (Bytes bytes)) = Unit {0}
 TakesMemory (Succeeds (Names count names)) = Unit {0}
 TakesMemory reply = ⊥
 
--- another state of the same desk
-pub record SameDesk (desk desk' : DeskSeen) : Type 0 where
-  pub lib : desk'.lib ≡ desk.lib
-  pub creds : desk'.creds ≡ desk.creds
-  pub sizes : desk'.sizes ≡ desk.sizes
-  pub root : desk'.root ≡ desk.root
+-- what a call is replied by the fault of its allotment; want of memory ends the try
+abbrev pub allot_reply : AllotFault → Result Reply Stop
+allot_reply (NoPages wanted free) = Ok (NoSpace wanted free)
+allot_reply (NoFreeInodes wanted free) = Ok (NoInodes wanted free)
+allot_reply NoAllotMemory = Err LacksMemory
 
 -- ---- the settle between two
 

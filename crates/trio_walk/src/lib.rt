@@ -19,6 +19,6 @@ mod walks;
 pub use attempts::{Tries, TryEnd, retry};
 pub use copies::copy_reply;
 pub use files::take;
-pub use met::{Met, Rights, look_up};
-pub use outcome::{Outcome, Stop};
+pub use met::{Met, Rights, gives, look_up};
+pub use outcome::{Outcome, Stop, allot_reply};
 pub use walks::{WalkEnd, reach, reach_into, walk};

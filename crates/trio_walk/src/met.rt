@@ -49,7 +49,7 @@ pub(crate) fn rights_in(body: &[u8]) -> Rights
 }
 
 /// Whether the rights that are known of a file give what is needed; `true` where none are known.
-pub(crate) fn gives(creds: Creds, met: Met, need: Need) -> bool
+pub fn gives(creds: Creds, met: Met, need: Need) -> bool
     ensures { result ≡ gives_met creds met need }
 {
     match met.rights {

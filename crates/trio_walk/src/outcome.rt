@@ -1,6 +1,9 @@
 //! How calls of an honest library end.
 
-use trio_nodes::{Holder, Reply};
+ghost use Rattle.std.specs.Prelude.{◌≡◌};
+ghost use Rattle.trio_walk.specs.Tries.{allot_reply};
+
+use trio_nodes::{AllotFault, Holder, Reply};
 
 /// How a call ends.
 #[derive(Drop)]
@@ -18,4 +21,16 @@ pub enum Outcome {
 pub enum Stop {
     Busy(Holder),
     NoMemory,
+}
+
+/// What a call is replied that isn't given the pages and numbers that it wants; want of memory ends
+/// the try.
+pub fn allot_reply(fault: AllotFault) -> Result<Reply, Stop>
+    ensures { result ≡ allot_reply fault }
+{
+    match fault {
+        AllotFault::NoPages { wanted, free } => Ok(Reply::NoSpace { wanted, free }),
+        AllotFault::NoInodes { wanted, free } => Ok(Reply::NoInodes { wanted, free }),
+        AllotFault::NoMemory => Err(Stop::NoMemory),
+    }
 }

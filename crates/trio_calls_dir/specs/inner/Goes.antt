@@ -19,17 +19,18 @@ use Rattle.trio_desk.specs.Edits.{DoesCall, TakesMore}
 use Rattle.trio_session.specs.Seen.{SessionSeen, in_hand}
 use Rattle.trio_edit_laws.specs.Calls.{MayCall}
 use Rattle.trio_walk.specs.Needs.{Needed, asked}
-use Rattle.trio_walk.specs.Tries.{SameDesk}
 use Rattle.trio_walk.specs.Walks.{InAllShown, served_by}
 use Rattle.trio_walk.specs.declared.walks.WalkEnd.{WalkEnd}
 use Rattle.trio_walk.specs.declared.walks.WalkEnd.TheVariants.{At, Reply as IsReply, Busy as IsBusyWalk, NoMemory as NoWalkMemory}
-use Rattle.trio_walk.specs.Asks.{AskedBy, IsAlike, IsGiven, TryEnds, grant_ask, noted, took}
+use Rattle.trio_walk.specs.Asks.{AskedBy, TryEnds, grant_ask, noted}
 use Rattle.trio_walk.specs.declared.outcome.Outcome.{Outcome}
 use Rattle.trio_walk.specs.declared.outcome.Outcome.TheVariants.{Busy, NoMemory, Replied}
 use Rattle.trio_calls_dir.specs.declared.replies.Replied as replied
 use Rattle.trio_walk.specs.declared.outcome.Stop.{Stop}
 use Rattle.trio_walk.specs.declared.outcome.Stop.TheVariants.{Busy as IsBusy, NoMemory as LacksMemory}
-use Rattle.trio_calls_dir.specs.Asks.{ComesBy, Target, as_lent, edited, made_by, wants_of}
+use Rattle.trio_calls_dir.specs.Asks.{ComesBy, Target, edited, made_by, wants_of}
+use Rattle.trio_session.specs.Asked.{SameDesk, IsAlike, IsGiven, took}
+use Rattle.trio_session.specs.Deeds.{as_lent}
 
 -- ---- the end
 
@@ -43,6 +44,11 @@ try_ends (Err LacksMemory) = NoMemory
 abbrev pub number_made : Result replied.Replied Stop → ℕ
 number_made (Ok r) = r.made
 number_made (Err stop) = 0
+
+-- a reply of a call that made no file
+abbrev pub without_file : Result Reply Stop → Result replied.Replied Stop
+without_file (Ok reply) = Ok (record { reply = reply; made = 0 })
+without_file (Err stop) = Err stop
 
 -- that which such a call takes of this session, where it is done
 abbrev pub IsNumber : Call → SessionSeen → Outcome → ℕ → Type 0

@@ -1,12 +1,8 @@
 -- Words of a rename: its stages, and what keeps its grants off.
-use Rattle.std.specs.Prelude.{◌≡◌, ◌≢◌, ◌<◌, ◌%◌, ℕ, Bool, IsTrue, List, [], ◌∷◌, ◌++◌, Option, Some, None, Ok, is_some, length}
-use Rattle.std.specs.Option.{option_map_or}
+use Rattle.std.specs.Prelude.{◌≡◌, ◌≢◌, ℕ, Bool, List, [], ◌∷◌, ◌++◌, Option, Some, None, Ok}
 use Rattle.trio_lists.specs.Lists.{In}
 use Rattle.trio_names.specs.Name.{IsName}
-use Rattle.trio_layout.specs.Body.{block_count}
 use Rattle.trio_rights.specs.Row.{Row}
-use Rattle.trio_rights.specs.declared.kind.Kind.{Kind}
-use Rattle.trio_rights.specs.declared.kind.Kind.TheVariants.{Directory}
 use Rattle.trio_rights.specs.declared.rights.Creds.{Creds}
 use Rattle.trio_nodes.specs.declared.grant.GrantKind.{GrantKind}
 use Rattle.trio_nodes.specs.declared.call.Call.{Call}
@@ -17,16 +13,13 @@ use Rattle.trio_nodes.specs.After.{batch_nodes}
 use Rattle.trio_desk.specs.Call.{DeskSeen}
 use Rattle.trio_desk.specs.Ready.{ArePossible}
 use Rattle.trio_laws.specs.session.DirCalls.{ComesAcross, early_refusal}
-use Rattle.trio_session.specs.Layout.{size_in}
-use Rattle.trio_session.specs.Seen.{IsOpenDir, MadeFile, SessionSeen, clear, cleared_file, empty_shown, fill, grant_in, is_allotted, kept_chain, place_shown}
+use Rattle.trio_session.specs.Seen.{IsOpenDir, SessionSeen, place_shown}
 use Rattle.trio_edit_laws.specs.Calls.{MayCall}
-use Rattle.trio_walk.specs.Asks.{IsAlike}
 use Rattle.trio_walk.specs.declared.met.Met.{Met}
 use Rattle.trio_walk.specs.declared.outcome.Outcome.{Outcome}
 use Rattle.trio_walk.specs.declared.outcome.Outcome.TheVariants.{Busy}
 use Rattle.trio_walk.specs.Needs.{Needed, into_needs, reached_by, moving_needs}
 use Rattle.trio_walk.specs.Walks.{FindsEntry, HasMet, InAllShown, IsOwnBusy, MayLookIn}
-use Rattle.trio_calls_dir.specs.Asks.{moved_shown}
 
 -- ---- what is needed
 
@@ -103,32 +96,3 @@ pub record MayMove (desk : DeskSeen) (s : SessionSeen) (call' : Call) (from to :
   pub free : IsFree desk s to new_dir'
   pub apart : dir' ≢ new_dir'
   pub other : new_dir' ≢ file'.ino
-
--- What a file that was made brings into a slot again, but for a place for it: its kind, and a body that says as many blocks as it has.
-pub record BringsMade (s : SessionSeen) (ino' : ℕ) (kind' : Kind) (body' : List ℕ) : Type 0 where
-  pub nothing : grant_in s ino' ≡ None
-  pub same : option_map_or (λ (m : MadeFile). m.kind) (cleared_file s ino') kind' ≡ kind'
-  pub blocks : block_count (size_in body') ≡ length (kept_chain s ino').blocks
-  pub whole : kind' ≡ Directory → size_in body' % 4096 ≡ 0
-
--- A file that moves by its name in a directory to an empty slot of another, with its kind and its body, takes no memory.
-pub record MayPut (s : SessionSeen) (old new : List ℕ) (dir' new_dir' ino' : ℕ) : Type 0 where
-  pub opens : IsOpenDir s dir'
-  pub there : IsTrue (is_some (place_shown s dir' old))
-  pub takes : IsTrue (is_some (moved_shown s ino'))
-  pub opens_new : IsOpenDir (clear dir' old s) new_dir'
-  pub free : place_shown (clear dir' old s) new_dir' new ≡ None
-  pub empty : IsTrue (is_some (empty_shown (clear dir' old s) new_dir'))
-  pub number : 0 < ino'
-  pub made : (kind : Kind) (body : List ℕ) → moved_shown s ino' ≡ Some (kind, body) → IsTrue (is_allotted (clear dir' old s) ino') → BringsMade (clear dir' old s) ino' kind body
-  pub apart : new_dir' ≢ dir'
-  pub names : In new_dir' s.room.names
-  pub place : length s.made < s.room.made
-
--- what it is then
-pub record PutFile (s : SessionSeen) (old new : List ℕ) (dir' new_dir' ino' : ℕ) (s' : SessionSeen) : Type 0 where
-  pub kind : Kind
-  pub body : List ℕ
-  pub takes : moved_shown s ino' ≡ Some (kind, body)
-  pub put : IsAlike (fill new_dir' new ino' kind body (clear dir' old s)) s'
-  pub calls : s'.room.calls ≡ s.room.calls

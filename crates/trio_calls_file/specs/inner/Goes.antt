@@ -33,13 +33,14 @@ use Rattle.trio_walk.specs.declared.met.Met.{Met}
 use Rattle.trio_walk.specs.declared.outcome.Outcome.{Outcome}
 use Rattle.trio_walk.specs.declared.outcome.Outcome.TheVariants.{Replied, Busy, NoMemory}
 use Rattle.trio_walk.specs.Needs.{Needed, asked, path_of}
-use Rattle.trio_walk.specs.Asks.{AskedBy, IsAlike, IsGiven, TryEnds, allot_asks, grant_ask, noted, took}
-use Rattle.trio_walk.specs.Tries.{SameDesk}
+use Rattle.trio_walk.specs.Asks.{AskedBy, TryEnds, grant_ask, noted}
 use Rattle.trio_walk.specs.Walks.{InAllShown, IsOwnBusy, denies, gives_met, served_by}
 use Rattle.trio_walk.specs.declared.outcome.Stop.{Stop}
 use Rattle.trio_walk.specs.declared.outcome.Stop.TheVariants.{Busy as IsBusy, NoMemory as LacksMemory}
-use Rattle.trio_calls_file.specs.inner.Reads.{body_had, bytes_had, entries_counted}
 use Rattle.trio_calls_file.specs.Asks.{ComesTo, asks_of, edited, wanted_pages}
+use Rattle.trio_session.specs.Asked.{IsAlike, IsGiven, allot_asks, took, SameDesk}
+use Rattle.trio_session.specs.Deeds.{body_had, bytes_had}
+use Rattle.trio_deeds.specs.Reads.{entries_counted}
 
 -- ---- checks
 

@@ -28,11 +28,11 @@ use Rattle.trio_edit_laws.specs.Written.{MayEdit}
 use Rattle.trio_edit_laws.proofs.Chained.{apart_from}
 use Rattle.trio_edit_laws.proofs.Keeps.{made_at, place_of_open}
 use Rattle.trio_edit_laws.proofs.Opens.{open_apart, open_once}
-use Rattle.trio_edit_laws.proofs.SlotsShown.{block_shown-open, block_shown-read, pages_shown-open, pages_shown-read}
 use Rattle.trio_edit_laws.proofs.directories.Places.{IsPlace}
 use Rattle.trio_edit_laws.proofs.directories.Sees.{block_open, pages_open}
 use Rattle.trio_edit_laws.proofs.directories.Slotted.{name_in-entry_in, name_of_part}
 use Rattle.trio_edit_laws.proofs.directories.Stays.{WritesDirs, body_else, chain_else, open_else, reads_same}
+use Rattle.trio_session.proofs.Shows.{block_shown-open, block_shown-read, pages_shown-open, pages_shown-read}
 
 -- the blocks of open files that differ have no page in common
 pub blocks_differ : (desk : DeskSeen) (s : SessionSeen) (a b : ℕ) (k l : Kind) (n : ℕ) → MayEdit desk s → open_kind s a ≡ Some k → open_kind s b ≡ Some l → (a ≡ b → ⊥)

@@ -50,7 +50,7 @@ use Rattle.trio_session.specs.Seen.{MadeFile, SessionSeen, block_shown, body_in,
 use Rattle.trio_session.proofs.Lists.{slice_get-In}
 use Rattle.trio_session.proofs.SlotEdits.{entry_on}
 use Rattle.trio_session.proofs.Slots.{slot_wider}
-use Rattle.trio_edit_laws.specs.DirLaws.{SeesDirectory, names_here}
+use Rattle.trio_edit_laws.specs.DirLaws.{SeesDirectory}
 use Rattle.trio_edit_laws.specs.Written.{MayEdit}
 use Rattle.trio_edit_laws.proofs.Anew.{body-made, body-written}
 use Rattle.trio_edit_laws.proofs.Hand.{hand_page}
@@ -58,6 +58,7 @@ use Rattle.trio_edit_laws.proofs.Keeps.{place_of_open}
 use Rattle.trio_edit_laws.proofs.Opens.{OpenMade, OpenWritten, open_chained, opened}
 use Rattle.trio_edit_laws.proofs.Whole.{OpenReads, judged_reads, open_reads}
 use Rattle.trio_edit_laws.proofs.directories.Slotted.{entries-parts, has_this_name, length-present, no_spot, not_bad, parts_of, present, slots_of-parts, spot}
+use Rattle.trio_session.specs.Deeds.{names_here}
 
 -- ---- what is looked at
 

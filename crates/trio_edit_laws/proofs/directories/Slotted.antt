@@ -25,7 +25,7 @@ use Rattle.trio_auxdir.proofs.SlotLists.{slot_there}
 use Rattle.trio_session.specs.Seen.{entry_in, every_number}
 use Rattle.trio_session.proofs.Slots.{slot_wider}
 use Rattle.trio_session.proofs.SlotEdits.{entry_on}
-use Rattle.trio_edit_laws.specs.DirLaws.{slots_of_page}
+use Rattle.trio_session.specs.Deeds.{slots_of_page}
 
 -- the slots of a directory of these pages
 abbrev pub parts_of : List (List ℕ) → List (Option EntryPart)

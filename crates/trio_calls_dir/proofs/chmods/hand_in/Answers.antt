@@ -1,6 +1,6 @@
-use Rattle.trio_calls_dir.proofs.Given.{may_be_settled}
 use Rattle.trio_calls_dir.proofs.ChmodsEnds.{handed, handed_may, noted_may, room_may, unhanded, unhanded_may}
 use Rattle.trio_calls_dir.proofs.chmods.hand_in.Goals as goal
+use Rattle.trio_edit_laws.proofs.Called.{may_be_settled}
 
 pub returns-then-is_err-clause-may : goal.returns-then-is_err-clause-may
 returns-then-is_err-clause-may g c =

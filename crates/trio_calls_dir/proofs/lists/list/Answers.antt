@@ -4,10 +4,10 @@ use Rattle.trio_walk.specs.Walks.{shows_root}
 use Rattle.trio_walk.specs.Needs.{dir_needs}
 use Rattle.trio_calls_dir.specs.inner.Goes.{Goes, number_made, try_ends}
 use Rattle.trio_calls_dir.proofs.Others.{stop_others}
-use Rattle.trio_calls_dir.proofs.Given.{may_walk}
 use Rattle.trio_calls_dir.proofs.ListsWalked.{comes_here, list_goes, list_others, list_stops}
 use Rattle.trio_calls_dir.proofs.Walked.{way_may}
 use Rattle.trio_calls_dir.proofs.lists.list.Goals as goal
+use Rattle.trio_calls_dir.proofs.Walkable.{may_walk}
 
 pub reach-requires : goal.reach-requires
 reach-requires g c = may_walk (g.D.Desk.seen c.args.desk.now) c.args.session.now c.requires.may

@@ -7,9 +7,9 @@ use Rattle.trio_walk.specs.declared.outcome.Outcome.TheVariants.{Busy as IsBusyE
 use Rattle.trio_walk.specs.declared.outcome.Stop.TheVariants.{NoMemory as LacksMemory}
 use Rattle.trio_calls_dir.specs.inner.Goes.{Goes}
 use Rattle.trio_calls_dir.specs.inner.Lists.{BusyAt, list_reply, listing_at}
-use Rattle.trio_calls_dir.proofs.Given.{may_walk}
 use Rattle.trio_calls_dir.proofs.ListsMet.{busy_at, busy_goes, denied_goes, listed_goes, may_take, short_goes, taken_had}
 use Rattle.trio_calls_dir.proofs.lists.list_unrefused.Goals as goal
+use Rattle.trio_calls_dir.proofs.Walkable.{may_walk}
 
 pub take-requires-clause-may : goal.take-requires-clause-may
 take-requires-clause-may g c = may_walk (g.D.Desk.seen c.args.desk.now) c.args.session.now c.requires.may
@@ -33,7 +33,7 @@ returns-in-Ok-true-clause-goes g c path comes =
 pub returns-in-Ok-false-clause-goes : goal.returns-in-Ok-false-clause-goes
 returns-in-Ok-false-clause-goes g c path comes =
     denied_goes g.D.Desk.called g.D.Desk.seen c.args.desk.now c.args.session.now path c.args.from c.args.met c.requires.may comes c.requires.unrefused c.take.new.desk c.take.new.session (rw c.in-Ok-false.field-0-test at c.in-Ok-false.ensures)
-    c.refused.new.session c.refused.ensures.kept c.refused.result c.refused.ensures.ends
+    c.noted_reply.new.session c.noted_reply.ensures.kept c.noted_reply.result c.noted_reply.ensures.ends
 
 pub returns-in-Err-Busy-clause-goes : goal.returns-in-Err-Busy-clause-goes
 returns-in-Err-Busy-clause-goes g c path comes =

@@ -4,13 +4,13 @@ use Rattle.trio_page.specs.Home.{raised}
 use Rattle.trio_walk.specs.declared.walks.WalkEnd.TheVariants.{At}
 use Rattle.trio_walk.specs.Walks.{InAllShown}
 use Rattle.trio_calls_dir.specs.inner.Goes.{number_made, try_ends}
-use Rattle.trio_calls_dir.proofs.Alike.{alike_finds}
 use Rattle.trio_calls_dir.proofs.Ends.{lacks}
 use Rattle.trio_calls_dir.proofs.Others.{stop_others}
-use Rattle.trio_calls_dir.proofs.Given.{may_walk}
 use Rattle.trio_calls_dir.proofs.Entered.{had_as, open_alike, walked_as}
 use Rattle.trio_calls_dir.proofs.MakesWalk.{make_comes, make_goes, make_may, make_stops, make_there}
 use Rattle.trio_calls_dir.proofs.makes.make.Goals as goal
+use Rattle.trio_session.proofs.Alike.{alike_finds}
+use Rattle.trio_calls_dir.proofs.Walkable.{may_walk}
 
 pub returns-in_default-clause-goes : goal.returns-in_default-clause-goes
 returns-in_default-clause-goes g c = lacks g.D.Desk.called g.D.Desk.seen c.args.desk.now c.args.session.now c.args.session.now c.args.call.now _ c.requires.may refl
@@ -52,9 +52,9 @@ returns-in-Ok-reach_into-clause-goes g c =
     let dir_is = c.in-Ok.ensures in
     let w = walked_as g.D.Desk.called g.D.Desk.seen c.args.desk.now c.args.session.now c.reach_into.new.desk c.reach_into.new.session _ _ _ dir_is dir_is (At c.in-Ok-reach_into.met.ino) c.in-Ok-reach_into.ensures.walked in
     make_there g.D.Desk.called g.D.Desk.seen c.args.desk.now c.args.session.now c.args.call.now c.args.kind c.args.path.now c.args.mode c.requires.call c.requires.root c.requires.may c.reach_into.new.desk c.reach_into.new.session c.in-Ok-reach_into.met.ino w c.reach_into.ensures.may c.look_up.new.session (alike_finds c.reach_into.new.session c.look_up.new.session (raised c.reach_into.new.session.finds) c.look_up.ensures.kept)
-    c.refused.new.session c.refused.ensures.kept c.refused.result c.in-Some.field-0.ino
+    c.noted_reply.new.session c.noted_reply.ensures.kept c.noted_reply.result c.in-Some.field-0.ino
     (subst (λ n. InAllShown (g.D.Desk.seen c.reach_into.new.desk) c.look_up.new.session (λ now. find_named now c.in-Ok-reach_into.met.ino n ≡ Some c.in-Some.field-0.ino)) c.name_of.ensures.last (c.in-Some.ensures.looked (g.D.Desk.seen c.reach_into.new.desk) c.reach_into.ensures.may c.in-Ok-reach_into.ensures.list).1)
-    c.refused.ensures.ends
+    c.noted_reply.ensures.ends
 
 pub returns-clause-goes : goal.returns-clause-goes
 returns-clause-goes g c =

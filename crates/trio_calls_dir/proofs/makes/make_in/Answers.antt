@@ -1,13 +1,16 @@
-use Rattle.std.proofs.Common.{◌≡◌, None, Ok, Some, sym, ap, ◌∙◌, subst}
+use Rattle.std.proofs.Common.{◌≡◌, [], None, Some, sym, ap, ◌∙◌, subst}
 use Rattle.trio_layout.specs.Body.{body_of}
 use Rattle.trio_layout.specs.declared.range.CoreRange.{CoreRange}
 use Rattle.trio_nodes.specs.Walk.{name_of}
 use Rattle.trio_session.specs.Seen.{MayBeMade, fill}
 use Rattle.trio_rights.specs.declared.rights.Creds.{Creds}
-use Rattle.trio_calls_dir.specs.Asks.{new_body}
+use Rattle.trio_walk.specs.Asks.{IsNotBusy}
+use Rattle.trio_calls_dir.specs.inner.Goes.{Goes, number_made, try_ends}
+use Rattle.trio_calls_dir.proofs.Ends.{never_busy}
 use Rattle.trio_calls_dir.proofs.MakesFill.{body_made}
-use Rattle.trio_calls_dir.proofs.MakesRoom.{MayMake, above1, lacked_goes, made_goes, may_be_made, some_number, stopped_goes}
+use Rattle.trio_calls_dir.proofs.MakesRoom.{MayMake, above1, lacked_goes, made_goes, may_be_made, some_number}
 use Rattle.trio_calls_dir.proofs.makes.make_in.Goals as goal
+use Rattle.trio_session.specs.Deeds.{new_body}
 
 pub fill-requires-clause-number : goal.fill-requires-clause-number
 fill-requires-clause-number g c =
@@ -18,7 +21,7 @@ fill-requires-clause-number g c =
     let read : (range : CoreRange) → body_of c.args.kind range (new_body (g.D.Desk.seen c.make_room.new.desk).creds c.args.mode) ≡ Some (body_made (g.D.Desk.seen c.make_room.new.desk).creds c.args.mode) =
     λ range. ap (body_of c.args.kind range) (sym body) ∙ c.new_body-body.ensures.read c.args.kind range ∙ ap (λ (k : Creds). Some (body_made k c.args.mode)) creds in
     above1 g.D.Desk.called g.D.Desk.seen c.args.desk.now c.args.session.now c.args.call.now c.args.kind c.args.path.now c.args.mode c.args.dir m c.make_room.new.desk c.make_room.new.session c.make_room.result c.make_room.ensures.room
-    (c.in-Ok-None.is ∙ ap Ok c.in-Ok-None.field-0-is) c.creds-creds.ensures.limits c.name_of.ensures.name c.in-Some.ino (sym c.spare_ino.ensures ∙ c.in-Some.is) read
+    c.in-Ok.is c.creds-creds.ensures.limits c.name_of.ensures.name c.in-Some.ino (sym c.spare_ino.ensures ∙ c.in-Some.is) read
 
 pub fill-requires-clause-made : goal.fill-requires-clause-made
 fill-requires-clause-made g c allotted =
@@ -30,14 +33,14 @@ fill-requires-clause-made g c allotted =
     λ range. ap (body_of c.args.kind range) (sym body) ∙ c.new_body-body.ensures.read c.args.kind range ∙ ap (λ (k : Creds). Some (body_made k c.args.mode)) creds in
     subst (λ b. MayBeMade c.make_room.new.session c.in-Some.ino c.args.kind b) (sym body)
     (may_be_made g.D.Desk.called g.D.Desk.seen c.args.desk.now c.args.session.now c.args.call.now c.args.kind c.args.path.now c.args.mode c.args.dir m c.make_room.new.desk c.make_room.new.session c.make_room.result c.make_room.ensures.room
-    (c.in-Ok-None.is ∙ ap Ok c.in-Ok-None.field-0-is) c.creds-creds.ensures.limits c.name_of.ensures.name c.in-Some.ino (sym c.spare_ino.ensures ∙ c.in-Some.is) read)
+    c.in-Ok.is c.creds-creds.ensures.limits c.name_of.ensures.name c.in-Some.ino (sym c.spare_ino.ensures ∙ c.in-Some.is) read)
 
 pub unreachable-requires : goal.unreachable-requires
 unreachable-requires g c =
     let m : MayMake (g.D.Desk.seen c.args.desk.now) c.args.session.now c.args.call.now c.args.kind c.args.path.now c.args.mode c.args.dir =
     record { may = c.requires.may; call = c.requires.call; root = c.requires.root; opens = c.requires.open; new = c.requires.new; comes = c.requires.comes; free = c.requires.free } in
     let n = some_number g.D.Desk.called g.D.Desk.seen c.args.desk.now c.args.session.now c.args.call.now c.args.kind c.args.path.now c.args.mode c.args.dir m c.make_room.new.desk c.make_room.new.session c.make_room.result c.make_room.ensures.room
-    (c.in-Ok-None.is ∙ ap Ok c.in-Ok-None.field-0-is) in
+    c.in-Ok.is in
     let wrong : None ≡ Some n.0 = sym c.in-None.is ∙ c.spare_ino.ensures ∙ n.1 in absurd (cc wrong)
 
 pub returns-in-Some-clause-goes : goal.returns-in-Some-clause-goes
@@ -51,21 +54,18 @@ returns-in-Some-clause-goes g c =
     let s1 = c.make_room.new.session in
     let s2 = c.fill.new.self in
     made_goes g.D.Desk.called g.D.Desk.seen c.args.desk.now c.args.session.now c.args.call.now c.args.kind c.args.path.now c.args.mode c.args.dir m c.make_room.new.desk c.make_room.new.session c.make_room.result c.make_room.ensures.room
-    (c.in-Ok-None.is ∙ ap Ok c.in-Ok-None.field-0-is) c.creds-creds.ensures.limits c.name_of.ensures.name c.in-Some.ino (sym c.spare_ino.ensures ∙ c.in-Some.is) read c.fill.new.self
+    c.in-Ok.is c.creds-creds.ensures.limits c.name_of.ensures.name c.in-Some.ino (sym c.spare_ino.ensures ∙ c.in-Some.is) read c.fill.new.self
     (subst (λ b. s2 ≡ record (fill c.args.dir (name_of c.args.path.now) c.in-Some.ino c.args.kind b s1) { room = s2.room }) body
     (subst (λ n. s2 ≡ record (fill c.args.dir n c.in-Some.ino c.args.kind c.new_body-body.result s1) { room = s2.room }) c.name_of.ensures.last c.fill.ensures.kept))
     c.fill.ensures.room.calls
-
-pub returns-in-Ok-Some-clause-goes : goal.returns-in-Ok-Some-clause-goes
-returns-in-Ok-Some-clause-goes g c =
-    let m : MayMake (g.D.Desk.seen c.args.desk.now) c.args.session.now c.args.call.now c.args.kind c.args.path.now c.args.mode c.args.dir =
-    record { may = c.requires.may; call = c.requires.call; root = c.requires.root; opens = c.requires.open; new = c.requires.new; comes = c.requires.comes; free = c.requires.free } in
-    lacked_goes g.D.Desk.called g.D.Desk.seen c.args.desk.now c.args.session.now c.args.call.now c.args.kind c.args.path.now c.args.mode c.args.dir m c.make_room.new.desk c.make_room.new.session c.make_room.result c.make_room.ensures.room
-    c.in-Ok-Some.reply (c.in-Ok-Some.is ∙ ap Ok c.in-Ok-Some.field-0-is)
 
 pub returns-in-Err-clause-goes : goal.returns-in-Err-clause-goes
 returns-in-Err-clause-goes g c =
     let m : MayMake (g.D.Desk.seen c.args.desk.now) c.args.session.now c.args.call.now c.args.kind c.args.path.now c.args.mode c.args.dir =
     record { may = c.requires.may; call = c.requires.call; root = c.requires.root; opens = c.requires.open; new = c.requires.new; comes = c.requires.comes; free = c.requires.free } in
-    stopped_goes g.D.Desk.called g.D.Desk.seen c.args.desk.now c.args.session.now c.args.call.now c.args.kind c.args.path.now c.args.mode c.args.dir m c.make_room.new.desk c.make_room.new.session c.make_room.result c.make_room.ensures.room
-    c.in-Err.stop c.in-Err.is
+    subst (λ r. Goes g.D.Desk.called g.D.Desk.seen c.args.desk.now c.args.session.now c.args.call.now (λ now. []) (try_ends r) (number_made r) c.make_room.new.desk c.make_room.new.session) (sym c.unmade.ensures)
+    (lacked_goes g.D.Desk.called g.D.Desk.seen c.args.desk.now c.args.session.now c.args.call.now c.args.kind c.args.path.now c.args.mode c.args.dir m c.make_room.new.desk c.make_room.new.session c.make_room.result c.make_room.ensures.room
+    c.in-Err.fault c.in-Err.is)
+
+pub returns-in-Err-clause-idle : goal.returns-in-Err-clause-idle
+returns-in-Err-clause-idle g c = subst (λ r. IsNotBusy (try_ends r)) (sym c.unmade.ensures) (never_busy c.in-Err.fault)

@@ -3,9 +3,9 @@ use Rattle.trio_nodes.specs.Nodes.{find_named}
 use Rattle.trio_page.specs.Home.{raised}
 use Rattle.trio_walk.specs.Walks.{InAllShown}
 use Rattle.trio_calls_dir.specs.inner.Goes.{number_made, try_ends}
-use Rattle.trio_calls_dir.proofs.Given.{may_walk}
 use Rattle.trio_calls_dir.proofs.MovesFound.{absent_goes, found_one, looked_across, looked_busy, looked_goes}
 use Rattle.trio_calls_dir.proofs.moves.rename_across.Goals as goal
+use Rattle.trio_calls_dir.proofs.Walkable.{may_walk}
 
 pub rename_found-requires-clause-across : goal.rename_found-requires-clause-across
 rename_found-requires-clause-across g c = looked_across (g.D.Desk.seen c.args.desk.now) c.args.session.now c.look_up.new.session (raised c.args.session.now.finds) c.look_up.ensures.kept c.args.call.now c.args.from.now c.args.to.now c.args.dir c.args.new_dir c.requires.across
@@ -16,10 +16,10 @@ rename_found-requires-clause-found g c =
 
 pub returns-in-None-clause-goes : goal.returns-in-None-clause-goes
 returns-in-None-clause-goes g c =
-    looked_goes g.D.Desk.called g.D.Desk.seen c.args.desk.now c.args.session.now c.look_up.new.session (raised c.args.session.now.finds) c.look_up.ensures.kept c.args.call.now _ (try_ends c.refused.result) (number_made c.refused.result) c.args.desk.now c.refused.new.session
-    (absent_goes g.D.Desk.called g.D.Desk.seen c.args.desk.now c.look_up.new.session c.args.call.now c.args.from.now c.args.to.now c.args.dir c.args.new_dir (looked_across (g.D.Desk.seen c.args.desk.now) c.args.session.now c.look_up.new.session (raised c.args.session.now.finds) c.look_up.ensures.kept c.args.call.now c.args.from.now c.args.to.now c.args.dir c.args.new_dir c.requires.across) c.refused.new.session c.refused.ensures.kept c.refused.result
+    looked_goes g.D.Desk.called g.D.Desk.seen c.args.desk.now c.args.session.now c.look_up.new.session (raised c.args.session.now.finds) c.look_up.ensures.kept c.args.call.now _ (try_ends c.noted_reply.result) (number_made c.noted_reply.result) c.args.desk.now c.noted_reply.new.session
+    (absent_goes g.D.Desk.called g.D.Desk.seen c.args.desk.now c.look_up.new.session c.args.call.now c.args.from.now c.args.to.now c.args.dir c.args.new_dir (looked_across (g.D.Desk.seen c.args.desk.now) c.args.session.now c.look_up.new.session (raised c.args.session.now.finds) c.look_up.ensures.kept c.args.call.now c.args.from.now c.args.to.now c.args.dir c.args.new_dir c.requires.across) c.noted_reply.new.session c.noted_reply.ensures.kept c.noted_reply.result
     (subst (λ n. InAllShown (g.D.Desk.seen c.args.desk.now) c.look_up.new.session (λ now. find_named now c.args.dir n ≡ None)) c.name_of.ensures.last (c.in-None.ensures.looked (g.D.Desk.seen c.args.desk.now) (may_walk (g.D.Desk.seen c.args.desk.now) c.args.session.now c.requires.across.may) c.requires.across.look))
-    c.refused.ensures.ends)
+    c.noted_reply.ensures.ends)
 
 pub returns-in-Some-clause-goes : goal.returns-in-Some-clause-goes
 returns-in-Some-clause-goes g c =

@@ -3,11 +3,11 @@ use Rattle.trio_nodes.specs.Walk.{Path, dir_of}
 use Rattle.trio_walk.specs.declared.walks.WalkEnd.TheVariants.{At}
 use Rattle.trio_calls_dir.specs.inner.Goes.{number_made, try_ends}
 use Rattle.trio_calls_dir.proofs.Ends.{lacks}
-use Rattle.trio_calls_dir.proofs.Given.{may_walk}
 use Rattle.trio_calls_dir.proofs.MovesBusy.{out_others}
 use Rattle.trio_calls_dir.proofs.MovesWalk.{had_both, is_out, out_goes, out_stops, walked_both}
 use Rattle.trio_calls_dir.proofs.Others.{stop_others}
 use Rattle.trio_calls_dir.proofs.moves.rename_from.Goals as goal
+use Rattle.trio_calls_dir.proofs.Walkable.{may_walk}
 
 pub returns-in_default-clause-goes : goal.returns-in_default-clause-goes
 returns-in_default-clause-goes g c = lacks g.D.Desk.called g.D.Desk.seen c.args.desk.now c.args.session.now c.args.session.now c.args.call.now _ c.requires.may refl

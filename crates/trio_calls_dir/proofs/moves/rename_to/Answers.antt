@@ -1,10 +1,10 @@
 use Rattle.std.proofs.Common.{ap, get_or, inl, inr, refl}
 use Rattle.trio_walk.specs.declared.walks.WalkEnd.TheVariants.{At}
 use Rattle.trio_calls_dir.specs.inner.Goes.{number_made, try_ends}
-use Rattle.trio_calls_dir.proofs.Given.{may_walk}
 use Rattle.trio_calls_dir.proofs.MovesBusy.{to_busy, to_stop_busy}
 use Rattle.trio_calls_dir.proofs.MovesWalk.{had_both, is_across, to_goes, to_stops, walked_both}
 use Rattle.trio_calls_dir.proofs.moves.rename_to.Goals as goal
+use Rattle.trio_calls_dir.proofs.Walkable.{may_walk}
 
 pub reach_into-requires : goal.reach_into-requires
 reach_into-requires g c = may_walk (g.D.Desk.seen c.args.desk.now) c.args.session.now c.requires.out.may

@@ -10,15 +10,15 @@ use Rattle.trio_page.specs.Home.{raised}
 use Rattle.trio_walk.specs.declared.walks.WalkEnd.TheVariants.{At}
 use Rattle.trio_walk.specs.Walks.{InAllShown}
 use Rattle.trio_calls_dir.specs.inner.Goes.{Goes, number_made, try_ends}
-use Rattle.trio_calls_dir.proofs.Alike.{alike_finds}
 use Rattle.trio_calls_dir.proofs.Ends.{lacks}
 use Rattle.trio_calls_dir.proofs.Others.{stop_others}
-use Rattle.trio_calls_dir.proofs.Given.{may_walk}
 use Rattle.trio_calls_dir.proofs.Entered.{had_as, open_alike, walked_as}
 use Rattle.trio_calls_dir.proofs.RemovesBusy.{hold_others}
 use Rattle.trio_walk.proofs.Possible.{lib_same}
 use Rattle.trio_calls_dir.proofs.RemovesWalk.{finds_alike, remove_absent, remove_comes, remove_goes, remove_may, remove_other, remove_stops}
 use Rattle.trio_calls_dir.proofs.removes.remove.Goals as goal
+use Rattle.trio_session.proofs.Alike.{alike_finds}
+use Rattle.trio_calls_dir.proofs.Walkable.{may_walk}
 
 pub returns-in_default-clause-goes : goal.returns-in_default-clause-goes
 returns-in_default-clause-goes g c = lacks g.D.Desk.called g.D.Desk.seen c.args.desk.now c.args.session.now c.args.session.now c.args.call.now _ c.requires.may refl
@@ -30,9 +30,9 @@ pub returns-in-None-clause-goes : goal.returns-in-None-clause-goes
 returns-in-None-clause-goes g c =
     let dir_is = c.in-Ok.ensures in
     let w = walked_as g.D.Desk.called g.D.Desk.seen c.args.desk.now c.args.session.now c.reach_into.new.desk c.reach_into.new.session _ _ _ dir_is dir_is (At c.in-Ok-reach_into.met.ino) c.in-Ok-reach_into.ensures.walked in
-    remove_absent g.D.Desk.called g.D.Desk.seen c.args.desk.now c.args.session.now c.args.call.now c.args.kind c.args.path.now c.requires.call c.requires.root c.requires.may c.reach_into.new.desk c.reach_into.new.session c.in-Ok-reach_into.met.ino w c.reach_into.ensures.may c.look_up.new.session (alike_finds c.reach_into.new.session c.look_up.new.session (raised c.reach_into.new.session.finds) c.look_up.ensures.kept) c.refused.new.session c.refused.ensures.kept c.refused.result
+    remove_absent g.D.Desk.called g.D.Desk.seen c.args.desk.now c.args.session.now c.args.call.now c.args.kind c.args.path.now c.requires.call c.requires.root c.requires.may c.reach_into.new.desk c.reach_into.new.session c.in-Ok-reach_into.met.ino w c.reach_into.ensures.may c.look_up.new.session (alike_finds c.reach_into.new.session c.look_up.new.session (raised c.reach_into.new.session.finds) c.look_up.ensures.kept) c.noted_reply.new.session c.noted_reply.ensures.kept c.noted_reply.result
     (subst (λ n. InAllShown (g.D.Desk.seen c.reach_into.new.desk) c.look_up.new.session (λ now. find_named now c.in-Ok-reach_into.met.ino n ≡ None)) c.name_of.ensures.last (c.in-None.ensures.looked (g.D.Desk.seen c.reach_into.new.desk) c.reach_into.ensures.may c.in-Ok-reach_into.ensures.list))
-    c.refused.ensures.ends
+    c.noted_reply.ensures.ends
 
 pub remove_in-requires-clause-may : goal.remove_in-requires-clause-may
 remove_in-requires-clause-may g c =
@@ -80,9 +80,9 @@ pub returns-in-Ok-reach_into-clause-goes : goal.returns-in-Ok-reach_into-clause-
 returns-in-Ok-reach_into-clause-goes g c =
     let dir_is = c.in-Ok.ensures in
     let w = walked_as g.D.Desk.called g.D.Desk.seen c.args.desk.now c.args.session.now c.reach_into.new.desk c.reach_into.new.session _ _ _ dir_is dir_is (At c.in-Ok-reach_into.met.ino) c.in-Ok-reach_into.ensures.walked in
-    remove_other g.D.Desk.called g.D.Desk.seen c.args.desk.now c.args.session.now c.args.call.now c.args.kind c.args.path.now c.requires.call c.requires.root c.requires.may c.reach_into.new.desk c.reach_into.new.session c.in-Ok-reach_into.met.ino w c.reach_into.ensures.may c.look_up.new.session (alike_finds c.reach_into.new.session c.look_up.new.session (raised c.reach_into.new.session.finds) c.look_up.ensures.kept) c.refused-in-Some-2.new.session c.refused-in-Some-2.ensures.kept c.refused-in-Some-2.result c.in-Some.file ((c.in-Some.ensures.looked (g.D.Desk.seen c.reach_into.new.desk) c.reach_into.ensures.may c.in-Ok-reach_into.ensures.list).0) (subst (λ n. InAllShown (g.D.Desk.seen c.reach_into.new.desk) c.look_up.new.session (λ now. find_named now c.in-Ok-reach_into.met.ino n ≡ Some c.in-Some.file.ino)) c.name_of.ensures.last (c.in-Some.ensures.looked (g.D.Desk.seen c.reach_into.new.desk) c.reach_into.ensures.may c.in-Ok-reach_into.ensures.list).1)
+    remove_other g.D.Desk.called g.D.Desk.seen c.args.desk.now c.args.session.now c.args.call.now c.args.kind c.args.path.now c.requires.call c.requires.root c.requires.may c.reach_into.new.desk c.reach_into.new.session c.in-Ok-reach_into.met.ino w c.reach_into.ensures.may c.look_up.new.session (alike_finds c.reach_into.new.session c.look_up.new.session (raised c.reach_into.new.session.finds) c.look_up.ensures.kept) c.noted_reply-in-Some-2.new.session c.noted_reply-in-Some-2.ensures.kept c.noted_reply-in-Some-2.result c.in-Some.file ((c.in-Some.ensures.looked (g.D.Desk.seen c.reach_into.new.desk) c.reach_into.ensures.may c.in-Ok-reach_into.ensures.list).0) (subst (λ n. InAllShown (g.D.Desk.seen c.reach_into.new.desk) c.look_up.new.session (λ now. find_named now c.in-Ok-reach_into.met.ino n ≡ Some c.in-Some.file.ino)) c.name_of.ensures.last (c.in-Some.ensures.looked (g.D.Desk.seen c.reach_into.new.desk) c.reach_into.ensures.may c.in-Ok-reach_into.ensures.list).1)
     (λ same. let t : c.eq.result ≡ true = search rules in false≢true (sym c.if-eq.false ∙ t))
-    (subst (λ x. MatchResult c.refused-in-Some-2.result (λ r. (r ≡ record { reply = x; made = 0 }) × (length c.refused-in-Some-2.new.session.calls < c.refused-in-Some-2.new.session.room.calls)) (λ stop. stop ≡ LacksMemory)) c.other_kind.ensures c.refused-in-Some-2.ensures.ends)
+    (subst (λ x. MatchResult c.noted_reply-in-Some-2.result (λ r. (r ≡ record { reply = x; made = 0 }) × (length c.noted_reply-in-Some-2.new.session.calls < c.noted_reply-in-Some-2.new.session.room.calls)) (λ stop. stop ≡ LacksMemory)) c.other_kind.ensures c.noted_reply-in-Some-2.ensures.ends)
 
 pub returns-clause-goes : goal.returns-clause-goes
 returns-clause-goes g c =

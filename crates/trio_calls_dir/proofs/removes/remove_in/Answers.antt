@@ -7,10 +7,10 @@ use Rattle.trio_walk.specs.Needs.{named_needs, removing_needs}
 use Rattle.trio_calls_dir.specs.inner.Goes.{Goes, number_made, try_ends}
 use Rattle.trio_calls_dir.specs.inner.Removes.{HoldBusyAt}
 use Rattle.trio_nodes.specs.Walk.{name_of}
-use Rattle.trio_calls_dir.proofs.Given.{may_walk}
 use Rattle.trio_calls_dir.proofs.RemovesTake.{busy_goes, busy_off, held_goes, may_clear, may_hold, short_goes}
 use Rattle.trio_calls_dir.proofs.RemovesClear.{above_none, cleared_goes, full_goes, there_some}
 use Rattle.trio_calls_dir.proofs.removes.remove_in.Goals as goal
+use Rattle.trio_calls_dir.proofs.Walkable.{may_walk}
 
 pub take-requires-clause-may : goal.take-requires-clause-may
 take-requires-clause-may g c = may_walk (g.D.Desk.seen c.args.desk.now) c.args.session.now c.requires.may
@@ -31,8 +31,8 @@ returns-in-Some-eq0-clause-goes g c =
 
 pub returns-in-Some-clause-goes : goal.returns-in-Some-clause-goes
 returns-in-Some-clause-goes g c =
-    held_goes g.D.Desk.called g.D.Desk.seen c.args.desk.now c.args.session.now c.args.call.now c.args.path.now c.args.dir c.args.file (record { may = c.requires.may; call = c.requires.call; root = c.requires.root; opens = c.requires.open; comes = c.requires.comes; entry = c.requires.entry; met = c.requires.met; named = c.requires.named }) c.take.new.desk c.take.new.session (subst (λ x. Took g.D.Desk.called g.D.Desk.seen c.args.desk.now c.args.session.now c.args.file Hold x c.take.new.desk c.take.new.session) (c.in-Ok-true.is ∙ ap Ok c.in-Ok-true.field-0-test) c.take.ensures) (try_ends c.refused.result) (number_made c.refused.result) c.take.new.desk c.refused.new.session
-    (full_goes g.D.Desk.called g.D.Desk.seen c.take.new.desk c.take.new.session c.args.call.now c.args.path.now c.args.dir c.args.file (may_clear g.D.Desk.called g.D.Desk.seen c.args.desk.now c.args.session.now c.args.call.now c.args.path.now c.args.dir c.args.file (record { may = c.requires.may; call = c.requires.call; root = c.requires.root; opens = c.requires.open; comes = c.requires.comes; entry = c.requires.entry; met = c.requires.met; named = c.requires.named }) c.take.new.desk c.take.new.session (subst (λ x. Took g.D.Desk.called g.D.Desk.seen c.args.desk.now c.args.session.now c.args.file Hold x c.take.new.desk c.take.new.session) (c.in-Ok-true.is ∙ ap Ok c.in-Ok-true.field-0-test) c.take.ensures)) c.in-Some.field-0 (sym c.children.ensures ∙ c.in-Some.is) (above_none c.in-Some.field-0 c.in-Some.field-0-test.1) c.refused.new.session c.refused.ensures.kept c.refused.result c.refused.ensures.ends)
+    held_goes g.D.Desk.called g.D.Desk.seen c.args.desk.now c.args.session.now c.args.call.now c.args.path.now c.args.dir c.args.file (record { may = c.requires.may; call = c.requires.call; root = c.requires.root; opens = c.requires.open; comes = c.requires.comes; entry = c.requires.entry; met = c.requires.met; named = c.requires.named }) c.take.new.desk c.take.new.session (subst (λ x. Took g.D.Desk.called g.D.Desk.seen c.args.desk.now c.args.session.now c.args.file Hold x c.take.new.desk c.take.new.session) (c.in-Ok-true.is ∙ ap Ok c.in-Ok-true.field-0-test) c.take.ensures) (try_ends c.noted_reply.result) (number_made c.noted_reply.result) c.take.new.desk c.noted_reply.new.session
+    (full_goes g.D.Desk.called g.D.Desk.seen c.take.new.desk c.take.new.session c.args.call.now c.args.path.now c.args.dir c.args.file (may_clear g.D.Desk.called g.D.Desk.seen c.args.desk.now c.args.session.now c.args.call.now c.args.path.now c.args.dir c.args.file (record { may = c.requires.may; call = c.requires.call; root = c.requires.root; opens = c.requires.open; comes = c.requires.comes; entry = c.requires.entry; met = c.requires.met; named = c.requires.named }) c.take.new.desk c.take.new.session (subst (λ x. Took g.D.Desk.called g.D.Desk.seen c.args.desk.now c.args.session.now c.args.file Hold x c.take.new.desk c.take.new.session) (c.in-Ok-true.is ∙ ap Ok c.in-Ok-true.field-0-test) c.take.ensures)) c.in-Some.field-0 (sym c.children.ensures ∙ c.in-Some.is) (above_none c.in-Some.field-0 c.in-Some.field-0-test.1) c.noted_reply.new.session c.noted_reply.ensures.kept c.noted_reply.result c.noted_reply.ensures.ends)
 
 pub returns-in-Err-Busy-clause-goes : goal.returns-in-Err-Busy-clause-goes
 returns-in-Err-Busy-clause-goes g c =

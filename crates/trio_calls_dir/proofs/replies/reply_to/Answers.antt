@@ -7,19 +7,19 @@ use Rattle.trio_calls_dir.proofs.replies.reply_to.Goals as goal
 pub returns-in-Mkdir-clause-goes : goal.returns-in-Mkdir-clause-goes
 returns-in-Mkdir-clause-goes g c =
     root_made g.D.Desk.called g.D.Desk.seen c.args.desk.now c.args.session.now c.args.call.now Directory c.in-Mkdir.path c.in-Mkdir.mode c.in-Mkdir.is (sym c.if-is_root.ensures) c.requires.may
-    c.refused.new.session c.refused.ensures.kept c.refused.result c.refused.ensures.ends
+    c.noted_reply.new.session c.noted_reply.ensures.kept c.noted_reply.result c.noted_reply.ensures.ends
 
 pub returns-in-Create-clause-goes : goal.returns-in-Create-clause-goes
 returns-in-Create-clause-goes g c =
     root_made g.D.Desk.called g.D.Desk.seen c.args.desk.now c.args.session.now c.args.call.now Regular c.in-Create.path c.in-Create.mode c.in-Create.is (sym c.if-is_root-2.ensures) c.requires.may
-    c.refused-in-Create.new.session c.refused-in-Create.ensures.kept c.refused-in-Create.result c.refused-in-Create.ensures.ends
+    c.noted_reply-in-Create.new.session c.noted_reply-in-Create.ensures.kept c.noted_reply-in-Create.result c.noted_reply-in-Create.ensures.ends
 
 pub returns-in-Unlink-clause-goes : goal.returns-in-Unlink-clause-goes
 returns-in-Unlink-clause-goes g c =
     root_goes g.D.Desk.called g.D.Desk.seen c.args.desk.now c.args.session.now c.args.call.now Regular c.in-Unlink.path c.in-Unlink.is (sym c.if-is_root-3.ensures) c.requires.may
-    c.refused-in-Unlink.new.session c.refused-in-Unlink.ensures.kept c.refused-in-Unlink.result c.refused-in-Unlink.ensures.ends
+    c.noted_reply-in-Unlink.new.session c.noted_reply-in-Unlink.ensures.kept c.noted_reply-in-Unlink.result c.noted_reply-in-Unlink.ensures.ends
 
 pub returns-in-Rmdir-clause-goes : goal.returns-in-Rmdir-clause-goes
 returns-in-Rmdir-clause-goes g c =
     root_goes g.D.Desk.called g.D.Desk.seen c.args.desk.now c.args.session.now c.args.call.now Directory c.in-Rmdir.path c.in-Rmdir.is (sym c.if-is_root-4.ensures) c.requires.may
-    c.refused-in-Rmdir.new.session c.refused-in-Rmdir.ensures.kept c.refused-in-Rmdir.result c.refused-in-Rmdir.ensures.ends
+    c.noted_reply-in-Rmdir.new.session c.noted_reply-in-Rmdir.ensures.kept c.noted_reply-in-Rmdir.result c.noted_reply-in-Rmdir.ensures.ends

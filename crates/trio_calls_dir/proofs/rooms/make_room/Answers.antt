@@ -1,77 +1,75 @@
-use Rattle.std.proofs.Common.{◌≡◌, ◌+◌, ◌≤◌, Ok, ap, ◌∙◌, subst}
-use Rattle.trio_session.specs.Seen.{SessionSeen, room_in}
-use Rattle.trio_calls_dir.specs.Asks.{slot_growth}
-use Rattle.trio_calls_dir.specs.inner.Rooms.{Allotted}
-use Rattle.trio_calls_dir.proofs.ListsHad.{open_had}
-use Rattle.trio_calls_dir.proofs.RoomsMade.{may_add, room_lacked, room_made, room_may, room_short, room_stopped}
+use Rattle.std.proofs.Common.{◌≡◌, ◌+◌, ◌≤◌, length, sym, ap, ◌∙◌, subst}
+use Rattle.trio_layout.specs.Body.{block_count}
+use Rattle.trio_rights.specs.declared.kind.Kind.TheVariants.{Directory}
+use Rattle.trio_session.specs.Asked.{Allots}
+use Rattle.trio_session.specs.Deeds.{slot_growth}
+use Rattle.trio_session.specs.Layout.{size_in}
+use Rattle.trio_session.specs.Seen.{SessionSeen, chain_in, room_in}
+use Rattle.trio_session.proofs.Alike.{alike_room, on_alike}
+use Rattle.trio_session.proofs.Shows.{body_had-open}
+use Rattle.trio_edit_laws.proofs.Had.{open_had}
+use Rattle.trio_edit_laws.proofs.OpenChain.{open_chain}
+use Rattle.trio_calls_dir.proofs.RoomsMade.{may_add, room_lacked, room_made, room_short}
 use Rattle.trio_calls_dir.proofs.rooms.make_room.Goals as goal
 
-pub size_of-size-requires-clause-had : goal.size_of-size-requires-clause-had
-size_of-size-requires-clause-had g c = open_had (g.D.Desk.seen c.args.desk.now) c.args.session.now c.args.dir c.requires.may c.creds-creds.ensures.limits c.requires.open.directory
+pub size_of-size-requires : goal.size_of-size-requires
+size_of-size-requires g c = open_had (g.D.Desk.seen c.args.desk.now) c.args.session.now c.args.dir c.requires.may.edits c.creds-creds.ensures.limits Directory c.requires.open.directory
+
+pub slot_growth-pages-requires-clause-blocks : goal.slot_growth-pages-requires-clause-blocks
+slot_growth-pages-requires-clause-blocks g c =
+    c.block_count-blocks.ensures.count
+    ∙ ap block_count (c.size_of-size.ensures.size ∙ ap size_in (body_had-open c.args.session.now c.args.dir Directory c.requires.open.directory))
+    ∙ (open_chain (g.D.Desk.seen c.args.desk.now) c.args.session.now c.args.dir Directory c.requires.may.edits c.requires.open.directory).count
+    ∙ sym (ap (λ (q : SessionSeen). length (chain_in q c.args.dir).blocks) c.entry_places.ensures.kept)
 
 pub allot-requires : goal.allot-requires
-allot-requires g c = room_may g.D.Desk.called g.D.Desk.seen c.args.desk.now c.args.session.now c.args.dir c.args.numbers c.requires.may c.make_places.new.session c.make_places.ensures.kept
+allot-requires g c =
+    on_alike (g.D.Desk.seen c.args.desk.now) c.args.session.now c.entry_places.new.session (alike_room c.args.session.now c.entry_places.new.session c.entry_places.ensures.kept) c.requires.may.edits.on
 
 pub add_slot-requires : goal.add_slot-requires
 add_slot-requires g c =
-    let s1 = c.make_places.new.session in
-    let pages : c.slot_growth-pages.result ≡ slot_growth c.args.session.now c.args.dir = c.slot_growth-pages.ensures ∙ ap (λ (q : SessionSeen). slot_growth q c.args.dir) c.make_places.ensures.kept in
-    may_add g.D.Desk.called g.D.Desk.seen c.args.desk.now c.args.session.now c.args.dir c.args.numbers c.requires.may c.make_places.new.session c.make_places.ensures.kept c.allot.new.desk c.allot.new.session c.allot.result
-    (subst (λ n. Allotted g.D.Desk.called g.D.Desk.seen c.args.desk.now c.make_places.new.session n c.args.numbers c.allot.result c.allot.new.desk c.allot.new.session) pages c.allot.ensures.allotted)
-    c.requires.open c.creds-creds.ensures.limits c.size_of-size.result c.size_of-size.ensures.size c.size_of-size.ensures.few
+    let pages : c.slot_growth-pages.result ≡ slot_growth c.args.session.now c.args.dir = c.slot_growth-pages.ensures ∙ ap (λ (q : SessionSeen). slot_growth q c.args.dir) c.entry_places.ensures.kept in
+    may_add g.D.Desk.called g.D.Desk.seen c.args.desk.now c.args.session.now c.args.dir c.args.numbers c.requires.may c.entry_places.new.session c.entry_places.ensures.kept c.allot.new.desk c.allot.new.session c.allot.result c.allot.ensures.room c.allot.ensures.on
+    (subst (λ n. Allots g.D.Desk.called g.D.Desk.seen c.args.desk.now c.entry_places.new.session n c.args.numbers c.allot.result c.allot.new.desk c.allot.new.session) pages c.allot.ensures.allots)
+    c.requires.open c.creds-creds.ensures.limits c.size_of-size.result (c.size_of-size.ensures.size ∙ ap size_in (body_had-open c.args.session.now c.args.dir Directory c.requires.open.directory)) c.size_of-size.ensures.few
     (record {
       calls = c.in-Ok.ensures.calls;
       made = c.in-Ok.ensures.made;
-      blocks = subst (λ n. n + 1 ≤ room_in c.make_places.new.session c.args.dir) c.block_count-blocks.ensures.count c.in-Ok.ensures.grows;
+      blocks = subst (λ n. n + 1 ≤ room_in c.entry_places.new.session c.args.dir) c.block_count-blocks.ensures.count c.in-Ok.ensures.blocks;
       slots = c.in-Ok.ensures.slots;
       names = c.in-Ok.ensures.names;
     })
-    (c.in-Ok-None.is ∙ ap Ok c.in-Ok-None.field-0-is)
+    c.in-Ok-allot.is
 
-pub returns-in-Ok-None : goal.returns-in-Ok-None
-returns-in-Ok-None g c =
-    let pages : c.slot_growth-pages.result ≡ slot_growth c.args.session.now c.args.dir = c.slot_growth-pages.ensures ∙ ap (λ (q : SessionSeen). slot_growth q c.args.dir) c.make_places.ensures.kept in
+pub returns-in-Ok-allot : goal.returns-in-Ok-allot
+returns-in-Ok-allot g c =
+    let pages : c.slot_growth-pages.result ≡ slot_growth c.args.session.now c.args.dir = c.slot_growth-pages.ensures ∙ ap (λ (q : SessionSeen). slot_growth q c.args.dir) c.entry_places.ensures.kept in
     record {
       room =
-          room_made g.D.Desk.called g.D.Desk.seen c.args.desk.now c.args.session.now c.args.dir c.args.numbers c.requires.may c.make_places.new.session c.make_places.ensures.kept c.allot.new.desk c.allot.new.session c.allot.result
-          (subst (λ n. Allotted g.D.Desk.called g.D.Desk.seen c.args.desk.now c.make_places.new.session n c.args.numbers c.allot.result c.allot.new.desk c.allot.new.session) pages c.allot.ensures.allotted)
-          c.requires.open c.creds-creds.ensures.limits c.size_of-size.result c.size_of-size.ensures.size c.size_of-size.ensures.few
+          room_made g.D.Desk.called g.D.Desk.seen c.args.desk.now c.args.session.now c.args.dir c.args.numbers c.requires.may c.entry_places.new.session c.entry_places.ensures.kept c.allot.new.desk c.allot.new.session c.allot.result c.allot.ensures.room c.allot.ensures.on
+          (subst (λ n. Allots g.D.Desk.called g.D.Desk.seen c.args.desk.now c.entry_places.new.session n c.args.numbers c.allot.result c.allot.new.desk c.allot.new.session) pages c.allot.ensures.allots)
+          c.requires.open c.creds-creds.ensures.limits c.size_of-size.result (c.size_of-size.ensures.size ∙ ap size_in (body_had-open c.args.session.now c.args.dir Directory c.requires.open.directory)) c.size_of-size.ensures.few
           (record {
             calls = c.in-Ok.ensures.calls;
             made = c.in-Ok.ensures.made;
-            blocks = subst (λ n. n + 1 ≤ room_in c.make_places.new.session c.args.dir) c.block_count-blocks.ensures.count c.in-Ok.ensures.grows;
+            blocks = subst (λ n. n + 1 ≤ room_in c.entry_places.new.session c.args.dir) c.block_count-blocks.ensures.count c.in-Ok.ensures.blocks;
             slots = c.in-Ok.ensures.slots;
             names = c.in-Ok.ensures.names;
           })
-          (c.in-Ok-None.is ∙ ap Ok c.in-Ok-None.field-0-is)
-          c.add_slot.new.session c.add_slot.ensures.kept c.add_slot.ensures.calls c.add_slot.ensures.names c.add_slot.ensures.place;
-    }
-
-pub returns-in-Ok-Some : goal.returns-in-Ok-Some
-returns-in-Ok-Some g c =
-    let pages : c.slot_growth-pages.result ≡ slot_growth c.args.session.now c.args.dir = c.slot_growth-pages.ensures ∙ ap (λ (q : SessionSeen). slot_growth q c.args.dir) c.make_places.ensures.kept in
-    record {
-      room =
-          room_lacked g.D.Desk.called g.D.Desk.seen c.args.desk.now c.args.session.now c.args.dir c.args.numbers c.requires.may c.make_places.new.session c.make_places.ensures.kept c.allot.new.desk c.allot.new.session c.allot.result
-          (subst (λ n. Allotted g.D.Desk.called g.D.Desk.seen c.args.desk.now c.make_places.new.session n c.args.numbers c.allot.result c.allot.new.desk c.allot.new.session) pages c.allot.ensures.allotted)
-          (c.block_count-blocks.result + 1)
-          (record { calls = c.in-Ok.ensures.calls; made = c.in-Ok.ensures.made; blocks = c.in-Ok.ensures.grows; slots = c.in-Ok.ensures.slots; names = c.in-Ok.ensures.names })
-          c.in-Ok-Some.reply (c.in-Ok-Some.is ∙ ap Ok c.in-Ok-Some.field-0-is);
+          c.in-Ok-allot.is c.add_slot.new.session c.add_slot.ensures.kept c.add_slot.ensures.calls c.add_slot.ensures.names c.add_slot.ensures.place;
     }
 
 pub returns-in-Err-allot : goal.returns-in-Err-allot
 returns-in-Err-allot g c =
-    let pages : c.slot_growth-pages.result ≡ slot_growth c.args.session.now c.args.dir = c.slot_growth-pages.ensures ∙ ap (λ (q : SessionSeen). slot_growth q c.args.dir) c.make_places.ensures.kept in
+    let pages : c.slot_growth-pages.result ≡ slot_growth c.args.session.now c.args.dir = c.slot_growth-pages.ensures ∙ ap (λ (q : SessionSeen). slot_growth q c.args.dir) c.entry_places.ensures.kept in
     record {
       room =
-          room_stopped g.D.Desk.called g.D.Desk.seen c.args.desk.now c.args.session.now c.args.dir c.args.numbers c.requires.may c.make_places.new.session c.make_places.ensures.kept c.allot.new.desk c.allot.new.session c.allot.result
-          (subst (λ n. Allotted g.D.Desk.called g.D.Desk.seen c.args.desk.now c.make_places.new.session n c.args.numbers c.allot.result c.allot.new.desk c.allot.new.session) pages c.allot.ensures.allotted)
-          (c.block_count-blocks.result + 1)
-          (record { calls = c.in-Ok.ensures.calls; made = c.in-Ok.ensures.made; blocks = c.in-Ok.ensures.grows; slots = c.in-Ok.ensures.slots; names = c.in-Ok.ensures.names })
-          c.in-Err-allot.stop c.in-Err-allot.is;
+          room_lacked g.D.Desk.called g.D.Desk.seen c.args.desk.now c.args.session.now c.args.dir c.args.numbers c.requires.may c.entry_places.new.session c.entry_places.ensures.kept c.allot.new.desk c.allot.new.session c.allot.result c.allot.ensures.room c.allot.ensures.on
+          (subst (λ n. Allots g.D.Desk.called g.D.Desk.seen c.args.desk.now c.entry_places.new.session n c.args.numbers c.allot.result c.allot.new.desk c.allot.new.session) pages c.allot.ensures.allots)
+          c.in-Ok.ensures.calls c.in-Err-allot.fault c.in-Err-allot.is;
     }
 
 pub returns-in-Err : goal.returns-in-Err
 returns-in-Err g c = record {
-  room = room_short g.D.Desk.called g.D.Desk.seen c.args.desk.now c.args.session.now c.args.dir c.args.numbers c.requires.may c.make_places.new.session c.make_places.ensures.kept;
+  room = room_short g.D.Desk.called g.D.Desk.seen c.args.desk.now c.args.session.now c.args.dir c.args.numbers c.requires.may c.entry_places.new.session c.entry_places.ensures.kept;
 }

@@ -86,7 +86,7 @@ returns-in-Ok-false-clause-goes g c =
     let e = rw c.in-Ok-false.field-0-test at c.in-Ok-false.ensures in
     let t = took_for g.D.Desk.called g.D.Desk.seen c.args.desk.now c.args.session.now c.args.call.now c.args.met c.grant_for.result (Ok false) c.take.new.desk c.take.new.session c.grant_for.ensures
     (took_false g.D.Desk.called g.D.Desk.seen c.args.desk.now c.args.session.now c.args.met c.grant_for.result c.take.new.desk c.take.new.session c.requires.may e) in
-    root_denied_goes g.D.Desk.called g.D.Desk.seen c.args.desk.now c.args.session.now c.args.call.now c.args.met c.requires.met c.requires.comes c.requires.file c.requires.unrefused c.take.new.desk c.take.new.session t c.refused.new.session c.refused.ensures.kept c.refused.result c.refused.ensures.ends
+    root_denied_goes g.D.Desk.called g.D.Desk.seen c.args.desk.now c.args.session.now c.args.call.now c.args.met c.requires.met c.requires.comes c.requires.file c.requires.unrefused c.take.new.desk c.take.new.session t c.noted_reply.new.session c.noted_reply.ensures.kept c.noted_reply.result c.noted_reply.ensures.ends
 
 pub returns-in-Err-Busy-clause-goes : goal.returns-in-Err-Busy-clause-goes
 returns-in-Err-Busy-clause-goes g c =

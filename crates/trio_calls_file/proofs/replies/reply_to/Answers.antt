@@ -31,7 +31,7 @@ returns-in-Ok-clause-others g c = λ none.
 pub returns-in-Err-Reply-clause-replies : goal.returns-in-Err-Reply-clause-replies
 returns-in-Err-Reply-clause-replies g c =
     refused_there g.D.Desk.called g.D.Desk.seen c.args.desk.now c.args.session.now c.args.call.now c.requires.may c.requires.file c.in-Err-Reply.reply (rw c.in-Err-Reply.field-0-is at c.in-Err-Reply.ensures.stopped) c.reach.new.desk c.reach.new.session c.reach.ensures.may (subst (λ (path : Path). Walked g.D.Desk.called g.D.Desk.seen c.args.desk.now c.args.session.now (Walks (g.D.Desk.seen c.reach.new.desk) c.args.session.now [] path (Reply c.in-Err-Reply.reply)) (Reply c.in-Err-Reply.reply) c.reach.new.desk c.reach.new.session) c.path_of.ensures (rw c.in-Err-Reply.field-0-is at c.in-Err-Reply.ensures.walked))
-    c.refused.new.session c.refused.ensures.kept c.refused.result (rw c.in-Err-Reply.reply-is at c.refused.ensures.ends)
+    c.noted_reply.new.session c.noted_reply.ensures.kept c.noted_reply.result (rw c.in-Err-Reply.reply-is at c.noted_reply.ensures.ends)
 
 pub returns-in-Err-Busy-clause-replies : goal.returns-in-Err-Busy-clause-replies
 returns-in-Err-Busy-clause-replies g c =

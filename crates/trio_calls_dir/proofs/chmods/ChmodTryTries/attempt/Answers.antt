@@ -7,9 +7,9 @@ use Rattle.trio_walk.specs.declared.walks.WalkEnd.TheVariants.{At, Reply as IsRe
 use Rattle.trio_walk.specs.Walks.{InAllShown}
 use Rattle.trio_calls_dir.specs.inner.Chmods.{IsChmodCall, TriesCall}
 use Rattle.trio_calls_dir.specs.inner.Goes.{IsRefusedAs}
-use Rattle.trio_calls_dir.proofs.Given.{may_walk}
 use Rattle.trio_calls_dir.proofs.ChmodsTried.{lib_kept, call_hands, call_modes, is_chmod, refused_does, refuses_so, tried_busy, tried_others, tried_short}
 use Rattle.trio_calls_dir.proofs.chmods.ChmodTryTries.attempt.Goals as goal
+use Rattle.trio_calls_dir.proofs.Walkable.{may_walk}
 
 pub set-requires-clause-alone : goal.set-requires-clause-alone
 set-requires-clause-alone g c = c.owned_file.ensures.alone c.requires.begins.2

@@ -1,0 +1,4 @@
+mod Wanting
+pub mod Reading
+mod Listing
+mod Moving
