@@ -34,13 +34,6 @@ pub record Left (home start : Pages) (rest all : List Sheet) : Type 0 where
   pub below : IsTrue (all_below (length home.pages) (sheet_numbers rest))
   pub looked : home.looked ≡ start.looked
 
-pub all_left : (start : Pages) (rest all : List Sheet) → rest ≡ all → IsTrue (all_below (length start.pages) (sheet_numbers all)) → Left start start rest all
-all_left start rest all same below = record {
-  pages = ap (λ xs. with_pages xs start.pages) same;
-  below = subst (λ xs. IsTrue (all_below (length start.pages) (sheet_numbers xs))) (sym same) below;
-  looked = refl;
-}
-
 pub front_within : (home start : Pages) (rest all xs ys : List Sheet) → Left home start rest all → rest ≡ xs ++ ys → IsTrue (all_below (length home.pages) (sheet_numbers xs))
 front_within home start rest all xs ys left parts =
     (below_parts (length home.pages) xs ys (subst (λ zs. IsTrue (all_below (length home.pages) (sheet_numbers zs))) parts left.below)).0

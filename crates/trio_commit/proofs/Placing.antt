@@ -28,7 +28,7 @@ use Rattle.trio_commit.specs.Store.{checkpoint_at}
 use Rattle.trio_commit.specs.Bodies.{IsPlaced, bodies_home, child_of, has_place, is_parent_lent, kept_body, kept_children, page_changes, placed_files, root_after, with_child, with_children}
 use Rattle.trio_commit.specs.declared.taken_page.TakenPage.{TakenPage}
 use Rattle.trio_commit.specs.inner.Files.{leases_in}
-use Rattle.trio_commit.specs.inner.Putting.{ArePlaced, looks_for, with_body_on}
+use Rattle.trio_commit.specs.inner.Putting.{ArePlaced, looks_for}
 
 abbrev pub Checkpoints : Type 0
 Checkpoints = List (Option Checkpointed)
@@ -61,9 +61,6 @@ pub with_children-append : (ms ks : List Met) (cs : Checkpoints) → with_childr
 with_children-append [] ks cs = refl
 with_children-append (m ∷ ms) ks cs = with_children-append ms ks (set cs m.parent (option_map (with_child m) (checkpoint_at cs m.parent)))
 
-place : List (Option Row) → Written → Met
-place rows w = written_at w (row_in rows w.ino)
-
 placed : List (Option Row) → List LentFile → List Met
 placed rows files = placed_files rows (leases_in files)
 
@@ -72,11 +69,6 @@ placed-append rows files more =
     ap (λ ws. map (λ (w : Written). written_at w (row_in rows w.ino)) (filter (has_place rows) ws)) (map-append (λ (f : LentFile). written_in f.stands) files more)
     ∙ ap (map (λ (w : Written). written_at w (row_in rows w.ino))) (filter-append (has_place rows) (map (λ (f : LentFile). written_in f.stands) files) (map (λ (f : LentFile). written_in f.stands) more))
     ∙ map-append (λ (w : Written). written_at w (row_in rows w.ino)) (filter (has_place rows) (map (λ (f : LentFile). written_in f.stands) files)) (filter (has_place rows) (map (λ (f : LentFile). written_in f.stands) more))
-
--- ---- one lease
-
-pub no_place : (rows : List (Option Row)) (f : LentFile) → has_place rows (written_in f.stands) ≡ false → placed_files rows (leases_in (f ∷ [])) ≡ []
-no_place rows f e = ap (λ b. map (λ (w : Written). written_at w (row_in rows w.ino)) (if b then written_in f.stands ∷ [] else [])) e
 
 -- a file at the place that this row names
 abbrev pub at_row : LentFile → Row → Met
@@ -91,28 +83,8 @@ one_place rows f r other row =
     ap (λ b. map (λ (w : Written). written_at w (row_in rows w.ino)) (if b then written_in f.stands ∷ [] else [])) (has_place_here rows f r other row)
     ∙ ap (λ o. written_at (written_in f.stands) o ∷ []) row
 
-pub one_body : (rows : List (Option Row)) (cs : Checkpoints) (f : LentFile) (r : Row) (pages : PageList) → (f.stands.ino == 1) ≡ false → row_in rows f.stands.ino ≡ Some r
-    → with_bodies (bodies_home rows cs (leases_in (f ∷ []))) pages ≡ (if is_some (checkpoint_at cs r.parent) then pages else with_body_at r.page r.slot f.stands.body pages)
-one_body rows cs f r pages other row =
-    ap (λ ms. with_bodies (filter (λ (m : Met). not (is_parent_lent cs m)) ms) pages) (one_place rows f r other row)
-    ∙ by (is_some (checkpoint_at cs r.parent))
-  where
-    by : (b : Bool) → with_bodies (if not b then at_row f r ∷ [] else []) pages ≡ (if b then pages else with_body_at r.page r.slot f.stands.body pages)
-    by true = refl
-    by false = ap (λ b. if b then pages else with_body_at r.page r.slot f.stands.body pages) other
-
-pub one_child : (rows : List (Option Row)) (cs : Checkpoints) (f : LentFile) (r : Row) → (f.stands.ino == 1) ≡ false → row_in rows f.stands.ino ≡ Some r
-    → with_children (placed_files rows (leases_in (f ∷ []))) cs ≡ set cs r.parent (option_map (with_body_on r.page r.slot f.stands.body) (checkpoint_at cs r.parent))
-one_child rows cs f r other row = ap (λ ms. with_children ms cs) (one_place rows f r other row)
-
 pub one_placed : (rows : List (Option Row)) (cs : Checkpoints) (f : LentFile) (r : Row) → (f.stands.ino == 1) ≡ false → row_in rows f.stands.ino ≡ Some r → ArePlaced rows cs (f ∷ []) → IsPlaced cs (at_row f r)
 one_placed rows cs f r other row placed = placed (at_row f r) (subst (λ ms. In (at_row f r) ms) (sym (one_place rows f r other row)) (inl refl))
-
--- ---- what checkpoints cover stays
-
--- the numbers of the directory pages that a checkpoint covers
-covers : Option Checkpointed → Option (List ℕ)
-covers o = option_map (λ (c : Checkpointed). sheet_numbers c.blocks) o
 
 abbrev pub CoverSame : Checkpoints → Checkpoints → Type 0
 CoverSame cs now = (n : ℕ) → option_map (λ (c : Checkpointed). sheet_numbers c.blocks) (checkpoint_at now n) ≡ option_map (λ (c : Checkpointed). sheet_numbers c.blocks) (checkpoint_at cs n)

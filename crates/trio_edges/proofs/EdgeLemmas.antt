@@ -78,16 +78,6 @@ no_row l n (Some r) e = absurd cc
 pub clear_none : (l : Listing) (rows : List (Option Row)) (n : ℕ) → row_in rows n ≡ None → is_clear l rows n ≡ true
 clear_none l rows n e = no_row l n (row_in rows n) e
 
-pub clear_past : (l : Listing) (rows : List (Option Row)) (n : ℕ) → length rows ≤ n → is_clear l rows n ≡ true
-clear_past l rows n h = clear_none l rows n (get_or_past rows n None h)
-
-pub clear_from : (l : Listing) (rows : List (Option Row)) (k : ℕ) → length rows ≤ k → ((n : ℕ) → n < k → is_clear l rows n ≡ true) → AllClear l rows
-clear_from l rows k h below = λ n.
-    elim (cases_Bool (ltb n k)) [
-      | inl less ↦ below n (grind (arith, nat_tests))
-      | inr more ↦ clear_past l rows n (grind (arith, nat_tests))
-    ]
-
 -- whether a number is listed, by the directory that lists it first
 pub listed_dir : (l : Listing) (n : ℕ) → is_listed l n ≡ is_some (option_map (λ (e : ListedEntry). e.dir) (find (λ (e : ListedEntry). eqb e.ino n) l.entries))
 listed_dir l n = go l.entries
@@ -118,16 +108,6 @@ one_step parent directory zero at next h a b e = absurd (omega arith)
 one_step parent directory (suc k) at next h a b e =
     let less : suc k - 1 ≡ k = omega arith in
     rw (less, a, b, e) refl
-
-lost_cases : (a b d : Bool) → (a && not b && not d) ≡ not (not a || b || d)
-lost_cases true true d = refl
-lost_cases true false true = refl
-lost_cases true false false = refl
-lost_cases false b d = refl
-
--- a child that is lost
-pub lost_is : (a b d a' b' d' : Bool) → a ≡ a' → b ≡ b' → d ≡ d' → (a && not b && not d) ≡ not (not a' || b' || d')
-lost_is a b d a' b' d' e f g = rw (e, f, g) (lost_cases a' b' d')
 
 -- the clauses of the whole rule
 pub meets_all : (a b d : Bool) → a ≡ true → b ≡ true → d ≡ true → (a && b && d) ≡ true

@@ -53,23 +53,9 @@ row_found row files ls n e =
     at None = refl
     at (Some i) = sym (slice_get-map row files i) ∙ ap (λ rs. slice_get rs i) e ∙ slice_get-map (λ (f : ListedFile). f.row) ls i
 
-judged_row_is : (o : Option ListedFile) (r : Row) (rest : Option Row) → option_map (λ (f : ListedFile). f.row) o ≡ Some r → option_map_or (λ (f : ListedFile). Some f.row) o rest ≡ Some r
-judged_row_is None r rest h = absurd cc
-judged_row_is (Some f) r rest h = h
-
 unjudged_row_is : (o : Option ListedFile) (rest : Option Row) → option_map (λ (f : ListedFile). f.row) o ≡ None → option_map_or (λ (f : ListedFile). Some f.row) o rest ≡ rest
 unjudged_row_is None rest h = refl
 unjudged_row_is (Some f) rest h = absurd cc
-
--- the row after the release of a judged file
-pub after_judged : (l : Listing) (rows : List (Option Row)) (n : ℕ) (r : Row) → option_map (λ (f : ListedFile). f.row) (find (λ (f : ListedFile). eqb f.ino n) l.files) ≡ Some r → row_after l rows n ≡ Some r
-after_judged l rows n r h = judged_row_is (find (λ (f : ListedFile). eqb f.ino n) l.files) r _ h
-
--- of another that an entry names
-pub after_entry : (l : Listing) (rows : List (Option Row)) (e : ListedEntry) → option_map (λ (f : ListedFile). f.row) (find (λ (f : ListedFile). eqb f.ino e.ino) l.files) ≡ None → find (λ (x : ListedEntry). eqb x.ino e.ino) l.entries ≡ Some e → row_after l rows e.ino ≡ option_map (placed_row e) (row_in rows e.ino)
-after_entry l rows e h is =
-    unjudged_row_is (find (λ (f : ListedFile). eqb f.ino e.ino) l.files) _ h
-    ∙ ap (λ o. option_map_or (λ (x : ListedEntry). option_map (placed_row x) (row_in rows e.ino)) o (cond (is_among e.ino l.held) None (row_in rows e.ino))) is
 
 -- of one that no entry names
 pub after_unlisted : (l : Listing) (rows : List (Option Row)) (n : ℕ) → option_map (λ (f : ListedFile). f.row) (find (λ (f : ListedFile). eqb f.ino n) l.files) ≡ None → is_listed l n ≡ false → row_after l rows n ≡ cond (is_among n l.held) None (row_in rows n)

@@ -153,15 +153,6 @@ noted judged o = option_and_then (λ at. get_or judged at None) o
 abbrev blank : ℕ → List (Option ℕ)
 blank len = replicate len None
 
-none_noted : (len k : ℕ) → get_or (blank len) k None ≡ None
-none_noted zero k = refl
-none_noted (suc len) zero = refl
-none_noted (suc len) (suc k) = none_noted len k
-
-pub nothing_noted : (judged : List (Option ℕ)) (len : ℕ) (o : Option ℕ) → judged ≡ replicate len None → noted judged o ≡ None
-nothing_noted judged len None e = refl
-nothing_noted judged len (Some k) e = ap (λ l. get_or l k None) e ∙ none_noted len k
-
 some_same : (a b : ℕ) → (let o : Option ℕ = Some a in o) ≡ Some b → a ≡ b
 some_same a b e = cc
 

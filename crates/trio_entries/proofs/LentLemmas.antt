@@ -1,10 +1,8 @@
 -- The blocks that a file was lent with.
-use Rattle.std.proofs.Common.{◌≡◌, ◌∙◌, ℕ, ◌+◌, eqb, List, [], ◌∷◌, ◌++◌, get_or, map, take, Option, None, Some, ap, refl}
+use Rattle.std.proofs.Common.{◌≡◌, ◌∙◌, ℕ, eqb, List, [], ◌∷◌, map, Option, None, Some, ap, refl}
 use Rattle.std.specs.Prelude.{slice_get}
 use Rattle.std.specs.List.{find}
 use Rattle.std.specs.Option.{option_map, option_map_or}
-use Rattle.std.proofs.lemmas.List.{map-append, take_more}
-use Rattle.std.proofs.lemmas.Option.{get_or_from_slice_get, slice_get_within}
 use Rattle.trio_rights.specs.Bundle.{Written}
 use Rattle.trio_rights.specs.Sheets.{sheet_numbers}
 use Rattle.trio_lease.specs.Bundles.{Bundled}
@@ -39,9 +37,3 @@ block_number_at pages at = slice_get-map (λ (p : LentPage). p.no.0) pages at �
     of : (o : Option LentPage) → option_map (λ (p : LentPage). p.no.0) o ≡ option_map (λ no. no.0) (option_map (λ (p : LentPage). p.no) o)
     of None = refl
     of (Some p) = refl
-
--- one page more
-pub one_number_more : (pages : List LentPage) (i : ℕ) (p : LentPage) → slice_get pages i ≡ Some p → block_numbers (take (i + 1) pages) ≡ block_numbers (take i pages) ++ p.no.0 ∷ []
-one_number_more pages i p at =
-    ap block_numbers (take_more pages i p (slice_get_within pages i p at)) ∙ map-append (λ (q : LentPage). q.no.0) (take i pages) (get_or pages i p ∷ [])
-    ∙ ap (λ (q : LentPage). block_numbers (take i pages) ++ q.no.0 ∷ []) (get_or_from_slice_get pages i p p at)

@@ -21,7 +21,6 @@ use Rattle.trio_entries.specs.inner.Outlined.{HasPages, file_from, files_from, h
 use Rattle.trio_entries.specs.inner.Sources.{file_numbers}
 use Rattle.trio_entries.proofs.Few.{pages_outlined}
 use Rattle.trio_entries.proofs.FlatPlaces.{drop_file}
-use Rattle.trio_entries.proofs.Turns.{told_more}
 
 abbrev pages_in : List FileOutline → List ℕ
 pages_in fs = flat_map (λ (f : FileOutline). f.index ++ f.blocks) fs
@@ -111,9 +110,6 @@ heads_made (f ∷ fs) =
     ∙ ap (λ hs. head_of (file_outline (written_in f.stands)) ∷ hs) (heads_made fs)
 
 module _ (b : Bundled) (heads : List FileHead) (pages : List ℕ) where
-  its : Outline
-  its = outline_of (bundle_in b)
-
   -- the heads and the pages are the bundle's
   abbrev pub AreLeases : Type 0
   AreLeases = (heads ≡ map (λ (f : LentFile). head_in f.stands) b.writes) × (pages ≡ bundle_pages (bundle_in b))
@@ -145,39 +141,9 @@ module _ (b : Bundled) (heads : List FileHead) (pages : List ℕ) where
         sym (files-left heads pages) ∙ ap (λ fs. pages_in fs ++ pages_left heads pages) writes ∙ ap (λ ps. pages_in o.writes ++ ps) left ∙ pages_outlined (bundle_in b),
       )
 
--- ---- numbers file by file
-
--- what begins with these two has them in front
-pub joined : (xs ys pages index behind blocks rest : List ℕ) (n m : ℕ) → index ≡ take n pages → behind ≡ drop n pages → blocks ≡ take m behind → rest ≡ drop m behind → index ≡ xs → blocks ≡ ys → pages ≡ (xs ++ ys) ++ rest
-joined xs ys pages index behind blocks rest n m i b t r is_xs is_ys =
-    let parts : behind ≡ ys ++ rest = sym (take-append-drop m behind) ∙ ap (λ ps. ps ++ drop m behind) (sym t ∙ is_ys) ∙ ap (λ ps. ys ++ ps) (sym r) in
-    sym (take-append-drop n pages) ∙ ap (λ ps. ps ++ drop n pages) (sym i ∙ is_xs) ∙ ap (λ ps. xs ++ ps) (sym b ∙ parts)
-    ∙ sym (append_assoc xs ys rest)
-
 module _ (xs ys pages r : List ℕ) (all : pages ≡ (xs ++ ys) ++ r) where
   apart : pages ≡ xs ++ (ys ++ r)
   apart = all ∙ append_assoc xs ys r
-
-  pub has_first : length xs ≤ length pages
-  has_first = let count = ap length apart in omega (arith, count, length-append xs (ys ++ r))
-
-  pub is_first : take (length xs) pages ≡ xs
-  is_first = ap (take (length xs)) apart ∙ take-append_seam xs (ys ++ r)
-
-  pub is_behind : drop (length xs) pages ≡ ys ++ r
-  is_behind = ap (drop (length xs)) apart ∙ drop-append_seam xs (ys ++ r)
-
-  pub has_second : length ys ≤ length (drop (length xs) pages)
-  has_second = let count = ap length is_behind in omega (arith, count, length-append ys r)
-
-  pub is_second : take (length ys) (drop (length xs) pages) ≡ ys
-  is_second = ap (take (length ys)) is_behind ∙ take-append_seam ys r
-
-pub behind_more : (fs : List LentFile) (i : ℕ) (f : LentFile) (pages rest new : List ℕ) → i < length fs → f ≡ get_or fs i f → pages ≡ flat_map file_numbers (take i fs) ++ rest → rest ≡ file_numbers f ++ new → pages ≡ flat_map file_numbers (take (i + 1) fs) ++ new
-behind_more fs i f pages rest new within here before is =
-    let before_it = flat_map file_numbers (take i fs) in
-    before ∙ ap (λ ps. before_it ++ ps) is ∙ sym (append_assoc before_it (file_numbers f) new)
-    ∙ ap (λ ps. ps ++ new) (told_more file_numbers fs i f before_it (before_it ++ file_numbers f) within here refl refl)
 
 abbrev fresh_numbers : Bundled → List ℕ
 fresh_numbers b = map (λ (p : FreshParts). p.no.0) b.pages

@@ -1,12 +1,12 @@
 -- The lines of the workload: how many there are, and that they are within a call's limits.
-use Rattle.std.proofs.Common.{◌≡◌, ◌≤◌, ◌<◌, ◌+◌, ◌*◌, ◌%◌, ◌==◌, ℕ, zero, suc, Bool, true, false, List, [], ◌∷◌, ◌++◌, length, arith, sym, ap, refl, length-append}
-use Rattle.std.specs.Prelude.{codes, if◌then◌else◌}
+use Rattle.std.proofs.Common.{◌≡◌, ◌≤◌, ◌+◌, ◌*◌, ◌%◌, ◌==◌, ℕ, zero, suc, Bool, true, false, List, [], ◌∷◌, ◌++◌, length, arith, refl, length-append}
+use Rattle.std.specs.Prelude.{if◌then◌else◌}
 use Rattle.std.specs.List.{AllByRecursion}
 use Rattle.trio_lists.proofs.Tabulated.{tabulated-length}
 use Rattle.trio_script.specs.declared.honest.HonestLine.{HonestLine}
 use Rattle.trio_script.specs.declared.ScriptLine.{ScriptLine}
 use Rattle.trio_script.specs.Within.{SaysWithin}
-use Rattle.trio_gen.specs.Workload.{directory_lines, directories_of, file_bytes, file_lines, last_lines, library_lines, numbered}
+use Rattle.trio_gen.specs.Workload.{file_bytes, file_lines, last_lines, library_lines, numbered}
 
 -- ---- how many
 
@@ -59,10 +59,6 @@ pub library_within : (number files k : ℕ) → AllByRecursion SaysWithin (libra
 library_within number zero k = tt
 library_within number (suc j) k =
     all_append SaysWithin (library_lines number j k) (if 1 + j % 4 == k then file_lines number k j else []) (library_within number j k) (own_within (1 + j % 4 == k) number k j)
-
-pub directories_within : (k : ℕ) → AllByRecursion SaysWithin (directories_of k)
-directories_within zero = tt
-directories_within (suc k) = all_append SaysWithin (directories_of k) (directory_lines (k + 1)) (directories_within k) (omega arith, (omega arith, (omega arith, tt)))
 
 pub numbered_within : (n : ℕ) (lines : List HonestLine) → AllByRecursion SaysWithin lines → AllByRecursion (λ (l : ScriptLine HonestLine). SaysWithin l.line) (numbered n lines)
 numbered_within n [] h = tt

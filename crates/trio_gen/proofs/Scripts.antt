@@ -1,21 +1,11 @@
 -- Libraries one after another.
-use Rattle.std.proofs.Common.{◌≡◌, ◌≤◌, ◌<◌, ◌+◌, ◌*◌, ℕ, zero, suc, List, [], ◌∷◌, ◌++◌, length, arith, sym, ap, ◌∙◌, refl, length-append}
+use Rattle.std.proofs.Common.{◌≡◌, ◌+◌, ℕ, suc, List, [], ◌∷◌, ◌++◌, length, arith, sym, ap, ◌∙◌, refl}
 use Rattle.std.specs.List.{AllByRecursion}
 use Rattle.trio_script.specs.declared.honest.HonestLine.{HonestLine}
-use Rattle.trio_script.specs.declared.ScriptLine.{ScriptLine}
 use Rattle.trio_script.specs.declared.ScriptLib.{ScriptLib}
 use Rattle.trio_script.specs.Within.{AreWithin, SaysWithin}
-use Rattle.trio_gen.specs.Workload.{directories_of, directories_script, files_script, library_lines, libraries_lines, libraries_at, library_at, line_behind, numbered}
-use Rattle.trio_gen.proofs.LineFacts.{directories_within, library_within, numbered_within}
-
-one_more : (n : ℕ) (line : HonestLine) → ScriptLine HonestLine
-one_more n line = record { number = n; line = line }
-
--- one line more
-pub numbered-more : (n m : ℕ) (lines : List HonestLine) (line : HonestLine) → m ≡ n + length lines → numbered n (lines ++ line ∷ []) ≡ numbered n lines ++ record { number = m; line = line } ∷ []
-unfolding one_more
-numbered-more n m [] line e = ap (λ k. one_more k line ∷ []) (omega (arith, e))
-numbered-more n m (l ∷ lines) line e = ap (λ rest. one_more n l ∷ rest) (numbered-more (n + 1) m lines line (omega (arith, e)))
+use Rattle.trio_gen.specs.Workload.{directories_of, directories_script, files_script, library_lines, libraries_lines, libraries_at, library_at, line_behind}
+use Rattle.trio_gen.proofs.LineFacts.{library_within, numbered_within}
 
 -- one library more
 pub libraries_at-more : (n : ℕ) (all : List (List HonestLine)) (lines : List HonestLine) → libraries_at n (all ++ lines ∷ []) ≡ libraries_at n all ++ library_at (line_behind n all) lines ∷ []
@@ -44,28 +34,9 @@ next_put number files k next next' lines n l e =
     e ∙ ap (λ m. m + 1 + length lines) n ∙ ap (λ ls. line_behind 1 all + 1 + length ls) l ∙ sym (line_behind-more 1 all (library_lines number files (k + 1)))
     ∙ ap (λ m. line_behind 1 (libraries_lines number files m)) up
 
-libraries_at-length : (n : ℕ) (all : List (List HonestLine)) → length (libraries_at n all) ≡ length all
-libraries_at-length n [] = refl
-libraries_at-length n (l ∷ all) = ap suc (libraries_at-length (n + 1 + length l) all)
-
-libraries_lines-length : (number files k : ℕ) → length (libraries_lines number files k) ≡ k
-libraries_lines-length number files zero = refl
-libraries_lines-length number files (suc k) =
-    let more = length-append (libraries_lines number files k) (library_lines number files (k + 1) ∷ []) in
-    omega (arith, more, libraries_lines-length number files k)
-
 libraries_within : (n : ℕ) (all : List (List HonestLine)) → AllByRecursion (AllByRecursion SaysWithin) all → AreWithin (libraries_at n all)
 libraries_within n [] h = tt
 libraries_within n (l ∷ all) h = (numbered_within (n + 1) l h.0, libraries_within (n + 1 + length l) all h.1)
-
--- the first script
-pub directories_count : length directories_script ≡ 1
-unfolding directories_script
-directories_count = refl
-
-pub directories_are_within : AreWithin directories_script
-unfolding directories_script
-directories_are_within = libraries_within 1 (directories_of 4 ∷ []) (directories_within 4, tt)
 
 pub directories_made : (old new : List ScriptLib) (lines : List HonestLine) → old ≡ [] → lines ≡ directories_of 4 → new ≡ old ++ library_at 1 lines ∷ [] → new ≡ directories_script
 unfolding directories_script
@@ -75,10 +46,6 @@ directories_made old new lines none is e = e ∙ ap (λ l. l ++ library_at 1 lin
 pub files_made : (number files k : ℕ) (libs : List ScriptLib) → k ≡ 4 → libs ≡ libraries_at 1 (libraries_lines number files k) → libs ≡ files_script number files
 unfolding files_script
 files_made number files k libs is e = e ∙ ap (λ n. libraries_at 1 (libraries_lines number files n)) is
-
-pub files_count : (number files : ℕ) → length (files_script number files) ≡ 4
-unfolding files_script
-files_count number files = libraries_at-length 1 (libraries_lines number files 4) ∙ libraries_lines-length number files 4
 
 pub files_are_within : (number files : ℕ) → AreWithin (files_script number files)
 unfolding files_script

@@ -1,5 +1,5 @@
 -- Grants that end in the table, and those that stay.
-use Rattle.std.proofs.Common.{◌≡◌, ℕ, zero, suc, ◌+◌, ◌<◌, ◌≤◌, Bool, true, false, ◌==◌, ◌||◌, List, [], ◌∷◌, ◌++◌, length, map, take, drop, get_or, Some, IsSome, IsTrue, refl, sym, ap, subst, ◌∙◌, inl, arith}
+use Rattle.std.proofs.Common.{◌≡◌, ℕ, suc, ◌+◌, ◌<◌, Bool, true, false, ◌==◌, ◌||◌, List, [], ◌∷◌, ◌++◌, length, map, take, drop, get_or, Some, IsSome, IsTrue, refl, sym, ap, subst, ◌∙◌, inl, arith}
 use Rattle.std.proofs.Math.Seq.{drop-cons, take-suc}
 use Rattle.std.specs.Prelude.{if◌then◌else◌, not}
 use Rattle.std.specs.List.{filter, find}
@@ -99,11 +99,6 @@ module _ (lib : LibNo) (b : Bundle) (seen left : List Opened) (x : Opened) (gran
         once = subst (λ os. IsTrue (are_new [] (keys os))) (sym same) going.once;
       }
 
--- ---- the end of the grants, one after another
-
-pub going_begins : (lib : LibNo) (b : Bundle) (files : List Opened) (grants : List Keyed) → grants ≡ map keyed files → IsTrue (are_new [] (keys files)) → Going lib b [] files grants
-going_begins lib b files grants table once = record { table = table; once = once }
-
 module _ (lib : LibNo) (b : Bundle) (files : List Opened) (i : ℕ) (x : Opened) (grants : List Keyed) (lt : i < length files) (is : x ≡ get_or files i x) (going : Going lib b (take i files) (drop i files) grants) where
   up : i + 1 ≡ suc i
   up = omega arith
@@ -125,26 +120,3 @@ module _ (lib : LibNo) (b : Bundle) (files : List Opened) (i : ℕ) (x : Opened)
 
   pub next_kept : is_in_bundle lib.0 b x.grant ≡ false → Going lib b (take (i + 1) files) (drop (i + 1) files) grants
   next_kept e = subst (λ seen. Going lib b seen (drop (i + 1) files) grants) longer (going_kept lib b (take i files) (drop (i + 1) files) x grants here e)
-
-pub going_ends : (lib : LibNo) (b : Bundle) (files : List Opened) (i : ℕ) (grants : List Keyed) → length files ≤ i → Going lib b (take i files) (drop i files) grants → grants ≡ map keyed (staying lib b files)
-going_ends lib b files i grants le going =
-    going.table
-    ∙ ap (λ rest. map keyed (staying lib b (take i files) ++ rest)) (drop_all files i le)
-    ∙ ap (map keyed) (append_none (staying lib b (take i files)))
-    ∙ ap (λ fs. map keyed (staying lib b fs)) (take_all files i le)
-  where
-    append_none : (os : List Opened) → os ++ [] ≡ os
-    append_none [] = refl
-    append_none (o ∷ os) = ap (λ l. o ∷ l) (append_none os)
-
-    drop_all : (os : List Opened) (n : ℕ) → length os ≤ n → drop n os ≡ []
-    drop_all [] zero le = refl
-    drop_all [] (suc n) le = refl
-    drop_all (o ∷ os) zero le = absurd (omega (arith, le))
-    drop_all (o ∷ os) (suc n) le = drop_all os n (omega (arith, le))
-
-    take_all : (os : List Opened) (n : ℕ) → length os ≤ n → take n os ≡ os
-    take_all [] zero le = refl
-    take_all [] (suc n) le = refl
-    take_all (o ∷ os) zero le = absurd (omega (arith, le))
-    take_all (o ∷ os) (suc n) le = ap (λ l. o ∷ l) (take_all os n (omega (arith, le)))

@@ -97,13 +97,6 @@ next_lent pages now range ns i n bytes before after page lt is there new so_far 
     let same : Some t.0 ≡ Some bytes = sym (next_home pages now ns i lt new so_far ∙ t.2) ∙ ap (λ m. get_or now m None) (sym e) ∙ had in
     more_lent core ns i n bytes before after page lt is (ap (page_of core) e ∙ t.1 ∙ same) lent first more
 
--- the next page that is copied is at home
-pub next_copy_there : (pages now : List (Option (List ℕ))) (range : CoreRange) (ns : List ℕ) (i n : ℕ) → i < length ns → n ≡ get_or ns i n → are_there (core_of pages range) ns ≡ true → now ≡ pages → is_some (get_or now n None) ≡ true
-next_copy_there pages now range ns i n lt is there same =
-    let e : n ≡ get_or ns i 0 = is ∙ get_or_default ns i n 0 lt in
-    let t = there_at pages range ns i lt there in
-    ap (λ ps. is_some (get_or ps n None)) same ∙ ap (λ m. is_some (get_or pages m None)) e ∙ ap is_some t.2
-
 pub next_copied : (pages now : List (Option (List ℕ))) (range : CoreRange) (ns : List ℕ) (i n : ℕ) (bytes : List ℕ) (before after : List LentPage) (page : LentPage) → i < length ns → n ≡ get_or ns i n → are_there (core_of pages range) ns ≡ true → now ≡ pages
     → get_or now n None ≡ Some bytes → page ≡ record { no = record { 0 = n }; page = bytes; touched = false } → before ≡ map untouched (sheets_of (core_of pages range) (take i ns)) → after ≡ before ++ page ∷ []
     → after ≡ map untouched (sheets_of (core_of pages range) (take (i + 1) ns))

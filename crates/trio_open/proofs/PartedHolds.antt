@@ -1,5 +1,5 @@
 -- The lowest hold that is parted, by one walk over the open grants.
-use Rattle.std.proofs.Common.{◌≡◌, ℕ, zero, suc, ◌+◌, ◌<◌, ◌≤◌, ◌==◌, ◌||◌, Bool, true, false, List, [], ◌∷◌, length, map, drop, get_or, Option, Some, None, is_some, refl, sym, ap, ◌∙◌, arith}
+use Rattle.std.proofs.Common.{◌≡◌, ℕ, suc, ◌+◌, ◌<◌, ◌≤◌, ◌==◌, ◌||◌, Bool, true, false, List, [], ◌∷◌, length, map, drop, get_or, Option, Some, None, is_some, refl, sym, ap, ◌∙◌, arith}
 use Rattle.std.proofs.Math.Seq.{drop-cons}
 use Rattle.std.specs.Prelude.{if◌then◌else◌, nat_le}
 use Rattle.std.specs.List.{filter, find, list_any}
@@ -93,10 +93,6 @@ lower_joins n None p = refl
 lower_joins n (Some m) None = ap Some (lesser_turns n m)
 lower_joins n (Some m) (Some q) = ap Some (lesser_joins n m q)
 
-pub lower_none : (o : Option ℕ) → lower_of o None ≡ o
-lower_none None = refl
-lower_none (Some n) = refl
-
 -- ---- one grant after another
 
 module _ (rows : List (Option Row)) (lib : ℕ) (b : Bundle) (files : List Opened) (i : ℕ) (x : Opened) (lt : i < length files) (is : x ≡ get_or files i x) where
@@ -121,13 +117,3 @@ module _ (rows : List (Option Row)) (lib : ℕ) (b : Bundle) (files : List Opene
 
   pub next_whole : (before all : Option ℕ) → is_parted_by rows lib b x.grant ≡ false → lower_of before (lowest_parted rows lib b (drop i files)) ≡ all → lower_of before (lowest_parted rows lib b (drop (i + 1) files)) ≡ all
   next_whole before all whole so_far = sym (ap (lower_of before) (rest_is false whole)) ∙ so_far
-
-pub parted_ends : (rows : List (Option Row)) (lib : ℕ) (b : Bundle) (files : List Opened) (i : ℕ) (o all : Option ℕ) → length files ≤ i → lower_of o (lowest_parted rows lib b (drop i files)) ≡ all → o ≡ all
-parted_ends rows lib b files i o all le so_far =
-    sym (lower_none o) ∙ sym (ap (λ fs. lower_of o (lowest_parted rows lib b fs)) (drop_all files i le)) ∙ so_far
-  where
-    drop_all : (os : List Opened) (n : ℕ) → length os ≤ n → drop n os ≡ []
-    drop_all [] zero le = refl
-    drop_all [] (suc n) le = refl
-    drop_all (o ∷ os) zero le = absurd (omega (arith, le))
-    drop_all (o ∷ os) (suc n) le = drop_all os n (omega (arith, le))
