@@ -1,9 +1,7 @@
 -- What is free, number by number.
-use Rattle.std.proofs.Common.{◌≡◌, ℕ, zero, suc, ◌+◌, ◌-◌, ◌<◌, ◌≤◌, Bool, cond, if◌then◌else◌, List, [], ◌∷◌, ◌++◌, length, drop, take, get_or, ◌⊎◌, inl, inr, refl, sym, ap, ◌∙◌, arith}
-use Rattle.std.specs.List.{filter}
+use Rattle.trio_allot.proofs.Words.{if◌then◌else◌, ◌++◌, ◌+◌, ◌-◌, ◌<◌, ◌∙◌, ◌∷◌, ◌≡◌, ◌≤◌, ◌⊎◌, Bool, List, [], ap, arith, cond, count_up, drop, filter, get_or, inl, inr, length, numbers_where, refl, suc, sym, take, zero, ℕ}
 use Rattle.std.proofs.lemmas.Bool.{cases_lt}
 use Rattle.std.proofs.lemmas.List.{drop_more, drop_all, take_more}
-use Rattle.trio_tables.specs.Free.{count_up, numbers_where}
 
 pub where_step : (test : ℕ → Bool) (from end : ℕ) → from < end
     → numbers_where test from end ≡ (if test from then from ∷ numbers_where test (from + 1) end else numbers_where test (from + 1) end)

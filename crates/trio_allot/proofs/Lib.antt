@@ -1,3 +1,4 @@
 pub mod FreeLemmas
 pub mod OutLemmas
 pub mod Taking
+mod Words

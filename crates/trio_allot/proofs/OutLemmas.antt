@@ -1,15 +1,11 @@
 -- Lists with many places changed.
-use Rattle.std.proofs.Common.{◌≡◌, ◌≢◌, ℕ, suc, ◌+◌, ◌<◌, List, [], ◌∷◌, ◌++◌, length, set, get_or, Option, Some, None, IsSome, refl, sym, ap, subst, ◌∙◌, ◌⊎◌, inl, inr, arith, Bool, true, false, if◌then◌else◌, ◌==◌}
-use Rattle.std.specs.Prelude.{All, IsTrue, not, is_some, ◌&&◌, slice_index}
-use Rattle.std.specs.List.{list_any}
-use Rattle.std.proofs.lemmas.Bool.{cases_eq, and_parts, false≢true}
+use Rattle.trio_allot.proofs.Words.{if◌then◌else◌, ◌++◌, ◌+◌, ◌<◌, ◌==◌, ◌∙◌, ◌∷◌, ◌≡◌, ◌⊎◌, All, Bool, IsSome, LibNo, List, None, Option, Some, [], and_parts, ap, arith, false, false≢true, get_or, inl, inr, is_some, length, lib_at, list_any, not, raised, raised_by, refl, set, subst, suc, sym, true, with_all, with_all-read, ℕ}
+use Rattle.std.proofs.Common.{◌≢◌}
+use Rattle.std.specs.Prelude.{IsTrue, ◌&&◌, slice_index}
+use Rattle.std.proofs.lemmas.Bool.{cases_eq}
 use Rattle.std.proofs.lemmas.List.{set_comm, get_or_push, get_or_append_left, length_push}
-use Rattle.trio_page.specs.Home.{raised}
-use Rattle.trio_rights.specs.declared.rights.LibNo.{LibNo}
-use Rattle.trio_tables.proofs.OutLemmas.{within_some, with_all-read}
+use Rattle.trio_tables.proofs.OutLemmas.{within_some}
 use Rattle.trio_allot.specs.Free.{FreeAreHome}
-use Rattle.trio_tables.specs.Out.{lib_at, with_all}
-use Rattle.trio_allot.specs.Out.{raised_by}
 
 pub with_all-push : {X : Type 0} (x : X) (ns : List ℕ) (n : ℕ) (xs : List X) → with_all x (ns ++ n ∷ []) xs ≡ set (with_all x ns xs) n x
 with_all-push x [] n xs = refl

@@ -1,16 +1,9 @@
 -- Free numbers go out, and come back where the pages can't go out with them.
-use Rattle.std.proofs.Common.{◌≡◌, ℕ, zero, suc, ◌+◌, ◌-◌, ◌<◌, ◌≤◌, Bool, true, false, cond, if◌then◌else◌, ◌==◌, List, [], ◌∷◌, Option, Some, None, length, take, map, refl, ap, sym, subst, ◌∙◌, inl, inr, arith}
-use Rattle.std.specs.Prelude.{All, not, is_some}
-use Rattle.std.specs.List.{filter, list_any}
-use Rattle.std.proofs.lemmas.Bool.{and_parts, eqb-true, false≢true, or_cases}
+use Rattle.trio_allot.proofs.Words.{if◌then◌else◌, ◌+◌, ◌-◌, ◌<◌, ◌==◌, ◌∙◌, ◌∷◌, ◌≡◌, ◌≤◌, All, All-head, All-tail, Bool, LibNo, List, None, Option, Some, [], and_parts, ap, arith, cond, count_up, false, false≢true, filter, free_numbers, fresh_number, inl, inode_numbers, inr, is_free_number, is_some, length, length-with_all, lib_at, list_any, map, not, refl, row_in, subst, suc, sym, take, true, with_all, with_all-read, zero, ℕ}
+use Rattle.std.proofs.lemmas.Bool.{eqb-true, or_cases}
 use Rattle.std.proofs.lemmas.List.{ext_get_or}
-use Rattle.std.proofs.lemmas.List.Elements.{All-cons, All-head, All-nil, All-tail, All-take}
-use Rattle.trio_rights.specs.Row.{Row, row_in}
-use Rattle.trio_rights.specs.declared.rights.LibNo.{LibNo}
-use Rattle.trio_tables.specs.Free.{count_up, free_numbers, is_free_number}
-use Rattle.trio_tables.specs.Out.{lib_at, with_all}
-use Rattle.trio_tables.proofs.OutLemmas.{length-with_all, with_all-read}
-use Rattle.trio_allot.specs.Out.{fresh_number, inode_numbers}
+use Rattle.std.proofs.lemmas.List.Elements.{All-cons, All-nil, All-take}
+use Rattle.trio_rights.specs.Row.{Row}
 
 -- the number has a place in the list, and is not out
 abbrev pub IsIn : List (Option LibNo) → ℕ → Type 0

@@ -1,19 +1,5 @@
 -- What follows from what the top call came to where it answers a fault.
-use Rattle.std.proofs.Common.{◌≡◌, ◌⊎◌, ◌<◌, ℕ, List, inl, inr, ap, sym, ◌∙◌, arith}
-use Rattle.trio_io.specs.Shelf.{Shelf, SinkSeen, Rose}
-use Rattle.trio_commands.specs.declared.status.Status.{Status}
-use Rattle.trio_commands.specs.declared.status.Status.TheVariants.{Done, Usage, ReadFault, WriteFault, NoMemory}
-use Rattle.trio_commands.specs.Status.{code_of}
-use Rattle.trio_commands.specs.Command.{Command, new_image, check, tree, turns, run, gen, help, version, unknown}
-use Rattle.trio_commands.specs.New.{NewComesTo}
-use Rattle.trio_commands.specs.Check.{CheckComesTo}
-use Rattle.trio_commands.specs.Tree.{TreeComesTo}
-use Rattle.trio_app.specs.OnScript.{ScriptComesTo}
-use Rattle.trio_app.specs.Run.{RunDone}
-use Rattle.trio_app.specs.Turns.{TurnsDone}
-use Rattle.trio_app.specs.Gen.{GenComesTo}
-use Rattle.trio_commands.specs.declared.words.TreeForm.{TreeForm}
-use Rattle.trio_app.specs.Main.{ComesTo, Main}
+use Rattle.trio_app.proofs.Words.{◌<◌, ◌∙◌, ◌≡◌, ◌⊎◌, CheckComesTo, ComesTo, Command, Done, GenComesTo, List, Main, NewComesTo, NoMemory, ReadFault, Rose, RunDone, ScriptComesTo, Shelf, SinkSeen, Status, TreeComesTo, TreeForm, TurnsDone, Usage, WriteFault, ap, arith, check, code_of, gen, help, inl, inr, new_image, run, sym, tree, turns, unknown, version, ℕ}
 
 -- ---- the causes
 

@@ -1,23 +1,9 @@
 -- The top call answers the status that the words and the bytes decide.
-use Rattle.std.proofs.Common.{◌≡◌, ◌⊎◌, ℕ, List, Option, inl, inr, refl, Some, None, length, ◌≤◌, ap, sym, subst, ◌∙◌, arith}
-use Rattle.trio_io.specs.Shelf.{Shelf, SinkSeen, Rose, IsLonger, IsTold}
+use Rattle.trio_app.proofs.Words.{◌∙◌, ◌≡◌, ◌≤◌, ◌⊎◌, BadScript, CheckComesTo, ComesTo, Command, Done, GenComesTo, InputsRead, List, Main, NewComesTo, NoMemory, None, NotVerified, Option, ReadFault, Rose, RunDone, ScriptComesTo, Shelf, SinkSeen, Some, Status, TooLong, TreeComesTo, TreeForm, TurnsDone, Usage, WriteFault, ap, arith, check, code_of, gen, help, inl, inr, length, new_image, refl, run, subst, sym, tree, turns, unknown, version, ℕ}
+use Rattle.trio_io.specs.Shelf.{IsLonger, IsTold}
 use Rattle.trio_survey.specs.Stored.{BytesVerify}
 use Rattle.trio_script.specs.Script.{bad_line}
-use Rattle.trio_commands.specs.declared.status.Status.{Status}
-use Rattle.trio_commands.specs.declared.status.Status.TheVariants.{Done, NotVerified, Usage, BadScript, ReadFault, WriteFault, NoMemory, TooLong}
-use Rattle.trio_commands.specs.Status.{code_of}
-use Rattle.trio_commands.specs.Command.{Command, new_image, check, tree, turns, run, gen, help, version, unknown}
 use Rattle.trio_commands.specs.Images.{ImageFails, ImageStops, ImageVerifies}
-use Rattle.trio_commands.specs.New.{NewComesTo}
-use Rattle.trio_commands.specs.Check.{CheckComesTo}
-use Rattle.trio_commands.specs.Tree.{TreeComesTo}
-use Rattle.trio_commands.specs.Inputs.{InputsRead}
-use Rattle.trio_app.specs.OnScript.{ScriptComesTo}
-use Rattle.trio_app.specs.Run.{RunDone}
-use Rattle.trio_app.specs.Turns.{TurnsDone}
-use Rattle.trio_app.specs.Gen.{GenComesTo}
-use Rattle.trio_commands.specs.declared.words.TreeForm.{TreeForm}
-use Rattle.trio_app.specs.Main.{ComesTo, Main}
 use Rattle.trio_app.specs.Decided.{ImageDecides, Decides, EndsAsDecided, NewDecides, TellsImage, TellsBadLine, TellsNoImage, TellsScript, TellsTooLong, InputsDecide}
 
 -- ---- what a file tells is one thing

@@ -1,44 +1,24 @@
 -- How the run of a script ends, and what the whole work comes to.
-use Rattle.std.proofs.Common.{◌≡◌, ℕ, zero, suc, ◌+◌, ◌<◌, ◌≤◌, min, List, [], ◌∷◌, ◌++◌, length, take, get_or, Option, None, Bool, refl, sym, ap, subst, ◌∙◌, arith}
-use Rattle.std.proofs.lemmas.List.{append-nil, append_assoc}
-use Rattle.trio_io.specs.Shelf.{Shelf, OnlyReplaces, Rose, told}
-use Rattle.trio_tables.specs.Out.{NoneOut}
-use Rattle.trio_layout.specs.Core.{Core}
-use Rattle.trio_layout.specs.declared.superblock.Superblock.{Superblock}
-use Rattle.trio_layout.specs.Image.{Image}
+use Rattle.trio_app.proofs.Words.{◌++◌, ◌+◌, ◌<◌, ◌∙◌, ◌∷◌, ◌≡◌, ◌≤◌, BadScript, Bool, Core, Creds, Done, Entry, Heard, Image, ImagePages, InputsRead, IsPlayEnd, IsRecorded, IsRunEnd, IsThreadsRunEnd, Kept, List, None, NoneOut, NotVerified, Option, OrderIsLogged, OrderIsOne, Played, RanEndsFree, RanIsOrder, RanIsPrinted, ReadFault, Rose, RunDone, ScriptComesTo, ScriptLib, ScriptRan, Shelf, State, Status, Superblock, TooLong, TreeLine, TurnsDone, WriteFault, [], ap, append-nil, append_assoc, arith, core_in, counts_of, counts_text, creds_in, get_or, image_in, length, libs_text, min, recorded, refl, settled, start, subst, suc, sym, take, told_counts, tree_of, tree_text, zero, ℕ}
+use Rattle.trio_io.specs.Shelf.{OnlyReplaces, told}
 use Rattle.trio_layout.proofs.Superblocks.{superblock_facts}
-use Rattle.trio_nodes.specs.declared.entry.Entry.{Entry}
-use Rattle.trio_laws.specs.history.Recorded.{IsRecorded}
-use Rattle.trio_state.specs.Kept.{Kept}
-use Rattle.trio_survey.specs.Stored.{HasSuperblock, StoresImage, core_in, image_in, bytes_in}
-use Rattle.trio_state.specs.State.{State, settled}
-use Rattle.trio_state.specs.Run.{start}
-use Rattle.trio_layout.specs.Tree.{TreeLine, tree_of}
-use Rattle.trio_script.specs.declared.ScriptLib.{ScriptLib}
-use Rattle.trio_report.specs.Report.{tree_text, counts_text}
-use Rattle.trio_rights.specs.declared.rights.Creds.{Creds}
+use Rattle.trio_survey.specs.Stored.{HasSuperblock, StoresImage, bytes_in}
 use Rattle.trio_image.specs.declared.counts.Counts.{Counts}
-use Rattle.trio_image.specs.Counts.{counts_in_tables, counts_of}
-use Rattle.trio_image.specs.Image.{ImagePages, IsVerified, TablesAre}
+use Rattle.trio_image.specs.Counts.{counts_in_tables}
+use Rattle.trio_image.specs.Image.{IsVerified, TablesAre}
 use Rattle.trio_image.specs.Load.{Loads}
 use Rattle.trio_ctl.specs.Ctl.{superblock_for, writer_of}
-use Rattle.trio_ctl.specs.Logged.{recorded}
-use Rattle.trio_runner.specs.Play.{Heard, Played, creds_in}
-use Rattle.trio_runner.specs.RunLaws.{OrderIsLogged, OrderIsOne, RanEndsFree, RanIsOrder, RanIsPrinted}
-use Rattle.trio_runner.specs.Runs.{ScriptRan}
 use Rattle.trio_runner.specs.Seen.{ScriptPlayed}
-use Rattle.trio_commands.specs.declared.status.Status.{Status}
-use Rattle.trio_commands.specs.declared.status.Status.TheVariants.{Done, NotVerified, BadScript, ReadFault, WriteFault, NoMemory as StatusNoMemory, TooLong}
+use Rattle.trio_commands.specs.declared.status.Status.TheVariants.{NoMemory as StatusNoMemory}
 use Rattle.trio_commands.specs.Images.{OutKeeps}
-use Rattle.trio_commands.specs.Inputs.{InputsRead, InputsStop, ReadsBoth, ReadsLibraries, image_read, libs_read}
+use Rattle.trio_commands.specs.Inputs.{InputsStop, ReadsBoth, ReadsLibraries, image_read, libs_read}
 use Rattle.trio_commands.specs.Lines.{write_fault_line}
-use Rattle.trio_commands.specs.Report.{told_counts}
-use Rattle.trio_app.specs.Report.{lib_text, libs_text, report_text}
-use Rattle.trio_app.specs.inner.RunEnd.{IsLastImage, IsPlayEnd, IsRunEnd, IsThreadsEnd, IsThreadsRunEnd}
+use Rattle.trio_app.specs.Report.{lib_text, report_text}
+use Rattle.trio_app.specs.inner.RunEnd.{IsLastImage, IsThreadsEnd}
 use Rattle.trio_commands.specs.Saved.{IsSaved, SaveComesTo}
-use Rattle.trio_app.specs.OnScript.{FaultsMayRise, OnScript, OutFails, ScriptComesTo, WritesSettled}
-use Rattle.trio_app.specs.Run.{Run, RunDone}
-use Rattle.trio_app.specs.Turns.{Turns, TurnsDone}
+use Rattle.trio_app.specs.OnScript.{FaultsMayRise, OnScript, OutFails, WritesSettled}
+use Rattle.trio_app.specs.Run.{Run}
+use Rattle.trio_app.specs.Turns.{Turns}
 use Rattle.trio_app.proofs.Headlines.{comes_to_one, headline, never_busy, no_grant_open, no_page_out, ran_on, stored_log}
 use Rattle.trio_app.proofs.Trees.{tree_same}
 

@@ -1,26 +1,10 @@
 -- The generated workload: the limit of its files, the answers to its calls, and what its plays come to.
-use Rattle.std.proofs.Common.{◌≡◌, ℕ, zero, suc, ◌+◌, ◌<◌, ◌≤◌, ◌&&◌, min, Bool, true, false, List, [], ◌∷◌, ◌++◌, length, take, get_or, Option, None, Some, refl, sym, ap, subst, ◌∙◌, arith}
-use Rattle.std.specs.Prelude.{nat_le, codes, if◌then◌else◌}
-use Rattle.std.specs.Str.{bytes_eq}
-use Rattle.std.proofs.lemmas.Bool.{and_parts, leb-true}
-use Rattle.std.proofs.lemmas.List.{append-nil, append_assoc}
-use Rattle.trio_layout.specs.declared.superblock.Superblock.{Superblock}
-use Rattle.trio_layout.specs.Tree.{tree_of}
-use Rattle.trio_survey.specs.Stored.{core_in, image_in}
-use Rattle.trio_image.specs.Counts.{counts_of}
+use Rattle.trio_app.proofs.Words.{if◌then◌else◌, ◌&&◌, ◌++◌, ◌+◌, ◌<◌, ◌∙◌, ◌∷◌, ◌≡◌, ◌≤◌, Bool, Command, Heard, IsPlayEnd, Json, Lines, List, None, Option, ScriptLib, Some, Superblock, [], and_parts, ap, append-nil, append_assoc, arith, bytes_eq, calls_told, check, codes, command_of, core_in, counts_of, counts_text, false, gen, gen_of, get_or, help, image_in, leb-true, length, min, nat_le, new_of, number_of, refl, run, subst, suc, sym, take, told_counts, tree, tree_of, true, turns, unknown, version, zero, ℕ}
 use Rattle.trio_image.specs.Made.{IsMade}
-use Rattle.trio_script.specs.Words.{number_of}
-use Rattle.trio_script.specs.declared.ScriptLib.{ScriptLib}
 use Rattle.trio_report.specs.declared.answer.LineAnswer.{LineAnswer}
-use Rattle.trio_report.specs.Report.{counts_text}
-use Rattle.trio_runner.specs.Play.{Heard}
 use Rattle.trio_gen.specs.Summary.{call_answers, summary_line}
 use Rattle.trio_gen.specs.Workload.{directories_script, files_script}
-use Rattle.trio_commands.specs.declared.words.TreeForm.TheVariants.{Lines, Json}
-use Rattle.trio_commands.specs.Command.{Command, check, tree, turns, run, gen, help, version, unknown, command_of, gen_of, new_of}
-use Rattle.trio_app.specs.Gen.{GenDone, calls_told}
-use Rattle.trio_commands.specs.Report.{told_counts}
-use Rattle.trio_app.specs.inner.RunEnd.{IsPlayEnd}
+use Rattle.trio_app.specs.Gen.{GenDone}
 use Rattle.trio_app.proofs.Ends.{told_of_settled}
 
 -- ---- the limit

@@ -1,25 +1,19 @@
 -- The claim, and what holds of the stored log, of a script on an image that verifies.
-use Rattle.std.proofs.Common.{◌≡◌, ◌≢◌, ◌<◌, List, [], ◌∷◌, subst, inl, inr, sym, ap, ◌∙◌}
+use Rattle.trio_app.proofs.Words.{◌<◌, ◌∙◌, ◌∷◌, ◌≡◌, Creds, CtlAnswer, Entry, Event, GivenEvent, Heard, Image, IsRecorded, Kept, List, NoneOut, OrderIsLogged, OrderIsOne, Played, RanEndsFree, RanIsOrder, RanIsPrinted, Release, ScriptLib, ScriptRan, State, Step, [], ap, creds_in, inl, inr, recorded, settled, start, subst, sym}
+use Rattle.std.proofs.Common.{◌≢◌}
 use Rattle.std.specs.Prelude.{is_some}
 use Rattle.std.proofs.lemmas.Bool.{false≢true}
-use Rattle.trio_tables.specs.Out.{NoneOut}
-use Rattle.trio_rights.specs.declared.rights.Creds.{Creds}
 use Rattle.trio_rights.specs.declared.rights.LibNo.{LibNo}
 use Rattle.trio_lists.specs.Lists.{In}
 use Rattle.trio_nodes.specs.declared.grant.GrantKind.TheVariants.{Write}
-use Rattle.trio_nodes.specs.declared.entry.Entry.{Entry}
 use Rattle.trio_nodes.specs.Legal.{Legal}
 use Rattle.trio_nodes.specs.Nodes.{Nodes}
-use Rattle.trio_layout.specs.Image.{Image, IsFit}
-use Rattle.trio_state.specs.Kept.{Kept}
-use Rattle.trio_state.specs.Run.{IsWhole, Move, Trace, start}
+use Rattle.trio_layout.specs.Image.{IsFit}
+use Rattle.trio_state.specs.Run.{IsWhole, Move, Trace}
 use Rattle.trio_layout.specs.Verifies.{Verifies}
-use Rattle.trio_state.specs.State.{OpenGrant, State, settled}
+use Rattle.trio_state.specs.State.{OpenGrant}
 use Rattle.trio_state.specs.ImageNodes.{nodes_of}
-use Rattle.trio_state.specs.Given.{GivenEvent}
-use Rattle.trio_state.specs.Step.{Event, CtlAnswer, Release, Step}
 use Rattle.trio_laws.specs.Laws.{AnyRun}
-use Rattle.trio_laws.specs.history.Recorded.{IsRecorded}
 use Rattle.trio_laws.specs.history.Replays.{Replays}
 use Rattle.trio_laws.specs.history.Stands.{nodes_of as state_nodes}
 use Rattle.trio_laws.proofs.history.Begins.{history_is_legal}
@@ -29,19 +23,15 @@ use Rattle.trio_surveys.proofs.Trees.{image_is_tree}
 use Rattle.trio_laws.proofs.Verdicts.{refusal_keeps}
 use Rattle.trio_laws.proofs.Isolation.{every_step_is_isolated}
 use Rattle.trio_laws.proofs.RowSteps.{every_step_keeps_rows}
-use Rattle.trio_script.specs.declared.ScriptLib.{ScriptLib}
-use Rattle.trio_ctl.specs.Logged.{recorded}
 use Rattle.trio_runner.specs.Rounds.{turns_of}
 use Rattle.trio_order.specs.Order.{moves_in}
 use Rattle.trio_runner.specs.Logged.{AreEntries, Prints, entries_by}
-use Rattle.trio_runner.specs.Play.{Heard, IsLibraryOf, Played, creds_in, heard_by}
+use Rattle.trio_runner.specs.Play.{IsLibraryOf, heard_by}
 use Rattle.trio_runner.specs.PlayLaws.{ComeToOne}
 use Rattle.trio_app.specs.Alone.{NeverBusyAlone}
 use Rattle.trio_runner.proofs.Alone.{played_alone}
 use Rattle.trio_runner.proofs.OnePlay.{played_is_one}
 use Rattle.trio_runner.proofs.RanAlone.{ran_alone}
-use Rattle.trio_runner.specs.RunLaws.{OrderIsLogged, OrderIsOne, RanEndsFree, RanIsOrder, RanIsPrinted}
-use Rattle.trio_runner.specs.Runs.{ScriptRan}
 use Rattle.trio_runner.proofs.EndFree.{ends_free, plays_creds}
 use Rattle.trio_runner.proofs.History.{legal_is_history}
 use Rattle.trio_runner.proofs.Logs.{played_is_logged}

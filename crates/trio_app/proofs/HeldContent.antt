@@ -1,13 +1,12 @@
 -- A file that an accepted bundle merely holds has its content and its pages as before.
-use Rattle.std.proofs.Common.{◌≡◌, ℕ, Some, IsTrue, inl, inr, sym, subst, ◌∙◌}
+use Rattle.trio_app.proofs.Words.{◌∙◌, ◌≡◌, CtlAnswer, Event, GivenEvent, Image, Kept, Release, Some, State, Step, inl, inr, settled, subst, sym, ℕ}
+use Rattle.std.proofs.Common.{IsTrue}
 use Rattle.trio_rights.specs.Row.{Row}
 use Rattle.trio_rights.specs.Bundle.{Bundle}
 use Rattle.trio_lists.specs.Lists.{is_among}
-use Rattle.trio_layout.specs.Image.{Image, row_at}
-use Rattle.trio_state.specs.Kept.{Kept}
-use Rattle.trio_state.specs.Given.{GivenEvent}
-use Rattle.trio_state.specs.State.{State, creds_of, settled}
-use Rattle.trio_state.specs.Step.{Event, CtlAnswer, Grant, Allot, Back, Release, Settle, SetMode, Step, Parted, IsAccepted, IsRefused}
+use Rattle.trio_layout.specs.Image.{row_at}
+use Rattle.trio_state.specs.State.{creds_of}
+use Rattle.trio_state.specs.Step.{Grant, Allot, Back, Settle, SetMode, Parted, IsAccepted, IsRefused}
 use Rattle.trio_laws.specs.ContentLaws.{HasSameContent}
 use Rattle.trio_laws.proofs.HeldFiles.{held_files_keep_content}
 use Rattle.trio_app.specs.HeldContent.{Accepts}

@@ -7,3 +7,4 @@ pub mod Decided
 pub mod Names
 pub mod Gens
 pub mod Requests
+mod Words

@@ -1,11 +1,7 @@
 -- The names of a command are among its words.
-use Rattle.std.proofs.Common.{ℕ, ◌&&◌, Bool, true, false, List, [], ◌∷◌, Option, Some, None, All}
-use Rattle.std.specs.Prelude.{nat_le, codes, if◌then◌else◌}
-use Rattle.std.specs.Str.{bytes_eq}
+use Rattle.trio_app.proofs.Words.{if◌then◌else◌, ◌&&◌, ◌∷◌, Bool, Command, Json, Lines, List, None, Option, Some, [], bytes_eq, check, codes, command_of, false, gen, gen_of, help, nat_le, new_image, new_of, number_of, run, tree, true, turns, unknown, version, ℕ}
+use Rattle.std.proofs.Common.{All}
 use Rattle.std.proofs.lemmas.List.Elements.{All-head, All-tail}
-use Rattle.trio_script.specs.Words.{number_of}
-use Rattle.trio_commands.specs.declared.words.TreeForm.TheVariants.{Lines, Json}
-use Rattle.trio_commands.specs.Command.{Command, new_image, check, tree, turns, run, gen, help, version, unknown, command_of, gen_of, new_of}
 
 -- this holds of each name of a file
 abbrev pub EachName : (List ℕ → Type 0) → Command → Type 0

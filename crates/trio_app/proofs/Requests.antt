@@ -1,8 +1,7 @@
 -- A request that is no run is the same command where no thread may be started.
-use Rattle.std.proofs.Common.{◌≡◌, refl}
+use Rattle.trio_app.proofs.Words.{◌≡◌, refl, without_threads}
 use Rattle.trio_commands.specs.declared.words.Request.{Request}
 use Rattle.trio_commands.specs.declared.words.Request.TheVariants.{New, Check, Tree, Turns, Run, Gen, Help, Version, Unknown}
-use Rattle.trio_commands.specs.Command.{without_threads}
 use Rattle.trio_commands.specs.Request.{command_in}
 
 pub no_run : (r : Request) → ((image script out : _) → r ≡ Run image script out → ⊥) → without_threads (command_in r) ≡ command_in r

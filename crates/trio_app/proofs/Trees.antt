@@ -1,21 +1,20 @@
 -- The tree of a core that has the same core pages as another.
-use Rattle.std.proofs.Common.{◌≡◌, ℕ, suc, zero, ◌+◌, ◌-◌, ◌<◌, ◌≤◌, ◌&&◌, min, eqb, Bool, true, false, List, [], ◌∷◌, ◌++◌, Option, None, Result, Ok, Err, refl, ap, ◌∙◌}
-use Rattle.std.specs.Prelude.{nat_le, nat_lt, slice_index_or, if◌then◌else◌}
+use Rattle.trio_app.proofs.Words.{if◌then◌else◌, ◌&&◌, ◌++◌, ◌+◌, ◌<◌, ◌∙◌, ◌∷◌, ◌≡◌, ◌≤◌, Bool, Core, List, None, Option, Superblock, TreeLine, [], and_parts, ap, core_in, false, leb-true, min, nat_le, refl, suc, true, zero, ℕ}
+use Rattle.std.proofs.Common.{◌-◌, eqb, Result, Ok, Err}
+use Rattle.std.specs.Prelude.{nat_lt, slice_index_or}
 use Rattle.std.specs.List.{flat_map}
 use Rattle.std.specs.Option.{option_and_then}
-use Rattle.std.proofs.lemmas.Bool.{and_parts, leb-true, ltb-true}
+use Rattle.std.proofs.lemmas.Bool.{ltb-true}
 use Rattle.trio_rights.specs.declared.kind.Kind.{Kind}
 use Rattle.trio_rights.specs.declared.kind.Kind.TheVariants.{Regular, Directory}
-use Rattle.trio_layout.specs.declared.superblock.Superblock.{Superblock}
 use Rattle.trio_layout.specs.Body.{body_of, block_count}
 use Rattle.trio_layout.specs.Index.{index_of}
 use Rattle.trio_lists.specs.Lists.{both, gathered, result_map, result_then, there_or}
-use Rattle.trio_layout.specs.Core.{Core, Location, at_page, nowhere, page_of}
+use Rattle.trio_layout.specs.Core.{Location, at_page, nowhere, page_of}
 use Rattle.trio_layout.specs.Chain.{chain_from, chain_of, index_count, index_page, with_index}
 use Rattle.trio_layout.specs.Entries.{Listed, entries_on, entries_of_kind, page_entries, with_names_apart}
 use Rattle.trio_layout.specs.Survey.{Met, FileRead, file_of, file_with, met_in, plain, root_of}
-use Rattle.trio_survey.specs.Stored.{core_in}
-use Rattle.trio_layout.specs.Tree.{TreeLine, by_name, lines_from, lines_with, told_line, tree_of}
+use Rattle.trio_layout.specs.Tree.{by_name, lines_from, lines_with, told_line, tree_of}
 
 -- the core with other pages
 abbrev pub repaged : Core → List (Option (List ℕ)) → Core

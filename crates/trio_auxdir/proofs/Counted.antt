@@ -1,11 +1,6 @@
 -- How many slots have a name: as many as their numbers in order.
-use Rattle.std.proofs.Common.{◌≡◌, ◌≢◌, ℕ, zero, suc, ◌<◌, ◌≤◌, List, [], ◌∷◌, length, set, Option, None, Some, refl, sym, ap, subst, ◌∙◌, inl, inr, arith}
-use Rattle.std.specs.Prelude.{IsSome}
-use Rattle.std.specs.List.{filter}
+use Rattle.trio_auxdir.proofs.Words.{◌<◌, ◌∙◌, ◌∷◌, ◌≡◌, ◌≢◌, ◌≤◌, IsLess, IsOrder, IsSome, List, None, Option, Some, [], ap, arith, cases_eq, cases_lt, false≢true, filter, get_or-set_other, get_or-set_same, get_or_past, inl, inr, length, name_of, nth, nth_name, refl, set, slot_at, subst, suc, sym, zero, ℕ}
 use Rattle.std.specs.Option.{is_some}
-use Rattle.std.proofs.lemmas.Bool.{cases_eq, cases_lt, false≢true}
-use Rattle.std.proofs.lemmas.List.{get_or-set_same, get_or-set_other, get_or_past}
-use Rattle.trio_auxdir.specs.inner.Index.{name_of, nth, nth_name, slot_at, IsLess, IsOrder}
 use Rattle.trio_auxdir.proofs.Sought.{less_itself}
 
 abbrev Slot : Type 0

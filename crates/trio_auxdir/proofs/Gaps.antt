@@ -1,12 +1,10 @@
 -- The first empty slot, after a slot changed and after slots were added.
-use Rattle.std.proofs.Common.{◌≡◌, ◌≢◌, ℕ, zero, suc, ◌+◌, ◌<◌, ◌≤◌, min, cond, true, false, List, [], ◌∷◌, ◌++◌, length, set, get_or, replicate, Option, None, Some, refl, sym, ap, ◌∙◌, inl, inr, arith}
-use Rattle.std.specs.Prelude.{slice_get, is_none, is_some, nat_lt}
-use Rattle.std.specs.Option.{option_map}
-use Rattle.std.proofs.lemmas.Bool.{cases_lt, lt-ltb, le-ltb, false≢true}
-use Rattle.std.proofs.lemmas.Option.{none-some, same_Some, slice_get_read}
+use Rattle.trio_auxdir.proofs.Words.{◌++◌, ◌+◌, ◌<◌, ◌∙◌, ◌∷◌, ◌≡◌, ◌≢◌, ◌≤◌, List, None, Option, Some, [], ap, arith, cases_lt, cond, false, false≢true, gap, get_or, inl, inr, is_some, length, min, none-some, option_map, place_at, refl, replicate, same_Some, set, slice_get, suc, sym, true, zero, ℕ}
+use Rattle.std.specs.Prelude.{is_none, nat_lt}
+use Rattle.std.proofs.lemmas.Bool.{lt-ltb, le-ltb}
+use Rattle.std.proofs.lemmas.Option.{slice_get_read}
 use Rattle.trio_auxdir.specs.Slots.{first_slot}
-use Rattle.trio_auxdir.specs.Places.{place_at, first_empty}
-use Rattle.trio_auxdir.specs.inner.Index.{gap}
+use Rattle.trio_auxdir.specs.Places.{first_empty}
 
 abbrev Slot : Type 0
 Slot = Option (List ℕ)

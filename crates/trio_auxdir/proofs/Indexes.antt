@@ -1,13 +1,8 @@
 -- The order and the slots after one step.
-use Rattle.std.proofs.Common.{◌≡◌, ℕ, zero, suc, ◌+◌, ◌<◌, List, [], ◌∷◌, ◌++◌, length, set, replicate, Option, None, Some, refl, sym, ap, subst, ◌∙◌, inl, inr, arith, append_assoc}
-use Rattle.std.specs.Prelude.{slice_get, IfSome, IsSome, is_some, Result, Ok, Err, IfOk, IfErr, IsOk, IsErr}
-use Rattle.std.specs.List.{insert, remove}
-use Rattle.std.proofs.lemmas.Bool.{cases_lt, false≢true}
-use Rattle.std.proofs.lemmas.List.{append-nil, get_or-set_same, get_or-set_other, get_or_past}
-use Rattle.std.proofs.lemmas.Option.{none-some, slice_get-get_or, slice_get_within, get_or_from_slice_get}
-use Rattle.trio_lists.specs.Lists.{tabulated}
-use Rattle.trio_auxdir.specs.Slots.{slot_with, slot_on, slots_on, NamesDiffer}
-use Rattle.trio_auxdir.specs.inner.Index.{name_of, nth, nth_name, slot_at, IsAt, IsGap, IsIndex, IsLess}
+use Rattle.trio_auxdir.proofs.Words.{◌++◌, ◌+◌, ◌<◌, ◌∙◌, ◌∷◌, ◌≡◌, Err, IfSome, IsAt, IsGap, IsIndex, IsLess, IsSome, List, NamesDiffer, None, Ok, Option, Result, Some, [], ap, append-nil, append_assoc, arith, cases_lt, false≢true, get_or-set_other, get_or-set_same, get_or_past, inl, inr, insert, is_some, length, name_of, none-some, nth, nth_name, refl, remove, replicate, set, slice_get, slice_get_within, slot_at, slot_on, slot_with, subst, suc, sym, tabulated, zero, ℕ}
+use Rattle.std.specs.Prelude.{IfOk, IfErr, IsOk, IsErr}
+use Rattle.std.proofs.lemmas.Option.{slice_get-get_or, get_or_from_slice_get}
+use Rattle.trio_auxdir.specs.Slots.{slots_on}
 use Rattle.trio_auxdir.proofs.Sought.{less_itself, order_same, order_put, order_emptied}
 use Rattle.trio_auxdir.proofs.SlotLists.{slot_there, slot_found, differ-put, differ-emptied, differ-push, new_before}
 

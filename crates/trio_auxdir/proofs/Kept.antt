@@ -1,14 +1,10 @@
 -- What ties the fields of a hashed directory together, after one call.
-use Rattle.std.proofs.Common.{◌≡◌, ◌≢◌, ℕ, zero, suc, ◌+◌, ◌*◌, ◌/◌, ◌%◌, ◌<◌, ◌^◌, min, cond, Bool, true, false, List, [], ◌∷◌, ◌++◌, length, set, replicate, Option, None, Some, refl, sym, ap, subst, ◌∙◌, arith}
-use Rattle.std.specs.Prelude.{slice_get}
-use Rattle.std.specs.Option.{option_map}
-use Rattle.std.specs.Str.{bytes_eq}
-use Rattle.std.proofs.lemmas.List.{length-set, length-append, length-replicate, set-set}
-use Rattle.std.proofs.lemmas.Option.{none-some, slice_get_within}
+use Rattle.trio_auxdir.proofs.Words.{◌*◌, ◌++◌, ◌+◌, ◌/◌, ◌<◌, ◌^◌, ◌∙◌, ◌∷◌, ◌≡◌, ◌≢◌, Bool, IsIndex, List, NamesDiffer, None, Option, Some, [], ap, arith, bytes_eq, cond, false, gap, length, length-append, min, none-some, option_map, place_at, refl, replicate, set, slice_get, slice_get_within, slot_number, slot_with, subst, suc, sym, true, zero, ℕ}
+use Rattle.std.proofs.Common.{◌%◌}
+use Rattle.std.proofs.lemmas.List.{length-set, length-replicate, set-set}
 use Rattle.trio_auxdir.specs.declared.place.Place.{Place}
-use Rattle.trio_auxdir.specs.Slots.{slot_with, NamesDiffer}
-use Rattle.trio_auxdir.specs.Places.{place_at, place_of, slot_number, with_slot}
-use Rattle.trio_auxdir.specs.inner.Index.{IsIndex, IsKept, gap}
+use Rattle.trio_auxdir.specs.Places.{place_of, with_slot}
+use Rattle.trio_auxdir.specs.inner.Index.{IsKept}
 use Rattle.trio_auxdir.proofs.SlotLists.{slot_there, nowhere_emptied, slot_with-put, slot_with-emptied}
 use Rattle.trio_auxdir.proofs.Indexes.{index_empties}
 use Rattle.trio_auxdir.proofs.Gaps.{gap-put, gap-emptied, gap-renamed, gap-empties}

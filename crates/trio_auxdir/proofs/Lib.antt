@@ -6,3 +6,4 @@ pub mod Kept
 pub mod PageSlots
 pub mod Scans
 pub mod Counted
+mod Words

@@ -1,19 +1,13 @@
 -- The slots of edited pages.
-use Rattle.std.proofs.Common.{◌≡◌, ◌≢◌, ℕ, zero, suc, ◌+◌, ◌*◌, ◌-◌, ◌<◌, List, [], ◌∷◌, ◌++◌, length, set, get_or, Option, None, refl, sym, ap, ◌∙◌, inl, inr, arith, append_assoc}
+use Rattle.trio_auxdir.proofs.Words.{◌*◌, ◌++◌, ◌+◌, ◌-◌, ◌<◌, ◌∙◌, ◌∷◌, ◌≡◌, ◌≢◌, List, None, Option, [], ap, append-nil, append_assoc, arith, cases_lt, get_or, inl, inr, length, length-append, refl, set, set_at, slice_get_within, slot_bytes, slot_number, slot_of, slot_on, suc, sym, tabulated, zero, ℕ}
 use Rattle.std.specs.List.{flat_map}
 use Rattle.std.specs.Int.{w32}
-use Rattle.std.proofs.lemmas.Bool.{cases_lt}
-use Rattle.std.proofs.lemmas.List.{set-append_left, set-append_right, set_at, append-nil, length-append}
-use Rattle.std.proofs.lemmas.Option.{slice_get_within}
-use Rattle.trio_auxdir.specs.Places.{slot_number}
+use Rattle.std.proofs.lemmas.List.{set-append_left, set-append_right}
 use Rattle.trio_page.specs.Field.{number_at, zeros}
 use Rattle.trio_page.proofs.Zeros.{number32_zeros, slice-zeros}
-use Rattle.trio_layout.specs.Slot.{slot_of}
-use Rattle.trio_layout.specs.Entries.{slot_bytes}
-use Rattle.trio_lists.specs.Lists.{tabulated}
 use Rattle.trio_lists.proofs.Tabulated.{tabulated-length}
 use Rattle.trio_layout.proofs.SlotLemmas.{empty_value, entry_value}
-use Rattle.trio_auxdir.specs.Slots.{name_in, slot_on, slots_on, slots_of}
+use Rattle.trio_auxdir.specs.Slots.{name_in, slots_on, slots_of}
 use Rattle.trio_auxdir.specs.Laws.{SlotHasItsBlock, SlotIsEdited, EntryHasItsName, ZeroIsEmpty, PageIsAdded, ZerosAreEmpty}
 
 abbrev Slot : Type 0

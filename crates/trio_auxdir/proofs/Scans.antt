@@ -1,15 +1,11 @@
 -- The condition of a scan, slot by slot. Cited by tests alone.
-use Rattle.std.proofs.Common.{◌≡◌, ◌≢◌, ℕ, suc, ◌+◌, true, false, List, [], ◌∷◌, ◌++◌, Option, None, Some, refl, subst, arith}
-use Rattle.std.specs.Prelude.{IfSome, Result, Ok, Err}
+use Rattle.trio_auxdir.proofs.Words.{◌++◌, ◌+◌, ◌∷◌, ◌≡◌, ◌≢◌, Err, IfSome, List, NamesDiffer, None, Ok, Option, Result, Some, [], arith, bytes_eq, false, has_name, refl, slot_bytes, slot_of, slot_with, subst, suc, tabulated, true, ℕ}
 use Rattle.std.specs.Result.{is_ok}
 use Rattle.std.specs.Option.{option_eq}
-use Rattle.std.specs.Str.{bytes_eq}
 use Rattle.trio_layout.specs.declared.slot.SlotRead.{SlotRead}
 use Rattle.trio_layout.specs.declared.slot.SlotRead.TheVariants.{Empty, Entry, Bad}
-use Rattle.trio_layout.specs.Entries.{listed_at, slot_entries, slot_bytes}
-use Rattle.trio_lists.specs.Lists.{both, gathered_below, tabulated}
-use Rattle.trio_layout.specs.Slot.{slot_of}
-use Rattle.trio_auxdir.specs.Slots.{has_name, slot_with, NamesDiffer}
+use Rattle.trio_layout.specs.Entries.{listed_at, slot_entries}
+use Rattle.trio_lists.specs.Lists.{both, gathered_below}
 use Rattle.trio_auxdir.proofs.SlotLists.{absent, absent_from, differ-push, differ-push_name}
 use Rattle.trio_auxdir.proofs.Indexes.{more_on}
 

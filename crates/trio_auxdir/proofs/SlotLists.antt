@@ -1,12 +1,7 @@
 -- Where a name stands in a list of slots, after a slot changed and after slots were added.
-use Rattle.std.proofs.Common.{◌≡◌, ℕ, zero, suc, Bool, true, false, cond, List, [], ◌∷◌, ◌++◌, length, set, Option, None, Some, refl, sym, ap, subst, ◌∙◌}
-use Rattle.std.specs.Prelude.{slice_get}
-use Rattle.std.specs.Option.{option_map}
-use Rattle.std.specs.Str.{bytes_eq}
-use Rattle.std.proofs.lemmas.Bool.{false≢true, false_from_ne_true}
-use Rattle.std.proofs.lemmas.Option.{none-some, same_Some}
+use Rattle.trio_auxdir.proofs.Words.{◌++◌, ◌∙◌, ◌∷◌, ◌≡◌, Bool, List, NamesDiffer, None, Option, Some, [], ap, bytes_eq, cond, false, false≢true, has_name, length, none-some, option_map, refl, same_Some, set, slice_get, slot_with, subst, suc, sym, true, zero, ℕ}
+use Rattle.std.proofs.lemmas.Bool.{false_from_ne_true}
 use Rattle.std.proofs.lemmas.Slice.Eq.{bytes_eq-Decides}
-use Rattle.trio_auxdir.specs.Slots.{has_name, slot_with, NamesDiffer}
 
 abbrev Slot : Type 0
 Slot = Option (List ℕ)

@@ -1,15 +1,11 @@
 -- The byte order of the names in slots: how a name is sought in it, and what it is after one slot changed.
-use Rattle.std.proofs.Common.{◌≡◌, ◌≢◌, ℕ, ◌+◌, ◌-◌, ◌<◌, ◌≤◌, List, length, Option, None, Some, refl, sym, ap, subst, ◌∙◌, inl, inr, arith}
-use Rattle.std.specs.Prelude.{IsSome}
-use Rattle.std.specs.List.{insert, remove}
+use Rattle.trio_auxdir.proofs.Words.{◌+◌, ◌-◌, ◌<◌, ◌∙◌, ◌≡◌, ◌≢◌, ◌≤◌, IsAt, IsGap, IsLess, IsOrder, IsSome, List, None, Option, Some, ap, arith, cases_eq, cases_lt, false≢true, inl, inr, insert, length, name_of, nth, nth_name, refl, remove, subst, sym, ℕ}
 use Rattle.std.specs.Ordering.{nat_cmp, ordering_reverse}
 use Rattle.std.specs.declared.cmp.Ordering.TheVariants.{Equal, Greater}
 use Rattle.std.specs.Cmp.Lexicographic.{slice_cmp}
 use Rattle.std.specs.FinMap.{nat_cmp-IsAntisymmetric, slice_cmp-IsAntisymmetric}
-use Rattle.std.proofs.lemmas.Bool.{cases_lt, cases_eq, false≢true}
 use Rattle.std.proofs.lemmas.Cmp.{nat_list_cmp_total, tied_itself}
 use Rattle.std.proofs.lemmas.List.Edits.{length-insert, get_or-insert_below, get_or-insert_at, get_or-insert_above, length-remove, get_or-remove_below, get_or-remove_above}
-use Rattle.trio_auxdir.specs.inner.Index.{IsLess, name_of, nth, nth_name, IsOrder, IsAt, IsGap}
 
 abbrev Slot : Type 0
 Slot = Option (List ℕ)

@@ -1,14 +1,6 @@
 -- A call is one on a mode, or one on a directory's entries.
-use Rattle.std.proofs.Common.{◌≡◌, refl}
-use Rattle.trio_rights.specs.declared.rights.Mode.{Mode}
-use Rattle.trio_nodes.specs.declared.call.Call.{Call}
-use Rattle.trio_nodes.specs.declared.call.Call.TheVariants.{Chmod}
-use Rattle.trio_nodes.specs.Walk.{Path}
-use Rattle.trio_desk.specs.Call.{Ask, DeskSeen, Told}
-use Rattle.trio_session.specs.Seen.{SessionSeen}
-use Rattle.trio_walk.specs.declared.outcome.Outcome.{Outcome}
+use Rattle.trio_calls_dir.proofs.Words.{◌≡◌, Ask, Call, Chmod, DeskSeen, DirCalled, IsDirCall, Mode, Outcome, Path, SessionSeen, Told, refl}
 use Rattle.trio_calls_dir.specs.Asks.{EntryCalled, IsEntryCall}
-use Rattle.trio_calls_dir.specs.Dir.{DirCalled, IsDirCall}
 
 -- what is no change of a mode is a call on entries
 pub entry_is : (call : Call) → ((path : Path) (mode : Mode) → call ≡ Chmod path mode → ⊥) → IsDirCall call → IsEntryCall call

@@ -1,42 +1,15 @@
 -- How a try of a change of mode ends: the mode is asked for, or the call is handed in with a refusal.
-use Rattle.std.proofs.Common.{◌≡◌, ◌≢◌, ℕ, Bool, List, [], ◌∷◌, ◌++◌, Option, Some, None, Result, Ok, Err, sym, refl, ap, ◌∙◌, subst}
-use Rattle.std.specs.Prelude.{MatchOption, map, not}
-use Rattle.std.specs.List.{filter}
-use Rattle.trio_lists.specs.Lists.{In, is_among}
+use Rattle.trio_calls_dir.proofs.Words.{◌++◌, ◌∙◌, ◌∷◌, ◌≡◌, ◌≢◌, Ask, BadMode, Bool, BusyMode, Call, ChmodTry, DeskSeen, Done, EndsHandedIn, EndsModed, Err, HasReadsAlone, HoldParts, In, In-is_among, In-map, InAllShown, IsAlike, IsDone, IsOn, IsRefusedAs, IsReplied, IsRetold, LeavesBy, LentFile, List, Made, MayCall, Mode, ModeFault, ModeSet, NamesOther, NoModeMemory, None, NotLive, NotMade, NotModeSet, NotOwner, NotSettled, Ok, OneCall, Option, Outcome, Parcel, RefusesSo, Replied, Reply, Result, Room, SameDesk, SessionSeen, Settled, Shown, Some, Told, TryEnd, [], ap, emptied, filter, hand_in_ask, hold_numbers, is_among, map, may_alike, may_same, may_settled, mode_ask, not, noted, refl, settle_may, settled, subst, sym, try_end, ℕ}
+use Rattle.std.specs.Prelude.{MatchOption}
 use Rattle.trio_lists.proofs.Filters.{filter-none}
-use Rattle.trio_lists.proofs.Members.{In-is_among, In-map}
-use Rattle.trio_rights.specs.declared.rights.Mode.{Mode}
-use Rattle.trio_lease.specs.Shown.{Shown, LentFile}
-use Rattle.trio_lease.specs.declared.parts.HoldParts.{HoldParts}
-use Rattle.trio_nodes.specs.declared.answers.ModeFault.{ModeFault}
-use Rattle.trio_nodes.specs.declared.answers.ModeFault.TheVariants.{NotLive, NotOwner, BadMode, Busy as BusyMode, NoMemory as NoModeMemory}
-use Rattle.trio_nodes.specs.declared.call.Answer.TheVariants.{Done as IsDone}
-use Rattle.trio_nodes.specs.declared.call.Call.{Call}
-use Rattle.trio_nodes.specs.declared.call.Done.{Done}
-use Rattle.trio_nodes.specs.declared.call.Reply.{Reply}
-use Rattle.trio_nodes.specs.declared.call.Reply.TheVariants.{Ok as IsReplied}
-use Rattle.trio_desk.specs.Call.{Ask, DeskSeen, SeenAfter, SetMode, Settle, Told, ModeSet, NotModeSet, NotSettled, Settled, call_back}
-use Rattle.trio_desk.specs.Calls.{OneCall, Made, NotMade}
-use Rattle.trio_desk.specs.Out.{Parcel, files_out, hold_numbers, without_reads}
-use Rattle.trio_session.specs.Asked.{AfterMode, AfterSettle, TellsMode, IsAlike, SameDesk}
-use Rattle.trio_session.specs.Seen.{HasReadsAlone, IsOn, Room, SessionSeen, emptied}
-use Rattle.trio_edit_laws.specs.Calls.{MayCall}
-use Rattle.trio_walk.specs.Walks.{InAllShown}
-use Rattle.trio_walk.specs.Asks.{noted}
-use Rattle.trio_walk.specs.declared.outcome.Outcome.{Outcome}
-use Rattle.trio_walk.specs.declared.outcome.Outcome.TheVariants.{Replied}
-use Rattle.trio_calls_dir.specs.declared.chmods.ChmodTry.{ChmodTry}
-use Rattle.trio_walk.specs.declared.attempts.TryEnd.{TryEnd}
+use Rattle.trio_desk.specs.Call.{SeenAfter, SetMode, Settle, call_back}
+use Rattle.trio_desk.specs.Out.{files_out, without_reads}
+use Rattle.trio_session.specs.Asked.{AfterMode, AfterSettle, TellsMode}
 use Rattle.trio_walk.specs.declared.attempts.TryEnd.TheVariants.{NoMemory as LacksMemory, Replied as IsRepliedTry}
-use Rattle.trio_calls_dir.specs.Chmods.{EndsHandedIn, EndsModed, LeavesBy, NamesOther, hand_in_ask, mode_ask}
-use Rattle.trio_calls_dir.specs.inner.Chmods.{ComesBack, IsRetold, IsUnset, RefusesSo}
-use Rattle.trio_calls_dir.specs.inner.Goes.{IsRefusedAs}
-use Rattle.trio_walk.specs.Tries.{try_end}
+use Rattle.trio_calls_dir.specs.inner.Chmods.{ComesBack, IsUnset}
 use Rattle.trio_calls_dir.proofs.Ends.{may_looked}
-use Rattle.trio_edit_laws.proofs.Called.{may_same}
-use Rattle.trio_edit_laws.proofs.Called.{may_after, may_settled, settle_may}
-use Rattle.trio_walk.proofs.Retrying.{settled, unsettled}
-use Rattle.trio_edit_laws.proofs.Alike.{may_alike}
+use Rattle.trio_edit_laws.proofs.Called.{may_after}
+use Rattle.trio_walk.proofs.Retrying.{unsettled}
 
 -- a session that is empty but for its look-ups and room
 emptied_by : (s s' : SessionSeen) → s' ≡ record (emptied s) { room = s'.room } → s' ≡ record (emptied s) { finds = s'.finds; room = s'.room }

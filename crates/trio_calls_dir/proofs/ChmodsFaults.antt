@@ -1,23 +1,8 @@
 -- A change of mode that the tree does isn't refused for a cause that is true of it.
-use Rattle.std.proofs.Common.{◌≡◌, ◌≢◌, ℕ, Bool, true, false, cond, eqb, ◌&&◌, ◌||◌, [], Option, Some, None, Result, Ok, Err, sym, refl, ap, ◌∙◌}
-use Rattle.std.specs.Prelude.{not}
-use Rattle.std.specs.Option.{option_map}
-use Rattle.std.proofs.lemmas.Bool.{eqb-true, false≢true}
-use Rattle.trio_rights.specs.declared.rights.Creds.{Creds}
-use Rattle.trio_rights.specs.declared.rights.Mode.{Mode}
-use Rattle.trio_rights.specs.declared.rights.Need.{Need}
-use Rattle.trio_nodes.specs.declared.call.Answer.TheVariants.{Done as IsDone}
-use Rattle.trio_nodes.specs.declared.call.Call.TheVariants.{Chmod}
-use Rattle.trio_nodes.specs.declared.call.Reply.{Reply}
-use Rattle.trio_nodes.specs.declared.call.Reply.TheVariants.{Ok as IsReplied, Denied, NotDir}
-use Rattle.trio_nodes.specs.declared.node.Node.{Node}
-use Rattle.trio_nodes.specs.Nodes.{Nodes, find_named, node_at}
-use Rattle.trio_nodes.specs.Tree.{IsTree}
-use Rattle.trio_nodes.specs.Walk.{Path, and_then, dir_of, enter, enter_node, is_directory, is_root, lacks, name_of, need_at, walk, walk_into}
-use Rattle.trio_nodes.specs.Apply.{Applied, applied}
+use Rattle.trio_calls_dir.proofs.Words.{◌&&◌, ◌∙◌, ◌≡◌, ◌≢◌, Applied, Bool, Chmod, Creds, Denied, Err, IsDone, IsReplied, IsTree, Mode, Moded, Need, Node, Nodes, None, NotDir, Ok, Option, Path, Reply, Result, Some, [], and_then, ap, applied, chmod_walk, cond, dir_of, enter, eqb, eqb-true, false, false≢true, find_named, find_named-Child, is_directory, is_root, moded_in, name_of, need_at, node_at, not, option_map, refl, sym, true, walk, walk_into, ℕ}
+use Rattle.std.proofs.Common.{◌||◌}
+use Rattle.trio_nodes.specs.Walk.{enter_node, lacks}
 use Rattle.trio_nodes.specs.Legal.{is_owner}
-use Rattle.trio_desk.specs.Ready.{Moded, chmod_walk, moded_in}
-use Rattle.trio_onetree.proofs.Children.{find_named-Child}
 use Rattle.trio_calls_dir.proofs.ChmodsFinds.{as_moded, stranger_refused}
 
 -- a directory that is entered is there

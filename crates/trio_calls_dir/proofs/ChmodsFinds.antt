@@ -1,35 +1,11 @@
 -- The search for the file whose mode is to be changed: its walk, and the look-up of its name.
-use Rattle.std.proofs.Common.{◌≡◌, ℕ, Bool, true, false, cond, eqb, ◌||◌, List, [], ◌++◌, Option, Some, None, Ok, Err, sym, refl, ap, ◌∙◌, subst, inl}
-use Rattle.std.specs.Prelude.{map, is_some, not}
-use Rattle.std.specs.Option.{ok_or, option_map, option_map_or}
-use Rattle.std.proofs.lemmas.Bool.{false≢true}
-use Rattle.trio_rights.specs.declared.rights.Creds.{Creds}
-use Rattle.trio_rights.specs.declared.rights.Mode.{Mode}
-use Rattle.trio_nodes.specs.declared.call.Answer.TheVariants.{Done as IsDone}
-use Rattle.trio_nodes.specs.declared.call.Call.TheVariants.{Chmod}
-use Rattle.trio_nodes.specs.declared.call.Reply.{Reply}
-use Rattle.trio_nodes.specs.declared.call.Reply.TheVariants.{Ok as IsReplied, Denied, NotFound}
-use Rattle.trio_nodes.specs.declared.node.Node.{Node}
-use Rattle.trio_nodes.specs.Nodes.{Nodes, find_named, node_at, with_node}
-use Rattle.trio_nodes.specs.Walk.{Path, dir_of, is_root, name_of, walk_into}
-use Rattle.trio_nodes.specs.Apply.{Applied, applied, done, of_node, reached, refused}
-use Rattle.trio_nodes.specs.After.{batch_nodes}
-use Rattle.trio_desk.specs.Call.{Ask, DeskSeen, Told}
-use Rattle.trio_desk.specs.Ready.{Moded, chmod_walk, moded_in}
-use Rattle.trio_session.specs.Seen.{SessionSeen}
-use Rattle.trio_walk.specs.declared.met.Met.{Met}
+use Rattle.trio_calls_dir.proofs.Words.{◌++◌, ◌∙◌, ◌≡◌, Applied, AreAsked, Ask, At, Bool, Chmod, ComesSo, Creds, Denied, DeskSeen, EndsBy, Err, Finds, InAllShown, IsAlike, IsDone, IsMet, IsMetIn, IsReplied, IsReply, IsStopped, List, LooksUp, MayCall, MayWalk, Met, Mode, Moded, Needed, Node, Nodes, None, NotFound, Ok, Option, Path, Reply, RightsAre, SessionSeen, Some, Told, WalkEnd, Walked, WalksInto, WalksTo, Way, [], ap, applied, asked, batch_nodes, chmod_needs, chmod_walk, comes_of, cond, dir_of, done, eqb, false, false≢true, find_named, inl, into_needs, is_root, is_some, map, may_alike, moded_in, name_of, need_of, node_at, not, ok_or, option_map, option_map_or, owner_met, reached, refl, refused, served_by, shows_root, subst, sym, true, walk_into, with_node, ℕ}
+use Rattle.std.proofs.Common.{◌||◌}
+use Rattle.trio_nodes.specs.Apply.{of_node}
 use Rattle.trio_walk.specs.declared.met.Rights.{Rights}
-use Rattle.trio_walk.specs.declared.walks.WalkEnd.{WalkEnd}
-use Rattle.trio_walk.specs.declared.walks.WalkEnd.TheVariants.{At, Reply as IsReply, Busy, NoMemory}
-use Rattle.trio_walk.specs.Needs.{Needed, asked, into_needs, chmod_needs}
-use Rattle.trio_walk.specs.Walks.{AreAsked, EndsBy, InAllShown, IsMet, IsMetIn, IsStopped, LooksUp, MayWalk, RightsAre, Walked, WalksInto, WalksTo, Way, need_of, served_by, shows_root}
-use Rattle.trio_edit_laws.specs.Calls.{MayCall}
+use Rattle.trio_walk.specs.declared.walks.WalkEnd.TheVariants.{Busy, NoMemory}
 use Rattle.trio_calls_dir.proofs.Walked.{way_may}
-use Rattle.trio_calls_dir.specs.Chmods.{ComesSo}
-use Rattle.trio_calls_dir.specs.inner.Chmods.{Finds, comes_of, owner_met}
-use Rattle.trio_session.specs.Asked.{IsAlike}
 use Rattle.trio_walk.proofs.Possible.{same_seen}
-use Rattle.trio_edit_laws.proofs.Alike.{may_alike}
 
 -- ---- the tree's own call
 

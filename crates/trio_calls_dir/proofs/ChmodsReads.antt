@@ -1,13 +1,5 @@
 -- What a session has that searches for a file whose mode is to be changed: read leases alone.
-use Rattle.std.proofs.Common.{◌≡◌, List, ◌∙◌}
-use Rattle.trio_desk.specs.Call.{Ask, DeskSeen, Told}
-use Rattle.trio_session.specs.Seen.{HasReadsAlone, SessionSeen}
-use Rattle.trio_walk.specs.Needs.{Needed}
-use Rattle.trio_walk.specs.Walks.{Walked}
-use Rattle.trio_walk.specs.declared.walks.WalkEnd.{WalkEnd}
-use Rattle.trio_walk.proofs.Possible.{calls_same}
-use Rattle.trio_nodes.specs.Nodes.{Nodes}
-use Rattle.trio_walk.specs.Tries.{HasNothing}
+use Rattle.trio_calls_dir.proofs.Words.{◌∙◌, ◌≡◌, Ask, DeskSeen, HasNothing, HasReadsAlone, List, Needed, Nodes, SessionSeen, Told, WalkEnd, Walked, calls_same}
 
 -- what has nothing has nothing but read leases
 pub none_alone : (s : SessionSeen) → HasNothing s → HasReadsAlone s

@@ -1,55 +1,15 @@
 -- One try of a change of mode, from its search on.
-use Rattle.std.proofs.Common.{◌≡◌, ◌≢◌, ℕ, ◌<◌, ◌≤◌, false, cond, arith, List, [], ◌∷◌, ◌++◌, Option, sym, refl, ap, ◌∙◌, subst, inl, inr}
-use Rattle.std.specs.Prelude.{map}
-use Rattle.std.proofs.lemmas.List.{append-nil, map-append}
-use Rattle.trio_lists.specs.Lists.{In}
-use Rattle.trio_rights.specs.Row.{Row}
-use Rattle.trio_rights.specs.declared.rights.Creds.{Creds}
+use Rattle.trio_calls_dir.proofs.Words.{◌++◌, ◌<◌, ◌∙◌, ◌∷◌, ◌≡◌, ◌≢◌, ◌≤◌, Applied, AreAsked, ArePossible, Ask, At, BadMode, Busy, BusyGrant, BusyMode, Call, Calls, Chmod, ChmodTry, ComesSo, Creds, Denied, DeniedGrant, DeskSeen, Done, EndsBy, EndsHandedIn, EndsModed, Exists, Finds, Grant, HasNothing, HasReadsAlone, Holder, In, InAllShown, IntoItself, IsAlike, IsBusyWalk, IsChmod, IsDir, IsRefusal, IsRefusedAs, IsReplied, IsReply, IsRetold, LeavesBy, List, Made, MayCall, MayWalk, Mode, ModeFault, NamesOther, Needed, NoGrantMemory, NoInodes, NoMemory, NoModeMemory, NoSpace, NoWalkMemory, Nodes, NotDir, NotEmpty, NotFound, NotLent, NotLive, NotMade, NotOwner, NotSettled, OneCall, Option, OthersHold, Outcome, Parcel, Path, RefusesSo, Replied, Reply, Row, SameDesk, SessionSeen, Settled, Told, TooLarge, TriesCall, TryEnd, TryEnds, WalkEnd, Walked, [], alike_then, ap, append-nil, applied, arith, asked, asks_lent, batch_nodes, calls_then, chmod_needs, comes_of, cond, emptied, false, given_all, grant_ask, hand_in_ask, inl, inr, is_done, lent_call, lib_same, map, map-append, mode_ask, moment_possible, need_of, possible_then, refl, refused, served_by, shows_root, subst, sym, try_end, ℕ}
 use Rattle.trio_rights.specs.declared.rights.LibNo.{LibNo}
-use Rattle.trio_rights.specs.declared.rights.Mode.{Mode}
-use Rattle.trio_nodes.specs.declared.answers.GrantFault.TheVariants.{Busy as BusyGrant, Denied as DeniedGrant, NoMemory as NoGrantMemory}
-use Rattle.trio_nodes.specs.declared.answers.ModeFault.{ModeFault}
-use Rattle.trio_nodes.specs.declared.answers.ModeFault.TheVariants.{NotLive, NotOwner, BadMode, Busy as BusyMode, NoMemory as NoModeMemory}
-use Rattle.trio_nodes.specs.declared.call.Call.{Call}
-use Rattle.trio_nodes.specs.declared.call.Call.TheVariants.{Chmod}
-use Rattle.trio_nodes.specs.declared.call.Done.{Done}
-use Rattle.trio_nodes.specs.declared.call.Reply.{Reply}
-use Rattle.trio_nodes.specs.declared.call.Reply.TheVariants.{Ok as IsReplied, NotFound, Exists, NotDir, IsDir, NotEmpty, Denied, IntoItself, NoSpace, NoInodes, TooLarge}
-use Rattle.trio_nodes.specs.declared.grant.Holder.{Holder}
-use Rattle.trio_nodes.specs.Nodes.{Nodes}
-use Rattle.trio_nodes.specs.Walk.{Path}
-use Rattle.trio_nodes.specs.Apply.{Applied, applied, is_done, refused}
-use Rattle.trio_nodes.specs.After.{batch_nodes, lacks_room}
-use Rattle.trio_desk.specs.Call.{Ask, DeskSeen, Grant, Told, NotLent, NotSettled, Settled}
+use Rattle.trio_nodes.specs.After.{lacks_room}
 use Rattle.trio_desk.specs.Calls as desk_calls
-use Rattle.trio_desk.specs.Calls.{Calls, OneCall, Made, NotMade}
-use Rattle.trio_desk.specs.Out.{Parcel}
-use Rattle.trio_desk.specs.Ready.{ArePossible, IsChmod}
 use Rattle.trio_desk.specs.Refusals.{HasModeCause, HasMoment}
-use Rattle.trio_session.specs.Seen.{HasReadsAlone, SessionSeen, emptied}
-use Rattle.trio_edit_laws.specs.Calls.{MayCall}
-use Rattle.trio_walk.specs.declared.walks.WalkEnd.{WalkEnd}
-use Rattle.trio_walk.specs.declared.walks.WalkEnd.TheVariants.{At, Reply as IsReply, Busy as IsBusyWalk, NoMemory as NoWalkMemory}
-use Rattle.trio_walk.specs.Needs.{Needed, asked, chmod_needs}
-use Rattle.trio_walk.specs.Walks.{AreAsked, EndsBy, InAllShown, MayWalk, Walked, lent_call, need_of, served_by, shows_root}
-use Rattle.trio_walk.specs.Asks.{TryEnds, grant_ask}
-use Rattle.trio_walk.specs.declared.outcome.Outcome.{Outcome}
-use Rattle.trio_walk.specs.declared.outcome.Outcome.TheVariants.{Replied, Busy, NoMemory}
-use Rattle.trio_walk.proofs.Possible.{lib_same, moment_possible}
-use Rattle.trio_calls_dir.specs.Chmods.{AsksSo, BreaksOff, ChmodTried, Comes, ComesSo, EndsAs, EndsDenied, EndsHandedIn, EndsModed, HandsIn, LeavesBy, NamesOther, SetsMode, TriedSo, hand_in_ask, lent_to, mode_ask}
-use Rattle.trio_calls_dir.specs.inner.Chmods.{Finds, IsRetold, RefusesSo, TriesCall, comes_of}
-use Rattle.trio_calls_dir.specs.inner.Goes.{IsRefusal, IsRefusedAs}
-use Rattle.trio_walk.specs.Tries.{HasNothing, OthersHold, try_end}
-use Rattle.trio_calls_dir.specs.declared.chmods.ChmodTry.{ChmodTry}
-use Rattle.trio_walk.specs.declared.attempts.TryEnd.{TryEnd}
+use Rattle.trio_calls_dir.specs.Chmods.{AsksSo, BreaksOff, ChmodTried, Comes, EndsAs, EndsDenied, HandsIn, SetsMode, TriedSo, lent_to}
 use Rattle.trio_walk.specs.declared.attempts.TryEnd.TheVariants.{NoMemory as NoMemoryTry}
 use Rattle.trio_calls_dir.proofs.Ends.{same_asks}
 use Rattle.trio_calls_dir.proofs.Others.{nothing_own}
 use Rattle.trio_calls_dir.proofs.Walked.{way_alike}
 use Rattle.trio_calls_dir.proofs.ChmodsFaults.{comes_live, comes_owned}
-use Rattle.trio_session.specs.Asked.{IsAlike, SameDesk}
-use Rattle.trio_session.proofs.Alike.{alike_then}
-use Rattle.trio_walk.proofs.Then.{asks_lent, calls_then, given_all, possible_then}
 
 -- ---- the session
 

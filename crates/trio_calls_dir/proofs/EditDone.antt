@@ -1,20 +1,5 @@
 -- An edit that a call makes is noted with it.
-use Rattle.std.proofs.Common.{◌≡◌, List, ap, ◌∙◌, refl}
-use Rattle.trio_nodes.specs.declared.call.Answer.TheVariants.{Done as IsDone}
-use Rattle.trio_nodes.specs.declared.call.Call.{Call}
-use Rattle.trio_nodes.specs.declared.call.Done.{Done}
-use Rattle.trio_nodes.specs.declared.call.Reply.TheVariants.{Ok as IsReplied}
-use Rattle.trio_nodes.specs.Nodes.{Nodes}
-use Rattle.trio_desk.specs.Call.{DeskSeen}
-use Rattle.trio_desk.specs.Edits.{DoesCall}
-use Rattle.trio_desk.specs.Out.{ino_numbers}
-use Rattle.trio_session.specs.Seen.{SessionSeen, spare_numbers, spare_pages}
-use Rattle.trio_edit_laws.specs.Calls.{MayCall}
-use Rattle.trio_edit_laws.specs.DirLaws.{Changes}
-use Rattle.trio_walk.specs.Walks.{InAllShown}
-use Rattle.trio_walk.specs.Asks.{noted}
-use Rattle.trio_edit_laws.proofs.Noting.{may_noted as note_done}
-use Rattle.trio_lease.specs.declared.parts.InoParts.{InoParts}
+use Rattle.trio_calls_dir.proofs.Words.{◌∙◌, ◌≡◌, Call, Changes, DeskSeen, DoesCall, Done, InAllShown, InoParts, IsDone, IsReplied, List, MayCall, Nodes, SessionSeen, ap, ino_numbers, note_done, noted, refl, spare_numbers, spare_pages}
 
 -- the call, done, without a file that it made
 abbrev pub as_done : Call → Done

@@ -1,44 +1,11 @@
 -- How a try ends by a refusal, or by a walk that comes to no file.
-use Rattle.std.proofs.Common.{◌≡◌, ◌<◌, true, false, cond, List, [], ◌++◌, length, Option, Result, Ok, Err, sym, refl, ap, ◌∙◌, subst, inl, inr, append_assoc}
-use Rattle.std.specs.Prelude.{map, MatchResult}
-use Rattle.std.proofs.lemmas.List.{append-nil, map-append}
-use Rattle.trio_rights.specs.Row.{Row}
-use Rattle.trio_rights.specs.declared.rights.Creds.{Creds}
-use Rattle.trio_nodes.specs.declared.answers.AllotFault.{AllotFault}
-use Rattle.trio_nodes.specs.declared.answers.AllotFault.TheVariants.{NoInodes as NoFreeInodes, NoPages, NoMemory as NoAllotMemory}
-use Rattle.trio_nodes.specs.declared.answers.GrantFault.TheVariants.{Denied as DeniedGrant, NoMemory as NoGrantMemory}
-use Rattle.trio_nodes.specs.declared.call.Call.{Call}
-use Rattle.trio_nodes.specs.declared.call.Done.{Done}
-use Rattle.trio_nodes.specs.declared.call.Reply.{Reply}
-use Rattle.trio_nodes.specs.declared.call.Reply.TheVariants.{Ok as IsReplied, NotFound, Exists, NotDir, IsDir, NotEmpty, Denied, IntoItself, NoSpace, NoInodes, TooLarge}
-use Rattle.trio_nodes.specs.Nodes.{Nodes}
-use Rattle.trio_nodes.specs.Apply.{Apply, applied, is_done}
-use Rattle.trio_nodes.specs.After.{batch_nodes, call_nodes}
-use Rattle.trio_desk.specs.Call.{Ask, DeskSeen, Grant, Told, NotLent}
+use Rattle.trio_calls_dir.proofs.Words.{◌++◌, ◌<◌, ◌∙◌, ◌≡◌, AfterTry, AllotFault, AreAsked, ArePossible, Ask, AskedBy, At, Busy, Call, ComesBy, Creds, Denied, DeniedGrant, DeskSeen, Done, EndsBy, Err, Exists, Goes, Grant, InAllShown, IntoItself, IsAlike, IsBusyWalk, IsDir, IsNames, IsNotBusy, IsNumber, IsOfDir, IsRefusal, IsRefusedAs, IsReplied, IsReply, IsStopped, LacksMemory, LeavesHere, List, MatchResult, MayCall, MayWalk, Needed, NoAllotMemory, NoFreeInodes, NoGrantMemory, NoInodes, NoMemory, NoPages, NoSpace, NoWalkMemory, Nodes, NotDir, NotEmpty, NotFound, NotLent, Ok, Option, Outcome, Replied, Reply, Result, Row, SessionSeen, Stop, StopsBy, Target, Told, TooLarge, TryEnds, WalkEnd, Walked, [], alike_room, alike_then, allot_asks, allot_reply, ap, append-nil, append_assoc, applied, as_lent, asked, asked_beside, asks_from, asks_lent, batch_nodes, cond, false, given_all, grant_ask, inl, inr, is_done, length, lent_call, map, map-append, may_alike, need_of, noted, number_made, numbers_for, pages_for, refl, served_by, subst, sym, took, true, try_ends, wants_of, without_file}
+use Rattle.trio_nodes.specs.Apply.{Apply}
+use Rattle.trio_nodes.specs.After.{call_nodes}
 use Rattle.trio_desk.specs.Calls as desk_calls
-use Rattle.trio_desk.specs.Ready.{ArePossible}
-use Rattle.trio_session.specs.Seen.{SessionSeen}
-use Rattle.trio_edit_laws.specs.Calls.{MayCall}
-use Rattle.trio_walk.specs.declared.walks.WalkEnd.{WalkEnd}
-use Rattle.trio_walk.specs.declared.walks.WalkEnd.TheVariants.{At, Reply as IsReply, Busy as IsBusyWalk, NoMemory as NoWalkMemory}
-use Rattle.trio_walk.specs.Needs.{Needed, asked, asked_beside}
-use Rattle.trio_walk.specs.Walks.{AreAsked, EndsBy, InAllShown, IsStopped, MayWalk, Walked, lent_call, need_of, served_by}
-use Rattle.trio_walk.specs.Asks.{AskedBy, IsNotBusy, TryEnds, grant_ask, noted}
-use Rattle.trio_walk.specs.Tries.{allot_reply}
-use Rattle.trio_walk.specs.declared.outcome.Outcome.{Outcome}
-use Rattle.trio_walk.specs.declared.outcome.Outcome.TheVariants.{Busy, NoMemory, Replied}
 use Rattle.trio_calls_dir.specs.declared.replies.Replied as replied
-use Rattle.trio_walk.specs.declared.outcome.Stop.{Stop}
-use Rattle.trio_walk.specs.declared.outcome.Stop.TheVariants.{NoMemory as LacksMemory}
-use Rattle.trio_calls_dir.specs.Asks.{ComesBy, Target, numbers_for, pages_for, wants_of}
-use Rattle.trio_calls_dir.specs.inner.Goes.{AfterTry, Goes, IsNames, IsNumber, IsOfDir, IsRefusal, IsRefusedAs, LeavesHere, StopsBy, asks_from, number_made, try_ends, without_file}
 use Rattle.trio_calls_dir.proofs.Then.{asked_append}
 use Rattle.trio_calls_dir.proofs.Walked.{way_alike, way_calls, way_may, way_more, way_same}
-use Rattle.trio_session.specs.Asked.{IsAlike, allot_asks, took}
-use Rattle.trio_session.proofs.Alike.{alike_room, alike_then}
-use Rattle.trio_session.specs.Deeds.{as_lent}
-use Rattle.trio_walk.proofs.Then.{asks_lent, given_all}
-use Rattle.trio_edit_laws.proofs.Alike.{may_alike}
 use Rattle.trio_edit_laws.proofs.Noting.{may_looked as note_look}
 
 -- ---- the note

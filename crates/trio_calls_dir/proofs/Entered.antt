@@ -1,32 +1,10 @@
 -- A call on one name, from its walk into the directory of its path on.
-use Rattle.std.proofs.Common.{◌≡◌, ℕ, true, false, cond, List, [], ◌∷◌, ◌++◌, Option, Some, None, Result, sym, refl, ap, ◌∙◌, subst, inl}
-use Rattle.std.specs.Prelude.{is_some}
-use Rattle.trio_rights.specs.declared.kind.Kind.{Kind}
-use Rattle.trio_rights.specs.declared.kind.Kind.TheVariants.{Directory, Regular}
-use Rattle.trio_rights.specs.declared.rights.Creds.{Creds}
+use Rattle.trio_calls_dir.proofs.Words.{◌++◌, ◌∙◌, ◌∷◌, ◌≡◌, Ask, At, Call, ComesInto, Creds, Denied, DeskSeen, Directory, Goes, InAllShown, IsAlike, IsDir, IsHad, IsOpenDir, IsStopped, Kind, List, MayCall, MayWalk, Needed, Nodes, None, Option, Outcome, Path, Regular, Result, SessionSeen, Shown, Some, Stop, StopsBy, Told, WalkEnd, Walked, WalksInto, [], ap, batch_nodes, cond, dir_needs, dir_of, early_refusal, false, inl, into_needs, is_root, is_some, kind_for, need_at, needs_write, number_made, open_kind, option_map, option_or, reached_by, read_file, refl, removing, shows_root, subst, sym, true, try_ends, walk_into, write_paths, ℕ}
 use Rattle.trio_nodes.specs.declared.grant.GrantKind.TheVariants.{Write as ToWrite}
-use Rattle.trio_nodes.specs.declared.call.Call.{Call}
-use Rattle.trio_nodes.specs.declared.call.Reply.TheVariants.{Denied, IsDir}
-use Rattle.trio_lease.specs.Shown.{Shown}
-use Rattle.std.specs.Option.{option_map, option_or}
-use Rattle.trio_nodes.specs.Nodes.{Nodes}
-use Rattle.trio_nodes.specs.Walk.{Path, dir_of, is_root, need_at, walk_into}
-use Rattle.trio_nodes.specs.After.{batch_nodes}
-use Rattle.trio_desk.specs.Call.{Ask, DeskSeen, Told}
-use Rattle.trio_laws.specs.session.DirCalls.{ComesInto, early_refusal, name_path, write_paths}
-use Rattle.trio_laws.proofs.session.DirCalls.{name_refused_by_walk, needs_write}
-use Rattle.trio_session.specs.Seen.{IsOpenDir, SessionSeen, open_kind, read_file}
-use Rattle.trio_edit_laws.specs.Calls.{MayCall}
-use Rattle.trio_walk.specs.declared.walks.WalkEnd.{WalkEnd}
-use Rattle.trio_walk.specs.declared.walks.WalkEnd.TheVariants.{At}
-use Rattle.trio_walk.specs.Needs.{Needed, into_needs, kind_for, reached_by, dir_needs}
-use Rattle.trio_walk.specs.Walks.{InAllShown, IsHad, IsStopped, MayWalk, Walked, WalksInto, shows_root}
-use Rattle.trio_walk.specs.declared.outcome.Outcome.{Outcome}
+use Rattle.trio_laws.specs.session.DirCalls.{name_path}
+use Rattle.trio_laws.proofs.session.DirCalls.{name_refused_by_walk}
 use Rattle.trio_calls_dir.specs.declared.replies.Replied as replied
-use Rattle.trio_walk.specs.declared.outcome.Stop.{Stop}
-use Rattle.trio_calls_dir.specs.inner.Goes.{Goes, StopsBy, number_made, removing, try_ends}
 use Rattle.trio_calls_dir.proofs.Into.{entered_at, into_goes, into_stops}
-use Rattle.trio_session.specs.Asked.{IsAlike}
 
 -- ---- calls on one name
 

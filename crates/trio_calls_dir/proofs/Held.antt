@@ -1,48 +1,15 @@
 -- A file is held: what is asked for it, and what stays as it was.
-use Rattle.std.proofs.Common.{◌≡◌, ℕ, Bool, true, false, cond, List, [], ◌∷◌, ◌++◌, Some, Ok, Err, sym, refl, ap, ◌∙◌, subst, inl, inr}
+use Rattle.trio_calls_dir.proofs.Words.{◌++◌, ◌||◌, ◌∙◌, ◌∷◌, ◌≡◌, Ask, Bool, Busy, BusyGrant, Call, DeskSeen, Err, Goes, Grant, Hold, HoldBusyAt, HoldLease, HoldParts, Holder, In, In-map, InAllShown, IsAlike, IsBusy, IsBusyWalk, IsListed, IsOpenDir, LacksMemory, Lease, List, MayCall, MayWalk, Met, Needed, NoMemory, NoWalkMemory, Node, Nodes, NotLent, Ok, Outcome, Parcel, Place, ReadLease, SessionSeen, Some, Told, Took, Way, Went, WriteLease, [], ap, append-nil, asked, asks_lent, batch_nodes, chain_in, cond, entry_in, entry_shown, every_number, false, find_named, find_named-Child, grant_ask, inl, inr, is_some, kind_lent, kind_shown, lent_call, map, need_of, one_need, open_kind, option_and_then, option_map, option_map_or, place_shown, possible_then, read_file, refl, served_by, serves, slot_bytes, slot_of, subst, sym, true, with_lease, with_leases, ℕ}
 use mathlib.Core.Path.{fun_ext}
-use Rattle.std.specs.Prelude.{is_some, map, slice_get, ◌||◌}
-use Rattle.std.specs.Option.{option_and_then, option_map, option_map_or}
-use Rattle.std.proofs.lemmas.List.{append-nil}
-use Rattle.trio_lists.specs.Lists.{In}
-use Rattle.trio_lists.proofs.Members.{In-map}
-use Rattle.trio_auxdir.specs.declared.place.Place.{Place}
+use Rattle.std.specs.Prelude.{slice_get}
 use Rattle.trio_auxdir.specs.Slots.{slots_of}
-use Rattle.trio_layout.specs.Entries.{slot_bytes}
-use Rattle.trio_layout.specs.Slot.{slot_of}
 use Rattle.trio_lease.specs.Shown.{page_at}
-use Rattle.trio_lease.specs.declared.lease.Lease.{Lease}
-use Rattle.trio_lease.specs.declared.lease.Lease.TheVariants.{Write as WriteLease, Read as ReadLease, Hold as HoldLease}
-use Rattle.trio_lease.specs.declared.parts.HoldParts.{HoldParts}
-use Rattle.trio_nodes.specs.declared.grant.GrantKind.TheVariants.{Hold}
-use Rattle.trio_nodes.specs.declared.grant.Holder.{Holder}
-use Rattle.trio_nodes.specs.declared.answers.GrantFault.TheVariants.{Busy as BusyGrant}
-use Rattle.trio_nodes.specs.declared.call.Call.{Call}
-use Rattle.trio_nodes.specs.declared.node.Node.{Node}
-use Rattle.trio_nodes.specs.Nodes.{Nodes, find_named}
-use Rattle.trio_nodes.specs.After.{batch_nodes}
-use Rattle.trio_onetree.proofs.Children.{find_named-Child}
-use Rattle.trio_desk.specs.Call.{Ask, DeskSeen, Grant, Told, NotLent}
 use Rattle.trio_desk.specs.Calls as desk_calls
-use Rattle.trio_desk.specs.Out.{Parcel, kind_lent}
-use Rattle.trio_session.specs.Asked.{with_lease, IsAlike}
 use Rattle.trio_session.specs.Layout.{page_in}
-use Rattle.trio_session.specs.Seen.{IsOpenDir, SessionSeen, chain_in, dir_pages, entry_in, entry_shown, every_number, kind_shown, open_kind, place_of, place_shown, read_file, serves}
-use Rattle.trio_edit_laws.specs.Calls.{MayCall}
-use Rattle.trio_walk.specs.declared.met.Met.{Met}
-use Rattle.trio_walk.specs.declared.walks.WalkEnd.TheVariants.{Busy as IsBusyWalk, NoMemory as NoWalkMemory}
-use Rattle.trio_walk.specs.Needs.{Needed, asked}
-use Rattle.trio_walk.specs.Walks.{InAllShown, IsListed, MayWalk, Took, Way, lent_call, need_of, one_need, served_by, with_leases}
-use Rattle.trio_walk.specs.Asks.{grant_ask}
-use Rattle.trio_walk.specs.declared.outcome.Outcome.{Outcome}
-use Rattle.trio_walk.specs.declared.outcome.Outcome.TheVariants.{Busy, NoMemory}
-use Rattle.trio_walk.specs.declared.outcome.Stop.TheVariants.{Busy as IsBusy, NoMemory as LacksMemory}
-use Rattle.trio_calls_dir.specs.inner.Goes.{Goes, Went}
-use Rattle.trio_calls_dir.specs.inner.Removes.{HoldBusyAt}
+use Rattle.trio_session.specs.Seen.{dir_pages, place_of}
 use Rattle.trio_calls_dir.proofs.Ends.{stop_goes}
 use Rattle.trio_calls_dir.proofs.Then.{all_then, goes_on}
 use Rattle.trio_calls_dir.proofs.Walked.{way_calls, way_may, way_more, way_same, way_went}
-use Rattle.trio_walk.proofs.Then.{asks_lent, possible_then}
 
 -- a directory that is open lists the file, so it may be held
 pub may_be_held : (desk : DeskSeen) (s : SessionSeen) (dir : ℕ) (name : List ℕ) (n : ℕ) → IsOpenDir s dir → InAllShown desk s (λ now. find_named now dir name ≡ Some n) → IsListed desk s n

@@ -1,33 +1,10 @@
 -- A call from its walk into a directory on.
-use Rattle.std.proofs.Common.{◌≡◌, ℕ, List, ◌++◌, Result, Ok, Err, sym, ap, ◌∙◌, subst}
-use Rattle.std.specs.Prelude.{map}
-use Rattle.std.proofs.lemmas.List.{append-nil, map-append}
-use Rattle.trio_nodes.specs.declared.call.Call.{Call}
-use Rattle.trio_nodes.specs.declared.call.Done.{Done}
-use Rattle.trio_nodes.specs.declared.call.Reply.{Reply}
-use Rattle.trio_nodes.specs.Nodes.{Nodes}
-use Rattle.trio_nodes.specs.Walk.{Path, walk_into}
-use Rattle.trio_nodes.specs.After.{batch_nodes}
-use Rattle.trio_desk.specs.Call.{Ask, DeskSeen, Told}
+use Rattle.trio_calls_dir.proofs.Words.{◌++◌, ◌∙◌, ◌≡◌, ArePossible, Ask, At, Call, DeskSeen, Done, Err, Goes, InAllShown, IsAlike, IsBusyWalk, IsRefusedAs, IsReply, IsStopped, List, MayCall, MayWalk, Needed, NoWalkMemory, Nodes, Ok, Outcome, Path, Reply, Result, SessionSeen, Stop, StopsBy, Told, WalkEnd, Walked, WalksInto, WalksTo, Way, Went, alike_then, ap, append-nil, asked, asks_lent, batch_nodes, grant_ask, into_needs, lent_call, map, map-append, need_of, number_made, reached_by, served_by, shows_root, subst, sym, took, try_ends, walk_into, ℕ}
 use Rattle.trio_desk.specs.Calls as desk_calls
-use Rattle.trio_desk.specs.Ready.{ArePossible}
-use Rattle.trio_session.specs.Seen.{SessionSeen}
-use Rattle.trio_edit_laws.specs.Calls.{MayCall}
-use Rattle.trio_walk.specs.declared.walks.WalkEnd.{WalkEnd}
-use Rattle.trio_walk.specs.declared.walks.WalkEnd.TheVariants.{At, Reply as IsReply, Busy as IsBusyWalk, NoMemory as NoWalkMemory}
-use Rattle.trio_walk.specs.Needs.{Needed, asked, into_needs, reached_by}
-use Rattle.trio_walk.specs.Walks.{InAllShown, IsStopped, MayWalk, Walked, WalksInto, WalksTo, Way, lent_call, need_of, served_by, shows_root}
-use Rattle.trio_walk.specs.Asks.{grant_ask}
-use Rattle.trio_walk.specs.declared.outcome.Outcome.{Outcome}
 use Rattle.trio_calls_dir.specs.declared.replies.Replied as replied
-use Rattle.trio_walk.specs.declared.outcome.Stop.{Stop}
-use Rattle.trio_calls_dir.specs.inner.Goes.{Goes, IsRefusedAs, StopsBy, Went, number_made, try_ends}
 use Rattle.trio_calls_dir.proofs.Ends.{BeginsWith, stop_goes}
 use Rattle.trio_calls_dir.proofs.Then.{asked_then, goes_on}
 use Rattle.trio_calls_dir.proofs.Walked.{way_went}
-use Rattle.trio_session.specs.Asked.{IsAlike, took}
-use Rattle.trio_session.proofs.Alike.{alike_then}
-use Rattle.trio_walk.proofs.Then.{asks_lent}
 
 -- the call needs the walk into the directory of this path, and then what is needed in it
 module _ {D : Type 0} (called : D → Ask → Told → D → Type 0) (seen : D → DeskSeen) (d : D) (s : SessionSeen) (call : Call) (writes : List Path) (path : Path) (may : MayCall (seen d) s) (d1 : D) (s1 : SessionSeen) where

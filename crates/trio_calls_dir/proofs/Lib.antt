@@ -41,3 +41,4 @@ mod MovesPlace
 mod MovesTakes
 mod MovesRoom
 mod MovesHeld
+mod Words

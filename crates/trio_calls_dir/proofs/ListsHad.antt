@@ -1,45 +1,28 @@
 -- A directory that is taken for reading is had, and what the session shows of it is so in the nodes.
-use Rattle.std.proofs.Common.{◌≡◌, ℕ, suc, true, false, cond, eqb, Bool, List, [], ◌∷◌, ◌++◌, length, map, Option, Some, None, Ok, sym, refl, ap, ◌∙◌, subst}
-use Rattle.std.specs.Prelude.{is_some, ◌||◌}
-use Rattle.std.specs.List.{filter}
-use Rattle.std.specs.Option.{option_map, option_or}
+use Rattle.trio_calls_dir.proofs.Words.{◌++◌, ◌||◌, ◌∙◌, ◌∷◌, ◌≡◌, ArePossible, Bool, DeskSeen, Directory, EntryPart, HasRights, In, In-right, IsView, Kind, List, MayCall, Nodes, None, Ok, Option, Read, Row, SessionSeen, Shown, Some, [], ap, batch_nodes, body_in, body_shown, cond, count_in, entry_count, eqb, eqb-true, false, false≢true, filter, find-In, in_hand, is_some, kind_shown, length, map-append, map-map, names_here, node_at, open_kind, option_map, option_or, read_file, refl, rights_in, sees_directory, serves, shows_calls, slots_shown, subst, suc, sym, true, view_calls, ℕ}
+use Rattle.std.proofs.Common.{map}
 use Rattle.std.specs.Ordering.{is_le, nat_cmp}
 use Rattle.std.specs.Cmp.Lexicographic.{slice_cmp}
-use Rattle.std.proofs.lemmas.Bool.{eqb-true, false≢true}
-use Rattle.std.proofs.lemmas.List.{length-map, map-append}
+use Rattle.std.proofs.lemmas.List.{length-map}
 use Rattle.std.proofs.lemmas.List.Elements.{filter_map-append}
-use Rattle.std.proofs.lemmas.Simd.{map-map}
-use Rattle.trio_rights.specs.Row.{Row}
-use Rattle.trio_rights.specs.declared.kind.Kind.{Kind}
-use Rattle.trio_rights.specs.declared.kind.Kind.TheVariants.{Directory}
-use Rattle.trio_lists.specs.Lists.{In, gathered, gathered_below}
+use Rattle.trio_lists.specs.Lists.{gathered, gathered_below}
 use Rattle.trio_lists.specs.Sorting.{inserted_by_name, sorted_by_name}
-use Rattle.trio_lists.proofs.Filters.{find-In}
-use Rattle.trio_lists.proofs.Members.{In-right, both-Ok}
-use Rattle.trio_layout.specs.declared.slot.EntryPart.{EntryPart}
+use Rattle.trio_lists.proofs.Members.{both-Ok}
 use Rattle.trio_layout.specs.Entries.{Listed, entries_on, slot_entries}
-use Rattle.trio_lease.specs.Shown.{Shown}
 use Rattle.trio_lease.specs.declared.parts.LentPage.{LentPage}
-use Rattle.trio_nodes.specs.declared.grant.GrantKind.TheVariants.{Read}
-use Rattle.trio_nodes.specs.Nodes.{Nodes, count_in, entry_name, names_in, node_at}
-use Rattle.trio_nodes.specs.After.{batch_nodes}
-use Rattle.trio_desk.specs.Agrees.{HasRights}
-use Rattle.trio_desk.specs.Call.{DeskSeen}
-use Rattle.trio_desk.specs.Contents.{entries_shown, rights_in}
-use Rattle.trio_desk.specs.Ready.{ArePossible, lent_files}
+use Rattle.trio_nodes.specs.Nodes.{entry_name, names_in}
+use Rattle.trio_desk.specs.Contents.{entries_shown}
+use Rattle.trio_desk.specs.Ready.{lent_files}
 use Rattle.trio_laws.specs.session.DirCalls.{name_and_kind}
-use Rattle.trio_laws.specs.session.Sees.{IsView, Lists}
+use Rattle.trio_laws.specs.session.Sees.{Lists}
 use Rattle.trio_laws.proofs.session.DirNames.{names_in_order}
 use Rattle.trio_laws.proofs.session.LentFiles.{lent_gathers}
 use Rattle.trio_laws.proofs.session.Sees.{sees_lease, sees_lent}
-use Rattle.trio_session.specs.Seen.{SessionSeen, body_in, body_shown, entry_count, in_hand, kind_shown, open_kind, pages_shown, read_file, serves, slots_shown}
-use Rattle.trio_edit_laws.specs.Calls.{MayCall}
+use Rattle.trio_session.specs.Seen.{pages_shown}
 use Rattle.trio_edit_laws.proofs.directories.Slotted.{length-present, page_parts, parts_of, present, slots_of-parts}
 use Rattle.trio_session.proofs.Shows.{body_shown-open, body_shown-read}
 use Rattle.trio_edit_laws.proofs.Had.{pages_shown-lent}
-use Rattle.trio_session.specs.Deeds.{names_here, slots_of_page}
-use Rattle.trio_edit_laws.proofs.directories.Sees.{sees_directory}
-use Rattle.trio_edit_laws.proofs.Walkable.{shows_calls, view_calls}
+use Rattle.trio_session.specs.Deeds.{slots_of_page}
 
 -- ---- what is had
 

@@ -1,66 +1,21 @@
 -- A list of names at the file to which its walk came.
-use Rattle.std.proofs.Common.{◌≡◌, ℕ, ◌<◌, Bool, true, false, cond, List, [], ◌∷◌, ◌++◌, length, take, drop, Option, Some, None, Result, Ok, Err, sym, refl, ap, ◌∙◌, subst, inl, inr}
-use Rattle.std.specs.Prelude.{is_some, map, not, MatchResult}
-use Rattle.std.specs.Option.{option_map, option_map_or}
+use Rattle.trio_calls_dir.proofs.Words.{◌++◌, ◌<◌, ◌∙◌, ◌∷◌, ◌≡◌, ArePossible, AreWithinLimits, Ask, Bool, Busy, BusyAt, BusyGrant, ComesHere, Creds, Denied, DeskSeen, Directory, Err, Goes, Grant, HasMet, HasRights, Holder, In, InAllShown, IsBusy, IsBusyWalk, IsMet, IsRefusal, IsRefusedAs, IsReplied, IsReply, Kind, LacksMemory, List, ListNames, MatchResult, MayCall, Met, Mode, Names, Needed, NoWalkMemory, Nodes, None, NotDir, NotLent, Ok, Option, Path, Read, Regular, Replied, Reply, Result, Rights, RightsAre, Row, SessionSeen, Some, Stop, StopsBy, Target, ToRead, Told, Took, WalkEnd, Walked, Way, Went, [], alike_room, allot_asks, ap, append-nil, applied, asked, asks_lent, batch_nodes, body_shown, cond, drop, false, gives, gives_met, grant_ask, in_hand, inl, inr, is_directory, is_done, is_some, kind_shown, length, lent_call, list_reply, listing_at, map, may_alike, met_refusal, moment_possible, names_here, need_of, node_at, not, noted, number_made, one_need, option_map, option_map_or, permits, refl, rights_in, rights_of, served_by, serves, subst, sym, take, true, try_ends, view_calls, walk, wants_of, ℕ}
 use Rattle.std.proofs.Math.Bool.{or-false}
-use Rattle.std.proofs.lemmas.List.{append-nil}
-use Rattle.trio_rights.specs.Row.{Row}
-use Rattle.trio_rights.specs.Rights.{permits}
-use Rattle.trio_rights.specs.declared.kind.Kind.{Kind}
-use Rattle.trio_rights.specs.declared.kind.Kind.TheVariants.{Directory, Regular}
-use Rattle.trio_rights.specs.declared.rights.Creds.{Creds}
-use Rattle.trio_rights.specs.declared.rights.Mode.{Mode}
-use Rattle.trio_rights.specs.declared.rights.Need.TheVariants.{Read as ToRead}
-use Rattle.trio_lists.specs.Lists.{In}
-use Rattle.trio_nodes.specs.declared.answers.GrantFault.TheVariants.{Busy as BusyGrant}
-use Rattle.trio_nodes.specs.declared.call.Answer.TheVariants.{Names}
-use Rattle.trio_nodes.specs.declared.call.Call.TheVariants.{List as ListNames}
-use Rattle.trio_nodes.specs.declared.call.Reply.{Reply}
-use Rattle.trio_nodes.specs.declared.call.Reply.TheVariants.{Ok as IsReplied, Denied, NotDir}
-use Rattle.trio_nodes.specs.declared.grant.GrantKind.TheVariants.{Read}
-use Rattle.trio_nodes.specs.declared.grant.Holder.{Holder}
-use Rattle.trio_nodes.specs.Nodes.{Nodes, node_at}
-use Rattle.trio_nodes.specs.Walk.{Path, is_directory, walk}
-use Rattle.trio_nodes.specs.Apply.{applied, is_done}
-use Rattle.trio_nodes.specs.After.{batch_nodes}
-use Rattle.trio_desk.specs.Agrees.{HasRights}
-use Rattle.trio_desk.specs.Call.{Ask, DeskSeen, Grant, NotLent, Told}
 use Rattle.trio_desk.specs.Calls as desk_calls
-use Rattle.trio_desk.specs.Contents.{AreWithinLimits, Rights, Sizes, rights_in, rights_of}
-use Rattle.trio_desk.specs.Ready.{ArePossible}
+use Rattle.trio_desk.specs.Contents.{Sizes}
 use Rattle.trio_laws.specs.session.DirCalls.{list_refusal}
-use Rattle.trio_laws.specs.session.FileCalls.{gives}
 use Rattle.trio_laws.proofs.session.DirCalls.{list_refused_by_check, lists_names}
 use Rattle.trio_laws.proofs.session.Sees.{sees_root}
-use Rattle.trio_session.specs.Seen.{SessionSeen, body_shown, in_hand, kind_shown, serves}
-use Rattle.trio_edit_laws.specs.Calls.{MayCall}
-use Rattle.trio_walk.specs.declared.met.Met.{Met}
 use Rattle.trio_walk.specs.declared.met.Rights as shown_rights
-use Rattle.trio_walk.specs.declared.walks.WalkEnd.{WalkEnd}
-use Rattle.trio_walk.specs.declared.walks.WalkEnd.TheVariants.{Reply as IsReply, Busy as IsBusyWalk, NoMemory as NoWalkMemory}
-use Rattle.trio_walk.specs.declared.outcome.Outcome.TheVariants.{Replied, Busy}
-use Rattle.trio_walk.specs.Asks.{grant_ask, noted}
-use Rattle.trio_walk.specs.Needs.{Needed, asked}
-use Rattle.trio_walk.specs.Walks.{HasMet, InAllShown, IsMet, MayTake, RightsAre, Took, Walked, Way, gives_met, lent_call, need_of, one_need, served_by}
-use Rattle.trio_walk.proofs.Possible.{moment_possible}
+use Rattle.trio_walk.specs.Walks.{MayTake}
 use Rattle.trio_calls_dir.specs.declared.replies.Replied as replied
-use Rattle.trio_walk.specs.declared.outcome.Stop.{Stop}
-use Rattle.trio_walk.specs.declared.outcome.Stop.TheVariants.{Busy as IsBusy, NoMemory as LacksMemory}
-use Rattle.trio_calls_dir.specs.Asks.{Target, wants_of}
-use Rattle.trio_calls_dir.specs.inner.Goes.{Goes, IsRefusal, IsRefusedAs, StopsBy, Went, number_made, try_ends}
-use Rattle.trio_calls_dir.specs.inner.Lists.{BusyAt, ComesHere, lets_read, list_reply, listing_at, met_refusal}
+use Rattle.trio_calls_dir.specs.inner.Lists.{lets_read}
 use Rattle.trio_calls_dir.proofs.Ends.{lacks, may_looked, refused_goes, refuses, stop_goes}
 use Rattle.trio_session.specs.Deeds.{IsHad, body_had}
 use Rattle.trio_edit_laws.proofs.Had.{had_served, there_had}
 use Rattle.trio_calls_dir.proofs.ListsHad.{had_here}
 use Rattle.trio_calls_dir.proofs.Then.{all_then, goes_on}
 use Rattle.trio_calls_dir.proofs.Walked.{way_calls, way_may, way_more, way_same, way_went}
-use Rattle.trio_session.specs.Asked.{allot_asks}
-use Rattle.trio_session.proofs.Alike.{alike_room}
-use Rattle.trio_session.specs.Deeds.{names_here}
-use Rattle.trio_walk.proofs.Then.{asks_lent}
-use Rattle.trio_edit_laws.proofs.Alike.{may_alike}
-use Rattle.trio_edit_laws.proofs.Walkable.{view_calls}
 
 -- ---- what is known of the file
 

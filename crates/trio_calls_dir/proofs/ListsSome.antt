@@ -1,5 +1,5 @@
 -- Some of a directory's names, from a position on.
-use Rattle.std.proofs.Common.{◌≡◌, ℕ, zero, suc, ◌+◌, ◌-◌, List, [], length, min, take, drop, sym, refl, ap, ◌∙◌, arith, inl, inr}
+use Rattle.trio_calls_dir.proofs.Words.{◌+◌, ◌-◌, ◌∙◌, ◌≡◌, List, [], ap, arith, drop, inl, inr, length, min, refl, suc, sym, take, zero, ℕ}
 use Rattle.std.proofs.lemmas.Bool.{cases_lt}
 use Rattle.std.proofs.lemmas.List.{length-drop, take_min}
 use Rattle.std.proofs.Math.ListN.{drop_of_length-le}

@@ -1,52 +1,19 @@
 -- A list of names from its walk on.
-use Rattle.std.proofs.Common.{◌≡◌, ℕ, Bool, true, false, cond, eqb, List, [], ◌∷◌, ◌++◌, Option, Some, None, Result, Ok, sym, refl, ap, ◌∙◌, subst}
-use Rattle.std.specs.Prelude.{is_some, map, not, ◌||◌, ◌&&◌}
-use Rattle.std.specs.Option.{option_map_or}
-use Rattle.std.proofs.lemmas.List.{append-nil, map-append}
-use Rattle.trio_rights.specs.Rights.{permits}
-use Rattle.trio_rights.specs.declared.rights.Creds.{Creds}
-use Rattle.trio_rights.specs.declared.rights.Need.TheVariants.{Read as ToRead}
-use Rattle.trio_lists.specs.Lists.{In}
-use Rattle.trio_lists.proofs.Members.{In-map}
-use Rattle.trio_lease.specs.declared.lease.Lease.{Lease}
-use Rattle.trio_nodes.specs.declared.call.Call.TheVariants.{List as ListNames}
-use Rattle.trio_nodes.specs.declared.call.Reply.TheVariants.{Denied, NotDir}
-use Rattle.trio_nodes.specs.declared.grant.GrantKind.TheVariants.{Read}
-use Rattle.trio_nodes.specs.declared.node.Node.{Node}
-use Rattle.trio_nodes.specs.Nodes.{Nodes}
-use Rattle.trio_nodes.specs.Walk.{Path, is_directory, walk}
-use Rattle.trio_nodes.specs.After.{batch_nodes}
-use Rattle.trio_desk.specs.Call.{Ask, DeskSeen, Told}
+use Rattle.trio_calls_dir.proofs.Words.{◌++◌, ◌||◌, ◌∙◌, ◌∷◌, ◌≡◌, Ask, At, Bool, Busy, BusyAt, ComesHere, Creds, Denied, DeskSeen, Goes, HasNothing, In, In-map, InAllShown, IsBusyWalk, IsMet, IsMetIn, IsReply, IsStopped, Lease, List, ListNames, MayCall, MayWalk, Met, Needed, NoMemory, NoWalkMemory, Node, Nodes, None, NotDir, Ok, Option, OthersHold, Outcome, Path, Read, Replied, Result, SessionSeen, Some, Stop, StopsBy, ToRead, Told, WalkEnd, Walked, WalksTo, Way, Went, [], ap, append-nil, asked, asked_beside-In, asks_lent, batch_nodes, cond, dir_needs, eqb, false, gives, gives_met, grant_ask, is_directory, is_some, kind_lent, lent_call, lib_same, listing_at, map, map-append, need_of, node_needs, not, number_made, option_map_or, permits, refl, rights_of, served_by, shows_root, subst, sym, true, try_ends, walk, walk_needs, ℕ}
+use Rattle.std.specs.Prelude.{◌&&◌}
 use Rattle.trio_desk.specs.Calls as desk_calls
-use Rattle.trio_desk.specs.Contents.{rights_of}
-use Rattle.trio_desk.specs.Out.{kind_lent}
-use Rattle.trio_laws.specs.session.FileCalls.{gives}
 use Rattle.trio_laws.proofs.session.DirCalls.{list_refused_by_walk}
-use Rattle.trio_session.specs.Seen.{SessionSeen}
-use Rattle.trio_edit_laws.specs.Calls.{MayCall}
-use Rattle.trio_walk.specs.declared.met.Met.{Met}
 use Rattle.trio_walk.specs.declared.met.Rights as shown_rights
-use Rattle.trio_walk.specs.declared.walks.WalkEnd.{WalkEnd}
-use Rattle.trio_walk.specs.declared.walks.WalkEnd.TheVariants.{At, Reply as IsReply, Busy as IsBusyWalk, NoMemory as NoWalkMemory}
-use Rattle.trio_walk.specs.declared.outcome.Outcome.{Outcome}
-use Rattle.trio_walk.specs.declared.outcome.Outcome.TheVariants.{Replied, Busy, NoMemory}
-use Rattle.trio_walk.specs.Asks.{grant_ask}
-use Rattle.trio_walk.specs.Needs.{Needed, asked, node_needs, reached_needs, walk_needs, dir_needs, listing_needs}
-use Rattle.trio_walk.specs.Walks.{InAllShown, IsMet, IsMetIn, IsStopped, MayWalk, Walked, Walks, WalksTo, Way, gives_met, lent_call, need_of, served_by, shows_root}
-use Rattle.trio_walk.proofs.Agreeing.{asked_beside-In, walk_need}
-use Rattle.trio_walk.proofs.Possible.{lib_same}
+use Rattle.trio_walk.specs.Needs.{reached_needs, listing_needs}
+use Rattle.trio_walk.specs.Walks.{Walks}
+use Rattle.trio_walk.proofs.Agreeing.{walk_need}
 use Rattle.trio_walk.proofs.Walking.{own_older}
 use Rattle.trio_calls_dir.specs.declared.replies.Replied as replied
-use Rattle.trio_walk.specs.declared.outcome.Stop.{Stop}
-use Rattle.trio_calls_dir.specs.inner.Goes.{Goes, StopsBy, Went, number_made, try_ends}
-use Rattle.trio_walk.specs.Tries.{OthersHold, HasNothing}
-use Rattle.trio_calls_dir.specs.inner.Lists.{BusyAt, ComesHere, listing_at}
 use Rattle.trio_calls_dir.proofs.Ends.{BeginsWith, stop_goes}
 use Rattle.trio_calls_dir.proofs.Others.{nothing_own}
 use Rattle.trio_calls_dir.proofs.ListsMet.{gives_known}
 use Rattle.trio_calls_dir.proofs.Then.{asked_then, goes_on}
 use Rattle.trio_calls_dir.proofs.Walked.{way_went}
-use Rattle.trio_walk.proofs.Then.{asks_lent}
 
 -- ---- what is needed of the file
 

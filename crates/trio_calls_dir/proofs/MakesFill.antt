@@ -1,50 +1,14 @@
 -- A new file is put into the first empty slot of its directory.
-use Rattle.std.proofs.Common.{◌≡◌, ℕ, ◌<◌, true, cond, eqb, List, [], ◌∷◌, Option, Some, None, sym, refl, ap, ◌∙◌, subst, inl, arith}
-use Rattle.std.specs.Prelude.{not}
-use Rattle.std.specs.List.{filter}
-use Rattle.std.specs.Option.{option_map}
+use Rattle.trio_calls_dir.proofs.Words.{◌<◌, ◌∙◌, ◌∷◌, ◌≡◌, ArePossible, AreWithinLimits, Body, Call, Changes, ComesInto, Create, Creds, DeskSeen, Directory, DoesCall, Done, In, InAllShown, InoParts, IsDone, IsOpenDir, IsReplied, Kind, List, MayCall, MayShow, Mkdir, Mode, Nodes, None, Option, Path, Place, Regular, Row, SessionSeen, Some, StaysTree, [], ap, arith, batch_nodes, body_in, body_of, cond, empty_shown, eqb, fill, filter, find_named, grant_in, in_hand, inl, ino_numbers, is_among, is_name, made_file, making, name_of, new_body, node_at, not, note_done, noted, number_shown, option_map, place_shown, refl, rights_in, sees_directory, shown_by, spare_numbers, spare_pages, subst, sym, true, used_numbers, with_node, ℕ}
 use Rattle.std.proofs.lemmas.Bool.{eq-eqb}
-use Rattle.trio_names.specs.Name.{is_name}
-use Rattle.trio_rights.specs.Row.{Row}
-use Rattle.trio_rights.specs.declared.kind.Kind.{Kind}
-use Rattle.trio_rights.specs.declared.kind.Kind.TheVariants.{Directory, Regular}
-use Rattle.trio_rights.specs.declared.rights.Creds.{Creds}
-use Rattle.trio_rights.specs.declared.rights.Mode.{Mode}
-use Rattle.trio_lists.specs.Lists.{In, is_among}
 use Rattle.trio_lists.proofs.Filters.{filter-In}
-use Rattle.trio_layout.specs.Body.{body_of}
-use Rattle.trio_layout.specs.declared.body.Body.{Body}
-use Rattle.trio_auxdir.specs.declared.place.Place.{Place}
-use Rattle.trio_lease.specs.declared.parts.InoParts.{InoParts}
-use Rattle.trio_nodes.specs.declared.call.Answer.TheVariants.{Done as IsDone}
-use Rattle.trio_nodes.specs.declared.call.Call.{Call}
-use Rattle.trio_nodes.specs.declared.call.Call.TheVariants.{Create, Mkdir}
-use Rattle.trio_nodes.specs.declared.call.Done.{Done}
-use Rattle.trio_nodes.specs.declared.call.Reply.TheVariants.{Ok as IsReplied}
-use Rattle.trio_nodes.specs.Nodes.{Nodes, find_named, node_at, with_node}
-use Rattle.trio_nodes.specs.Walk.{Path, name_of}
-use Rattle.trio_nodes.specs.After.{batch_nodes}
-use Rattle.trio_desk.specs.Call.{DeskSeen}
-use Rattle.trio_desk.specs.Contents.{AreWithinLimits, rights_in}
-use Rattle.trio_desk.specs.Edits.{DoesCall, MayShow}
-use Rattle.trio_desk.specs.Out.{ino_numbers}
-use Rattle.trio_desk.specs.Ready.{ArePossible}
-use Rattle.trio_laws.specs.session.DirCalls.{ComesInto}
 use Rattle.trio_laws.proofs.session.DirCalls.{makes_entry}
-use Rattle.trio_session.specs.Seen.{IsOpenDir, SessionSeen, body_in, empty_shown, fill, grant_in, in_hand, made_file, number_shown, place_shown, spare_numbers, spare_pages, used_numbers}
-use Rattle.trio_edit_laws.specs.Calls.{MayCall, MayGoOn}
-use Rattle.trio_edit_laws.specs.DirLaws.{Changes, IsEmptyBody, LeavesFilled, StaysTree, node_made}
-use Rattle.trio_edit_laws.proofs.Shown.{shown_by}
+use Rattle.trio_edit_laws.specs.Calls.{MayGoOn}
+use Rattle.trio_edit_laws.specs.DirLaws.{IsEmptyBody, LeavesFilled, node_made}
 use Rattle.trio_edit_laws.proofs.directories.Filled.{fill_leaves, fill_shows}
-use Rattle.trio_walk.specs.Asks.{noted}
-use Rattle.trio_walk.specs.Walks.{InAllShown}
-use Rattle.trio_calls_dir.specs.inner.Goes.{making}
-use Rattle.trio_edit_laws.proofs.Noting.{may_noted as note_done}
 use Rattle.trio_calls_dir.proofs.MakesTree.{no_node_shown, tree_made}
 use Rattle.trio_calls_dir.proofs.Possible.{possible_filled}
 use Rattle.trio_edit_laws.proofs.Allotting.{spare_unmade}
-use Rattle.trio_session.specs.Deeds.{new_body}
-use Rattle.trio_edit_laws.proofs.directories.Sees.{sees_directory}
 
 -- the body of a new file
 abbrev pub body_made : Creds → Mode → Body

@@ -1,61 +1,15 @@
 -- A file is made in its directory: how the try goes by the room that was made.
-use Rattle.std.proofs.Common.{◌≡◌, ℕ, ◌%◌, ◌<◌, true, false, cond, List, [], ◌∷◌, ◌++◌, length, Option, Some, None, Result, Ok, Err, sym, refl, ap, ◌∙◌, subst, inl, inr, arith}
-use Rattle.std.specs.Prelude.{is_some, map, unwrap_or}
-use Rattle.std.specs.Option.{option_map_or}
-use Rattle.std.proofs.lemmas.List.{append-nil}
-use Rattle.trio_names.specs.Name.{is_name}
-use Rattle.trio_rights.specs.declared.kind.Kind.{Kind}
-use Rattle.trio_rights.specs.declared.kind.Kind.TheVariants.{Directory, Regular}
-use Rattle.trio_rights.specs.declared.rights.Creds.{Creds}
-use Rattle.trio_rights.specs.declared.rights.Mode.{Mode}
-use Rattle.trio_lists.specs.Lists.{In}
-use Rattle.trio_layout.specs.Body.{block_count, body_of}
-use Rattle.trio_layout.specs.declared.body.Body.{Body}
-use Rattle.trio_layout.specs.declared.range.CoreRange.{CoreRange}
-use Rattle.trio_auxdir.specs.declared.place.Place.{Place}
-use Rattle.trio_nodes.specs.declared.answers.AllotFault.{AllotFault}
-use Rattle.trio_nodes.specs.declared.answers.AllotFault.TheVariants.{NoInodes as NoFreeInodes, NoPages, NoMemory as NoAllotMemory}
-use Rattle.trio_nodes.specs.declared.call.Answer.TheVariants.{Done as IsDone}
-use Rattle.trio_nodes.specs.declared.call.Call.{Call}
-use Rattle.trio_nodes.specs.declared.call.Done.{Done}
-use Rattle.trio_nodes.specs.declared.call.Reply.{Reply}
-use Rattle.trio_nodes.specs.declared.call.Reply.TheVariants.{Ok as IsReplied, Exists, NoInodes, NoSpace}
-use Rattle.trio_nodes.specs.Nodes.{Nodes, find_named, with_node}
-use Rattle.trio_nodes.specs.Walk.{Path, dir_of, is_root, name_of, walk_into}
-use Rattle.trio_nodes.specs.After.{batch_nodes}
-use Rattle.trio_nodes.specs.Apply.{Applied, LacksRoom, applied, done, in_directory, is_done, makes_file, new_node, reached, refused}
-use Rattle.trio_desk.specs.Call.{Allot, Ask, DeskSeen, NotGiven, Told}
+use Rattle.trio_calls_dir.proofs.Words.{◌%◌, ◌++◌, ◌<◌, ◌∙◌, ◌∷◌, ◌≡◌, AfterTry, Allot, AllotFault, Applied, ArePossible, AreWithinLimits, Ask, AskedBy, Body, Busy, Call, ComesBy, ComesInto, ComesTo, CoreRange, Creds, DeskSeen, Directory, Done, Err, Exists, Goes, HasNumbers, HasPlaces, In, InAllShown, IsAlike, IsDone, IsNumber, IsOpenDir, IsReplied, Kind, LacksRoom, LeavesHere, List, MadeFile, MadeRoom, MayBeMade, MayCall, Mode, NoAllotMemory, NoFreeInodes, NoInodes, NoMemory, NoPages, NoSpace, Nodes, None, NotGiven, Ok, Option, Outcome, Path, Place, Regular, Replied, Reply, Result, RoomEnds, SessionSeen, Some, TakesMore, Target, Told, TryEnds, Wanted, [], alike_room, alike_then, allot_asks, allot_reply, ap, append-nil, applied, arith, as_lent, asks_fault, asks_short, batch_nodes, block_count, body_of, cond, dir_of, done, edited, empty_shown, false, fill, fill_alike, find_named, given_all, in_hand, inl, inr, is_done, is_name, is_root, is_some, length, made_by, making, map, may_alike, name_of, new_body, new_number, no_chain, noted, number_made, numbers_for, option_map_or, pages_for, place_shown, reached, refl, refused, short_ends, size_in, slot_growth, spare_numbers, spare_pages, subst, sym, told_fault, took, true, try_ends, walk_into, wants_of, with_node, with_slot, without_file, write_paths, ℕ}
+use Rattle.std.specs.Prelude.{unwrap_or}
+use Rattle.trio_nodes.specs.Apply.{in_directory, makes_file, new_node}
 use Rattle.trio_desk.specs.Calls as desk_calls
-use Rattle.trio_desk.specs.Contents.{AreWithinLimits}
-use Rattle.trio_desk.specs.Edits.{TakesMore}
-use Rattle.trio_desk.specs.Ready.{ArePossible}
-use Rattle.trio_laws.specs.session.DirCalls.{ComesInto, write_paths}
 use Rattle.trio_laws.proofs.session.DirCalls.{no_room_to_make}
 use Rattle.trio_laws.proofs.session.FileEdits.{body_stands}
-use Rattle.trio_session.specs.Layout.{size_in}
-use Rattle.trio_session.specs.Seen.{IsOpenDir, MadeFile, MayBeMade, SessionSeen, cleared_file, empty_shown, fill, in_hand, lowest, no_chain, place_shown, spare_number, spare_numbers, spare_pages}
-use Rattle.trio_edit_laws.specs.Allotting.{HasNumbers, Wanted}
-use Rattle.trio_edit_laws.specs.Calls.{MayCall}
-use Rattle.trio_edit_laws.proofs.Allotting.{asks_fault, asks_short, told_fault}
-use Rattle.trio_walk.specs.Asks.{AskedBy, TryEnds, noted}
-use Rattle.trio_walk.specs.Tries.{allot_reply}
-use Rattle.trio_walk.proofs.Then.{short_ends}
-use Rattle.trio_walk.specs.Walks.{InAllShown}
-use Rattle.trio_walk.specs.declared.outcome.Outcome.{Outcome}
-use Rattle.trio_walk.specs.declared.outcome.Outcome.TheVariants.{Busy, NoMemory, Replied}
-use Rattle.trio_calls_dir.specs.Asks.{ComesBy, ComesTo, Target, edited, made_by, numbers_for, pages_for, wants_of}
-use Rattle.trio_calls_dir.specs.inner.Goes.{AfterTry, Goes, IsNumber, LeavesHere, making, number_made, try_ends, without_file}
-use Rattle.trio_calls_dir.specs.inner.Rooms.{HasPlaces, MadeRoom, RoomEnds}
+use Rattle.trio_session.specs.Seen.{cleared_file, lowest, spare_number}
 use Rattle.trio_calls_dir.proofs.Ends.{may_looked}
 use Rattle.trio_calls_dir.proofs.MakesFill.{MayFill, above, body_made, calls_are, changes, may_noted}
 use Rattle.trio_edit_laws.proofs.Allotting.{spare_uncleared}
 use Rattle.trio_calls_dir.proofs.Then.{all_then}
-use Rattle.trio_session.specs.Asked.{IsAlike, allot_asks, took}
-use Rattle.trio_session.proofs.Alike.{alike_room, alike_then}
-use Rattle.trio_session.specs.Deeds.{as_lent, new_body, new_number, slot_growth, with_slot}
-use Rattle.trio_walk.proofs.Then.{given_all}
-use Rattle.trio_edit_laws.proofs.Alike.{may_alike}
-use Rattle.trio_session.proofs.Others.{fill_alike}
 
 -- What is known of a file that is to be made: the directory is open, and has no such name.
 pub record MayMake (desk : DeskSeen) (s : SessionSeen) (call' : Call) (kind' : Kind) (path' : Path) (mode' : Mode) (dir' : ℕ) : Type 0 where

@@ -1,37 +1,17 @@
 -- A new file is put into an open directory: the nodes stay one tree, and the body of a new file is read.
-use Rattle.std.proofs.Common.{◌≡◌, ℕ, ◌^◌, ◌<◌, ◌≤◌, Bool, true, false, cond, leb, List, [], Option, Some, None, sym, refl, ap, ◌∙◌, subst, ◌&&◌, arith}
-use Rattle.std.specs.Prelude.{map}
-use Rattle.std.specs.Option.{option_map}
+use Rattle.trio_calls_dir.proofs.Words.{◌&&◌, ◌<◌, ◌^◌, ◌∙◌, ◌≡◌, ◌≤◌, Body, Bool, Child-find_named, CoreRange, DeskSeen, Directory, HasRights, In, IsDirectory, IsTree, IsView, Kind, List, MayEdit, MayShow, Node, Nodes, None, Option, Regular, Rights, Row, SessionSeen, Some, [], ap, arith, block_count, bytes_now, case_in_hand, cond, false, find_named, in_hand, ino_numbers, is_among, leb, made_file, map, naming_of, node_at, option_map, refl, rights_of, subst, sym, true, with_bytes, with_node, ℕ}
 use Rattle.std.specs.Str.{bytes_eq}
 use Rattle.std.proofs.lemmas.Bool.{and_from, le-leb}
-use Rattle.trio_rights.specs.Row.{Row}
-use Rattle.trio_rights.specs.declared.kind.Kind.{Kind}
-use Rattle.trio_rights.specs.declared.kind.Kind.TheVariants.{Directory, Regular}
-use Rattle.trio_lists.specs.Lists.{In, is_among}
-use Rattle.trio_layout.specs.Body.{IsNarrowBody, block_count, body_at, body_bytes, body_fits, body_of, head_fits, size_fits}
+use Rattle.trio_layout.specs.Body.{IsNarrowBody, body_at, body_bytes, body_fits, body_of, head_fits, size_fits}
 use Rattle.trio_layout.specs.Range.{core_count}
-use Rattle.trio_layout.specs.declared.body.Body.{Body}
-use Rattle.trio_layout.specs.declared.range.CoreRange.{CoreRange}
 use Rattle.trio_layout.proofs.Bodies.{is_read}
 use Rattle.trio_layout.proofs.Reading.{true-bytes_eq}
-use Rattle.trio_nodes.specs.declared.node.Node.{Node}
-use Rattle.trio_nodes.specs.Nodes.{Nodes, find_named, node_at, with_node}
-use Rattle.trio_nodes.specs.Tree.{IsDirectory, IsTree}
-use Rattle.trio_onetree.proofs.Children.{Child-find_named, found_live, path_found-is}
+use Rattle.trio_onetree.proofs.Children.{found_live, path_found-is}
 use Rattle.trio_onetree.proofs.TreePut.{tree_put}
-use Rattle.trio_desk.specs.Agrees.{HasRights}
-use Rattle.trio_desk.specs.Call.{DeskSeen}
-use Rattle.trio_desk.specs.Contents.{Rights, rights_of}
-use Rattle.trio_desk.specs.Edits.{MayShow}
-use Rattle.trio_desk.specs.Out.{ino_numbers}
 use Rattle.trio_desk.specs.Ready.{bundle_of}
-use Rattle.trio_desk.specs.Shows.{bytes_now, naming_of, node_left, with_bytes}
-use Rattle.trio_laws.specs.session.Sees.{IsView}
-use Rattle.trio_laws.specs.session.Takes.{case_in_hand}
+use Rattle.trio_desk.specs.Shows.{node_left}
 use Rattle.trio_laws.proofs.session.Stands.{named_alike}
 use Rattle.trio_laws.proofs.session.TakenHold.{held_by}
-use Rattle.trio_session.specs.Seen.{SessionSeen, in_hand, made_file}
-use Rattle.trio_edit_laws.specs.Written.{MayEdit}
 use Rattle.trio_edit_laws.proofs.directories.Filled.{unnamed}
 
 -- ---- bodies

@@ -1,39 +1,9 @@
 -- A file is made: its walk, and the look-up of its name.
-use Rattle.std.proofs.Common.{◌≡◌, ℕ, ◌<◌, Bool, true, false, cond, [], ◌∷◌, ◌++◌, length, Option, Some, None, Result, Ok, Err, sym, refl, ap, ◌∙◌, subst}
-use Rattle.std.specs.Prelude.{MatchResult}
-use Rattle.std.proofs.lemmas.List.{append-nil}
-use Rattle.trio_rights.specs.declared.kind.Kind.{Kind}
-use Rattle.trio_rights.specs.declared.kind.Kind.TheVariants.{Directory, Regular}
-use Rattle.trio_rights.specs.declared.rights.Creds.{Creds}
-use Rattle.trio_rights.specs.declared.rights.Mode.{Mode}
-use Rattle.trio_nodes.specs.declared.call.Call.{Call}
-use Rattle.trio_nodes.specs.declared.call.Reply.{Reply}
-use Rattle.trio_nodes.specs.declared.call.Reply.TheVariants.{Exists}
-use Rattle.trio_nodes.specs.Nodes.{Nodes, find_named}
-use Rattle.trio_nodes.specs.Walk.{Path, dir_of, is_root, name_of, walk_into}
-use Rattle.trio_nodes.specs.After.{batch_nodes}
-use Rattle.trio_desk.specs.Call.{Ask, DeskSeen, Told}
-use Rattle.trio_laws.specs.session.DirCalls.{ComesInto, early_refusal, name_refusal}
-use Rattle.trio_laws.proofs.session.DirCalls.{refused_by_name, refused_by_path}
-use Rattle.trio_session.specs.Seen.{SessionSeen}
-use Rattle.trio_edit_laws.specs.Calls.{MayCall}
-use Rattle.trio_walk.specs.declared.walks.WalkEnd.{WalkEnd}
-use Rattle.trio_walk.specs.declared.walks.WalkEnd.TheVariants.{At}
-use Rattle.trio_walk.specs.Needs.{into_needs, reached_by, dir_needs}
-use Rattle.trio_walk.specs.Walks.{InAllShown, IsStopped, MayWalk, Walked, WalksInto, shows_root}
-use Rattle.trio_walk.specs.Asks.{IsNotBusy}
-use Rattle.trio_walk.specs.declared.outcome.Outcome.{Outcome}
-use Rattle.trio_walk.specs.declared.outcome.Outcome.TheVariants.{Busy}
+use Rattle.trio_calls_dir.proofs.Words.{◌++◌, ◌<◌, ◌∙◌, ◌∷◌, ◌≡◌, Ask, At, Bool, Busy, Call, ComesInto, Creds, DeskSeen, Directory, Err, Exists, Goes, InAllShown, IsAlike, IsNotBusy, IsStopped, Kind, LacksMemory, MatchResult, MayCall, MayWalk, Mode, Nodes, None, Ok, Option, OthersHold, Outcome, Path, Regular, Reply, Result, SessionSeen, Some, Stop, StopsBy, Told, WalkEnd, Walked, WalksInto, [], ap, append-nil, batch_nodes, cond, dir_needs, dir_of, early_refusal, false, find_named, into_needs, is_root, length, making, may_alike, name_of, name_refusal, number_made, reached_by, refl, refused_by_name, refused_by_path, shows_root, subst, sym, true, try_ends, walk_into, ℕ}
 use Rattle.trio_calls_dir.specs.declared.replies.Replied as replied
-use Rattle.trio_walk.specs.declared.outcome.Stop.{Stop}
-use Rattle.trio_walk.specs.declared.outcome.Stop.TheVariants.{NoMemory as LacksMemory}
-use Rattle.trio_calls_dir.specs.inner.Goes.{Goes, StopsBy, making, number_made, try_ends}
-use Rattle.trio_walk.specs.Tries.{OthersHold}
 use Rattle.trio_calls_dir.proofs.Ends.{refused_goes}
 use Rattle.trio_calls_dir.proofs.Entered.{IsOneName, comes_into, one_goes, one_stops}
 use Rattle.trio_calls_dir.proofs.Walked.{way_may}
-use Rattle.trio_session.specs.Asked.{IsAlike}
-use Rattle.trio_edit_laws.proofs.Alike.{may_alike}
 
 -- the call is on one name, and its directory is written
 making_one : (kind : Kind) (path : Path) (mode : Mode) → is_root path ≡ false → IsOneName (making kind path mode) path

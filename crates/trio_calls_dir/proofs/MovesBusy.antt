@@ -1,52 +1,17 @@
 -- What the walks of a rename take excludes none of its later grants.
-use Rattle.std.proofs.Common.{◌≡◌, ℕ, Bool, true, false, cond, eqb, List, [], ◌∷◌, ◌++◌, Option, Some, None, Result, Ok, Err, sym, refl, ap, ◌∙◌, subst, inl, inr}
-use Rattle.std.specs.Prelude.{is_some, map}
-use Rattle.std.proofs.lemmas.List.{append-nil}
-use Rattle.trio_rights.specs.Row.{Row}
-use Rattle.trio_rights.specs.declared.rights.Creds.{Creds}
-use Rattle.trio_rights.specs.declared.rights.Need.{Need}
+use Rattle.trio_calls_dir.proofs.Words.{◌++◌, ◌∙◌, ◌∷◌, ◌≡◌, ArePossible, Ask, At, Bool, Busy, BusyGrant, Call, Creds, DeskSeen, Done, Err, Grant, GrantKind, HasNothing, Hold, HoldLease, Holder, In, In-cases, In-map, In-right, IsBusyWalk, IsOut, IsRename, IsReply, IsStopped, IsTree, Lease, List, MayWalk, Need, Needed, NeedsBusyAt, NoMemory, NoWalkMemory, Node, Nodes, None, NotLent, Ok, Option, OthersHold, Outcome, Path, Read, ReadLease, Replied, Reply, Result, Row, SessionSeen, Some, Stop, StopsBy, Told, WalkEnd, Walked, WalksInto, WriteLease, [], across_needs, ap, append-nil, asked, asked_beside-In, batch_nodes, both_dirs, cond, dir_of, eqb, false, find_named, in_order, inl, inr, into_needs, is_some, kind_for, kind_lent, lib_same, map, moving_needs, name_of, need_at, need_of, node_at, node_needs, option_map_or, possible_then, reached_by, refl, served_by, shows_root, subst, sym, true, try_ends, walk_into, with_leases, ℕ}
 use Rattle.trio_rights.specs.declared.rights.Need.TheVariants.{Read as NeedsRead, Write as NeedsWrite}
-use Rattle.trio_lists.specs.Lists.{In}
-use Rattle.trio_lists.proofs.Members.{In-cases, In-left, In-map, In-right}
-use Rattle.trio_lease.specs.declared.lease.Lease.{Lease}
-use Rattle.trio_lease.specs.declared.lease.Lease.TheVariants.{Write as WriteLease, Read as ReadLease, Hold as HoldLease}
-use Rattle.trio_nodes.specs.declared.grant.GrantKind.{GrantKind}
-use Rattle.trio_nodes.specs.declared.grant.GrantKind.TheVariants.{Hold, Read, Write}
-use Rattle.trio_nodes.specs.declared.grant.Holder.{Holder}
-use Rattle.trio_nodes.specs.declared.answers.GrantFault.TheVariants.{Busy as BusyGrant}
-use Rattle.trio_nodes.specs.declared.call.Call.{Call}
-use Rattle.trio_nodes.specs.declared.call.Done.{Done}
-use Rattle.trio_nodes.specs.declared.call.Reply.{Reply}
-use Rattle.trio_nodes.specs.declared.node.Node.{Node}
-use Rattle.trio_nodes.specs.Nodes.{Nodes, find_named, node_at}
-use Rattle.trio_nodes.specs.Tree.{IsTree}
-use Rattle.trio_nodes.specs.Walk.{Path, dir_of, name_of, need_at, walk_into}
-use Rattle.trio_nodes.specs.After.{batch_nodes}
-use Rattle.trio_desk.specs.Call.{Ask, DeskSeen, Grant, Told, NotLent}
-use Rattle.trio_desk.specs.Out.{kind_lent}
-use Rattle.trio_desk.specs.Ready.{ArePossible}
-use Rattle.trio_session.specs.Seen.{SessionSeen}
-use Rattle.trio_walk.specs.declared.walks.WalkEnd.{WalkEnd}
-use Rattle.trio_walk.specs.declared.walks.WalkEnd.TheVariants.{At, Reply as IsReply, Busy as IsBusyWalk, NoMemory as NoWalkMemory}
-use Rattle.trio_walk.specs.Needs.{Needed, asked, into_needs, kind_for, node_needs, reached_by, moving_needs}
-use Rattle.trio_walk.specs.Walks.{IsStopped, MayWalk, Walked, WalksInto, need_of, served_by, shows_root, with_leases}
-use Rattle.trio_walk.specs.declared.outcome.Outcome.{Outcome}
-use Rattle.trio_walk.specs.declared.outcome.Outcome.TheVariants.{Busy, NoMemory, Replied}
-use Rattle.trio_walk.proofs.Agreeing.{IsNeedAt, asked_beside-In, in_order, into_need, need_one}
-use Rattle.trio_walk.proofs.Possible.{lib_same}
-use Rattle.std.specs.Option.{option_map_or}
+use Rattle.trio_lists.proofs.Members.{In-left}
+use Rattle.trio_nodes.specs.declared.grant.GrantKind.TheVariants.{Write}
+use Rattle.trio_walk.proofs.Agreeing.{IsNeedAt, into_need, need_one}
 use Rattle.trio_calls_dir.specs.declared.replies.Replied as replied
-use Rattle.trio_walk.specs.declared.outcome.Stop.{Stop}
-use Rattle.trio_calls_dir.specs.inner.Goes.{StopsBy, try_ends}
-use Rattle.trio_walk.specs.Tries.{OthersHold, HasNothing}
-use Rattle.trio_calls_dir.specs.inner.Moves.{IsOut, IsRename, NeedsBusyAt, OwnKeepsOff, across_needs, both_dirs}
+use Rattle.trio_calls_dir.specs.inner.Moves.{OwnKeepsOff}
 use Rattle.trio_calls_dir.proofs.MovesPaths.{not_on_way}
 use Rattle.trio_calls_dir.proofs.MovesWalk.{shown_tree, still_out}
 use Rattle.trio_calls_dir.proofs.OnWay.{IsOnWay, into_alike, not_below, on_way, root_entered}
 use Rattle.trio_calls_dir.proofs.Others.{nothing_own}
 use Rattle.trio_calls_dir.proofs.OwnBusy.{Excludes, busy_by, lent_number, off_more}
 use Rattle.trio_calls_dir.proofs.Walked.{way_calls, way_more, way_same}
-use Rattle.trio_walk.proofs.Then.{possible_then}
 
 -- what is needed of a file that moves is a hold on it
 moving_need : (now : Nodes) (from to : Path) (dir new_dir : ℕ) (x : Needed) → In x (moving_needs now from to dir new_dir) → (find_named now dir (name_of from) ≡ Some x.ino) × (x.kind ≡ Hold)

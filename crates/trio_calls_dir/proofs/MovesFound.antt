@@ -1,41 +1,13 @@
 -- A rename at the names in its two directories.
-use Rattle.std.proofs.Common.{◌≡◌, ◌<◌, ℕ, Bool, true, false, cond, eqb, List, [], ◌∷◌, length, Option, Some, None, Result, sym, refl, ap, ◌∙◌, subst}
-use Rattle.std.specs.Prelude.{MatchResult, is_some, map}
-use Rattle.std.specs.Option.{option_map_or}
-use Rattle.std.proofs.lemmas.Bool.{false≢true}
-use Rattle.trio_lists.specs.Lists.{In}
+use Rattle.trio_calls_dir.proofs.Words.{◌<◌, ◌∙◌, ◌∷◌, ◌≡◌, ArePossible, Ask, Bool, Busy, Call, ComesAcross, DeskSeen, Exists, FindsEntry, Goes, Hold, In, InAllShown, IsAcross, IsAlike, IsFound, IsFree, IsMetIn, LacksMemory, List, LooksUp, MatchResult, MayLookIn, Met, Needed, NeedsBusyAt, NoMemory, Node, Nodes, None, NotFound, Option, Outcome, Path, Replied, Result, SessionSeen, Some, Stop, Told, Went, [], alike_finds, ap, asked, batch_nodes, cond, eqb, false, false≢true, find_named, grant_ask, is_some, length, map, may_alike, moving_needs, name_of, node_at, node_needs, number_made, option_map_or, place_shown, refl, served_by, subst, sym, true, try_ends, ℕ}
 use Rattle.trio_names.specs.Name.{IsName}
-use Rattle.trio_nodes.specs.declared.grant.GrantKind.TheVariants.{Hold}
-use Rattle.trio_nodes.specs.declared.call.Call.{Call}
-use Rattle.trio_nodes.specs.declared.call.Reply.TheVariants.{Exists, NotFound}
-use Rattle.trio_nodes.specs.declared.node.Node.{Node}
-use Rattle.trio_nodes.specs.Nodes.{Nodes, find_named, node_at}
-use Rattle.trio_nodes.specs.Walk.{Path, name_of}
-use Rattle.trio_nodes.specs.After.{batch_nodes}
-use Rattle.trio_desk.specs.Call.{Ask, DeskSeen, Told}
-use Rattle.trio_desk.specs.Ready.{ArePossible}
-use Rattle.trio_laws.specs.session.DirCalls.{ComesAcross}
 use Rattle.trio_laws.proofs.session.DirCalls.{rename_refused_by_name}
-use Rattle.trio_session.specs.Seen.{SessionSeen, place_shown}
-use Rattle.trio_walk.specs.declared.met.Met.{Met}
-use Rattle.trio_walk.specs.Needs.{Needed, asked, node_needs, moving_needs}
-use Rattle.trio_walk.specs.Walks.{FindsEntry, InAllShown, IsMetIn, LooksUp, MayLookIn, served_by}
-use Rattle.trio_walk.specs.Asks.{grant_ask}
-use Rattle.trio_walk.specs.declared.outcome.Outcome.{Outcome}
-use Rattle.trio_walk.specs.declared.outcome.Outcome.TheVariants.{Busy, NoMemory, Replied}
 use Rattle.trio_calls_dir.specs.declared.replies.Replied as replied
-use Rattle.trio_walk.specs.declared.outcome.Stop.{Stop}
-use Rattle.trio_walk.specs.declared.outcome.Stop.TheVariants.{NoMemory as LacksMemory}
-use Rattle.trio_calls_dir.specs.inner.Goes.{Goes, Went, number_made, try_ends}
-use Rattle.trio_calls_dir.specs.inner.Moves.{IsAcross, IsFound, IsFree, NeedsBusyAt}
 use Rattle.trio_calls_dir.proofs.Ends.{refused_goes}
 use Rattle.trio_calls_dir.proofs.Entered.{open_alike}
 use Rattle.trio_calls_dir.proofs.OwnBusy.{busy_by}
 use Rattle.trio_calls_dir.proofs.RemovesWalk.{finds_alike}
 use Rattle.trio_calls_dir.proofs.Then.{goes_on}
-use Rattle.trio_session.specs.Asked.{IsAlike}
-use Rattle.trio_session.proofs.Alike.{alike_finds}
-use Rattle.trio_edit_laws.proofs.Alike.{may_alike}
 
 -- ---- after a look-up
 

@@ -1,37 +1,6 @@
 -- A file that moves to another directory is held first.
-use Rattle.std.proofs.Common.{◌≡◌, ◌<◌, ℕ, true, cond, eqb, List, [], ◌∷◌, length, Option, Some, None, Result, Ok, Err, sym, refl, ap, ◌∙◌, subst, inl}
-use Rattle.std.specs.Prelude.{MatchResult, is_some}
-use Rattle.std.specs.Option.{option_map_or}
-use Rattle.std.proofs.lemmas.Bool.{ne_eqb}
-use Rattle.std.proofs.lemmas.List.{append-nil}
-use Rattle.trio_rights.specs.declared.rights.Creds.{Creds}
-use Rattle.trio_lists.specs.Lists.{In}
-use Rattle.trio_nodes.specs.declared.grant.GrantKind.TheVariants.{Hold}
-use Rattle.trio_nodes.specs.declared.grant.Holder.{Holder}
-use Rattle.trio_nodes.specs.declared.call.Call.{Call}
-use Rattle.trio_nodes.specs.declared.call.Reply.TheVariants.{IntoItself}
-use Rattle.trio_nodes.specs.declared.node.Node.{Node}
-use Rattle.trio_nodes.specs.Nodes.{Nodes, find_named, node_at}
-use Rattle.trio_nodes.specs.Tree.{IsTree}
-use Rattle.trio_nodes.specs.Walk.{Path, dir_of, name_of, walk_into}
-use Rattle.trio_nodes.specs.After.{batch_nodes}
-use Rattle.trio_onetree.proofs.TreeStays.{tree_stays_through}
-use Rattle.trio_desk.specs.Call.{Ask, DeskSeen, Told}
-use Rattle.trio_laws.specs.session.DirCalls.{ComesAcross, write_paths}
-use Rattle.trio_session.specs.Seen.{SessionSeen}
-use Rattle.trio_walk.specs.declared.met.Met.{Met}
-use Rattle.trio_walk.specs.declared.walks.WalkEnd.TheVariants.{Busy as IsBusyWalk, NoMemory as NoWalkMemory}
-use Rattle.trio_walk.specs.Needs.{Needed, node_needs, moving_needs}
-use Rattle.trio_walk.specs.Walks.{InAllShown, IsListed, Took}
-use Rattle.trio_walk.specs.declared.outcome.Outcome.{Outcome}
-use Rattle.trio_walk.specs.declared.outcome.Outcome.TheVariants.{Busy, NoMemory, Replied}
-use Rattle.trio_walk.proofs.Agreeing.{in_order}
+use Rattle.trio_calls_dir.proofs.Words.{◌<◌, ◌∙◌, ◌∷◌, ◌≡◌, Ask, Busy, Call, ComesAcross, Creds, DeskSeen, Err, Goes, Hold, Holder, In, InAllShown, IntoItself, IsAcross, IsBusyWalk, IsFound, IsFree, IsListed, IsNotBusy, IsRename, IsTree, LacksMemory, List, MatchResult, MayMove, Met, Needed, NeedsBusyAt, NoMemory, NoWalkMemory, Node, Nodes, None, Ok, Option, Outcome, Path, Replied, Result, SessionSeen, Some, Stop, Told, Took, [], ap, append-nil, batch_nodes, both_dirs, cond, dir_of, eqb, find_named, in_order, inl, is_some, length, moving_needs, name_of, ne_eqb, node_at, node_needs, number_made, option_map_or, refl, subst, sym, tree_stays_through, true, try_ends, walk_into, write_paths, ℕ}
 use Rattle.trio_calls_dir.specs.declared.replies.Replied as replied
-use Rattle.trio_walk.specs.declared.outcome.Stop.{Stop}
-use Rattle.trio_walk.specs.declared.outcome.Stop.TheVariants.{NoMemory as LacksMemory}
-use Rattle.trio_calls_dir.specs.inner.Goes.{Goes, number_made, try_ends}
-use Rattle.trio_walk.specs.Asks.{IsNotBusy}
-use Rattle.trio_calls_dir.specs.inner.Moves.{IsAcross, IsFound, IsFree, IsRename, MayMove, NeedsBusyAt, both_dirs}
 use Rattle.trio_calls_dir.proofs.Ends.{refused_goes}
 use Rattle.trio_calls_dir.proofs.Held as holding
 use Rattle.trio_calls_dir.proofs.MovesPaths.{not_on_way}

@@ -1,31 +1,9 @@
 -- A rename by its paths: which it refuses, and what the others need.
-use Rattle.std.proofs.Common.{◌≡◌, ◌<◌, ℕ, Bool, true, false, cond, List, [], ◌∷◌, ◌++◌, length, Option, Some, None, Result, Ok, Err, sym, refl, ap, ◌∙◌, subst, append_assoc}
-use Rattle.std.specs.Prelude.{MatchResult}
-use Rattle.std.proofs.lemmas.Bool.{false≢true}
+use Rattle.trio_calls_dir.proofs.Words.{◌++◌, ◌<◌, ◌∙◌, ◌∷◌, ◌≡◌, Ask, Bool, Call, Creds, Denied, DeskSeen, Err, Exists, Goes, IntoItself, IsAt, IsRefusal, IsRename, IsTree, LacksMemory, List, MatchResult, MayCall, Needed, Nodes, None, Ok, Option, Path, Rename, Reply, Result, SessionSeen, Some, Stop, Told, [], across_needs, ap, append_assoc, batch_nodes, both_dirs, cond, dir_needs, dir_of, early_refusal, false, false≢true, find_named, in_order, into_needs, is_above, is_root, length, moving_needs, name_of, number_made, one_path, reached_by, refl, refused_by_path, shows_root, subst, sym, true, try_ends, walk_into, ℕ}
 use Rattle.std.proofs.lemmas.Slice.Eq.{bytes_eq-Decides}
-use Rattle.trio_rights.specs.declared.rights.Creds.{Creds}
-use Rattle.trio_nodes.specs.declared.call.Call.{Call}
-use Rattle.trio_nodes.specs.declared.call.Call.TheVariants.{Rename}
-use Rattle.trio_nodes.specs.declared.call.Reply.{Reply}
-use Rattle.trio_nodes.specs.declared.call.Reply.TheVariants.{Denied, Exists, IntoItself}
-use Rattle.trio_nodes.specs.Nodes.{Nodes, find_named}
-use Rattle.trio_nodes.specs.Tree.{IsTree}
-use Rattle.trio_nodes.specs.Walk.{Path, dir_of, is_above, is_root, name_of, walk_into}
-use Rattle.trio_nodes.specs.After.{batch_nodes}
 use Rattle.trio_onetree.proofs.CallCases.{dir_and_name}
-use Rattle.trio_desk.specs.Call.{Ask, DeskSeen, Told}
-use Rattle.trio_laws.specs.session.DirCalls.{early_refusal}
-use Rattle.trio_laws.proofs.session.DirCalls.{refused_by_path}
-use Rattle.trio_session.specs.Seen.{SessionSeen}
-use Rattle.trio_edit_laws.specs.Calls.{MayCall}
-use Rattle.trio_walk.specs.Needs.{Needed, into_needs, reached_by, dir_needs, moving_needs, rename_needs}
-use Rattle.trio_walk.specs.Walks.{shows_root}
-use Rattle.trio_walk.proofs.Agreeing.{IsAt, in_order, one_path}
+use Rattle.trio_walk.specs.Needs.{rename_needs}
 use Rattle.trio_calls_dir.specs.declared.replies.Replied as replied
-use Rattle.trio_walk.specs.declared.outcome.Stop.{Stop}
-use Rattle.trio_walk.specs.declared.outcome.Stop.TheVariants.{NoMemory as LacksMemory}
-use Rattle.trio_calls_dir.specs.inner.Goes.{Goes, IsRefusal, number_made, try_ends}
-use Rattle.trio_calls_dir.specs.inner.Moves.{IsRename, across_needs, both_dirs}
 use Rattle.trio_calls_dir.proofs.Ends.{refused_goes}
 use Rattle.trio_calls_dir.proofs.OnWay.{into_alike, into_at, root_entered}
 

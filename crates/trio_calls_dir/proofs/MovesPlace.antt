@@ -1,57 +1,21 @@
 -- A file that is had moves to an empty slot of another directory.
-use Rattle.std.proofs.Common.{◌≡◌, ◌<◌, ℕ, ◌%◌, Bool, true, false, cond, ltb, leb, ltb-true, List, [], ◌∷◌, length, Option, Some, None, sym, refl, ap, ◌∙◌, subst, inl, inr, ◌&&◌}
-use Rattle.std.specs.Prelude.{is_some, slice_index_or}
-use Rattle.std.specs.Option.{option_and_then, option_map, option_map_or, option_or}
-use Rattle.std.proofs.lemmas.Bool.{and_parts, eqb-true, false≢true}
-use Rattle.trio_lists.specs.Lists.{In, is_among}
-use Rattle.trio_lists.proofs.Members.{In-is_among, is_among-In}
-use Rattle.trio_names.specs.Name.{is_name}
-use Rattle.trio_auxdir.specs.declared.place.Place.{Place}
+use Rattle.trio_calls_dir.proofs.Words.{◌%◌, ◌&&◌, ◌<◌, ◌∙◌, ◌∷◌, ◌≡◌, Body, Bool, Call, Chain, Changes, DeskSeen, Directory, DoesCall, EntryPart, HoldParts, In, In-is_among, InAllShown, IsDone, IsRename, IsReplied, IsTree, Kind, LeavesCleared, List, MadeFile, MayCall, MayMove, MayPut, Met, Nodes, None, Option, Path, Place, SessionSeen, Shown, Some, StaysTree, [], ap, batch_nodes, block_count, body_in, body_of, chain_in, clear, clear_leaves, cond, done_is_tree, empty_shown, entry_in, entry_shown, eqb-true, every_number, false, false≢true, fill, held_file, inl, ino_numbers, inr, is_allotted, is_among, is_among-In, is_name, is_some, leb, length, ltb, made_body, made_file, moved_shown, moves_entry, name_of, no_chain, noted, open_chain, open_kind, option_and_then, option_map, option_map_or, option_or, place_in, refl, size_fits-body_of, size_in, slot_bytes, slot_of, subst, sym, tree_stays_through, true, with_changed, written_file, ℕ}
+use Rattle.std.proofs.Common.{ltb-true}
+use Rattle.std.specs.Prelude.{slice_index_or}
+use Rattle.std.proofs.lemmas.Bool.{and_parts}
 use Rattle.trio_auxdir.specs.Places.{first_empty}
-use Rattle.trio_rights.specs.declared.kind.Kind.{Kind}
-use Rattle.trio_rights.specs.declared.kind.Kind.TheVariants.{Directory}
-use Rattle.trio_layout.specs.Body.{block_count, body_of}
-use Rattle.trio_layout.specs.Chain.{Chain}
-use Rattle.trio_layout.specs.declared.body.Body.{Body}
-use Rattle.trio_layout.specs.Entries.{slot_bytes}
-use Rattle.trio_layout.specs.Slot.{slot_of}
-use Rattle.trio_layout.specs.declared.slot.EntryPart.{EntryPart}
 use Rattle.trio_layout.specs.declared.slot.SlotRead.{SlotRead}
 use Rattle.trio_layout.specs.declared.slot.SlotRead.TheVariants.{Bad, Empty, Entry}
-use Rattle.trio_lease.specs.Shown.{Shown}
-use Rattle.trio_lease.specs.declared.parts.HoldParts.{HoldParts}
-use Rattle.trio_nodes.specs.declared.call.Answer.TheVariants.{Done as IsDone}
-use Rattle.trio_nodes.specs.declared.call.Call.{Call}
-use Rattle.trio_nodes.specs.declared.call.Reply.TheVariants.{Ok as IsReplied}
-use Rattle.trio_nodes.specs.Nodes.{Nodes}
-use Rattle.trio_nodes.specs.Tree.{IsTree}
-use Rattle.trio_nodes.specs.Walk.{Path, name_of}
-use Rattle.trio_nodes.specs.After.{batch_nodes}
-use Rattle.trio_onetree.proofs.TreeStays.{tree_stays_through}
-use Rattle.trio_desk.specs.Call.{DeskSeen}
-use Rattle.trio_desk.specs.Edits.{DoesCall}
-use Rattle.trio_desk.specs.Out.{ino_numbers}
-use Rattle.trio_laws.specs.session.SlotEdits.{moved, with_changed}
-use Rattle.trio_laws.proofs.session.DirCalls.{done_is_tree, moves_entry}
-use Rattle.trio_session.specs.Layout.{size_in}
-use Rattle.trio_session.specs.Seen.{MadeFile, SessionSeen, block_shown, body_in, chain_in, clear, empty_shown, entry_in, entry_shown, every_number, fill, held_file, is_allotted, kept_chain, made_body, made_file, no_chain, open_kind, place_in, written_file}
-use Rattle.trio_edit_laws.specs.Calls.{MayCall}
-use Rattle.trio_edit_laws.specs.DirLaws.{AsHeld, AsMade, Changes, IsMoved, LeavesCleared, LeavesMoved, StaysTree}
+use Rattle.trio_laws.specs.session.SlotEdits.{moved}
+use Rattle.trio_session.specs.Seen.{block_shown, kept_chain}
+use Rattle.trio_edit_laws.specs.DirLaws.{AsHeld, AsMade, IsMoved, LeavesMoved}
 use Rattle.trio_edit_laws.proofs.Anew.{body-made}
-use Rattle.trio_edit_laws.proofs.OpenChain.{open_chain}
-use Rattle.trio_edit_laws.proofs.Sized.{size_fits-body_of}
-use Rattle.trio_edit_laws.proofs.directories.Cleared.{clear_leaves}
 use Rattle.trio_edit_laws.proofs.directories.Fronts.{fits_from}
 use Rattle.trio_edit_laws.proofs.directories.Moves.{move_leaves, move_shows}
-use Rattle.trio_walk.specs.declared.met.Met.{Met}
-use Rattle.trio_walk.specs.Walks.{InAllShown}
-use Rattle.trio_walk.specs.Asks.{noted}
-use Rattle.trio_calls_dir.specs.inner.Moves.{IsRename, MayMove}
-use Rattle.trio_deeds.specs.Slots.{BringsMade, MayPut}
+use Rattle.trio_deeds.specs.Slots.{BringsMade}
 use Rattle.trio_calls_dir.proofs.EditDone.{as_done, may_done}
 use Rattle.trio_calls_dir.proofs.Possible.{possible_clear, possible_filled}
 use Rattle.trio_calls_dir.proofs.TreeAlike.{changed_alike, tree_alike}
-use Rattle.trio_session.specs.Deeds.{moved_shown}
 
 -- ---- what it takes with it
 

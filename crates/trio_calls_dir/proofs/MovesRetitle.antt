@@ -1,42 +1,11 @@
 -- A file gets another name in its directory.
-use Rattle.std.proofs.Common.{◌≡◌, ◌<◌, ℕ, Bool, true, false, cond, eqb, List, [], ◌++◌, length, Option, Some, Result, Ok, Err, sym, refl, ap, ◌∙◌, subst, eq-eqb}
-use Rattle.std.specs.Prelude.{MatchResult, is_some, map}
-use Rattle.trio_auxdir.specs.declared.place.Place.{Place}
-use Rattle.trio_rights.specs.Row.{Row}
-use Rattle.trio_rights.specs.declared.rights.Creds.{Creds}
-use Rattle.trio_layout.specs.declared.slot.EntryPart.{EntryPart}
-use Rattle.trio_nodes.specs.declared.call.Answer.TheVariants.{Done as IsDone}
-use Rattle.trio_nodes.specs.declared.call.Call.{Call}
-use Rattle.trio_nodes.specs.declared.call.Call.TheVariants.{Rename}
-use Rattle.trio_nodes.specs.declared.call.Done.{Done}
-use Rattle.trio_nodes.specs.declared.call.Reply.TheVariants.{Ok as IsReplied}
-use Rattle.trio_nodes.specs.Nodes.{Nodes}
-use Rattle.trio_nodes.specs.Tree.{IsTree}
-use Rattle.trio_nodes.specs.Walk.{Path, dir_of, name_of, walk_into}
-use Rattle.trio_nodes.specs.After.{batch_nodes}
-use Rattle.trio_nodes.specs.Apply.{applied, is_done}
-use Rattle.trio_onetree.proofs.TreeStays.{tree_stays_through}
-use Rattle.trio_desk.specs.Call.{Ask, DeskSeen, Told}
-use Rattle.trio_desk.specs.Edits.{DoesCall}
-use Rattle.trio_desk.specs.Ready.{ArePossible}
-use Rattle.trio_laws.specs.session.DirCalls.{write_paths}
-use Rattle.trio_laws.specs.session.SlotEdits.{retitled, with_changed}
-use Rattle.trio_laws.proofs.session.DirCalls.{done_is_tree, retitles_entry}
-use Rattle.trio_session.specs.Seen.{SessionSeen, retitle}
-use Rattle.trio_edit_laws.specs.Calls.{MayCall}
-use Rattle.trio_edit_laws.specs.DirLaws.{Changes, LeavesRetitled, StaysTree}
+use Rattle.trio_calls_dir.proofs.Words.{◌++◌, ◌<◌, ◌∙◌, ◌≡◌, ArePossible, Ask, Bool, Call, Changes, ComesBy, ComesTo, Creds, DeskSeen, DoesCall, Done, EntryPart, Err, Goes, InAllShown, IsAcross, IsAlike, IsDone, IsFound, IsFree, IsRename, IsReplied, IsTree, LacksMemory, List, MatchResult, MayCall, Met, Nodes, Ok, Option, Path, Place, Rename, Replied, Result, Row, SessionSeen, Some, StaysTree, Stop, Target, Told, [], alike_room, alike_then, allot_asks, ap, applied, asked, batch_nodes, both_dirs, cond, dir_of, done_is_tree, edited, eqb, false, grant_ask, is_done, is_some, length, made_by, map, may_alike, moved, moving_needs, name_of, noted, number_made, refl, retitle, served_by, slot_growth, subst, sym, tree_stays_through, true, try_ends, walk_into, wants_of, with_changed, write_paths, ℕ}
+use Rattle.std.proofs.Common.{eq-eqb}
+use Rattle.trio_laws.specs.session.SlotEdits.{retitled}
+use Rattle.trio_laws.proofs.session.DirCalls.{retitles_entry}
+use Rattle.trio_edit_laws.specs.DirLaws.{LeavesRetitled}
 use Rattle.trio_edit_laws.proofs.directories.Retitled.{retitle_leaves, retitle_shows}
-use Rattle.trio_walk.specs.declared.met.Met.{Met}
-use Rattle.trio_walk.specs.Needs.{asked, moving_needs}
-use Rattle.trio_walk.specs.Walks.{InAllShown, served_by}
-use Rattle.trio_walk.specs.Asks.{grant_ask, noted}
-use Rattle.trio_walk.specs.declared.outcome.Outcome.TheVariants.{Replied}
 use Rattle.trio_calls_dir.specs.declared.replies.Replied as replied
-use Rattle.trio_walk.specs.declared.outcome.Stop.{Stop}
-use Rattle.trio_walk.specs.declared.outcome.Stop.TheVariants.{NoMemory as LacksMemory}
-use Rattle.trio_calls_dir.specs.Asks.{ComesBy, ComesTo, Target, edited, made_by, moved, wants_of}
-use Rattle.trio_calls_dir.specs.inner.Goes.{Goes, number_made, try_ends}
-use Rattle.trio_calls_dir.specs.inner.Moves.{IsAcross, IsFound, IsFree, IsRename, both_dirs}
 use Rattle.trio_calls_dir.proofs.EditDone.{as_done, may_done}
 use Rattle.trio_calls_dir.proofs.Ends.{lacks}
 use Rattle.trio_calls_dir.proofs.MovesFound.{stays_needs}
@@ -44,10 +13,6 @@ use Rattle.trio_calls_dir.proofs.MovesWalk.{writes_are}
 use Rattle.trio_calls_dir.proofs.Possible.{possible_retitle}
 use Rattle.trio_calls_dir.proofs.Then.{edited_alike}
 use Rattle.trio_calls_dir.proofs.TreeAlike.{changed_alike, tree_alike}
-use Rattle.trio_session.specs.Asked.{IsAlike, allot_asks}
-use Rattle.trio_session.proofs.Alike.{alike_room, alike_then}
-use Rattle.trio_session.specs.Deeds.{slot_growth}
-use Rattle.trio_edit_laws.proofs.Alike.{may_alike}
 
 module _ (desk : DeskSeen) (s : SessionSeen) (call : Call) (from to : Path) (dir : ℕ) (file : Met) (r : IsRename call from to) (a : IsAcross desk s call from to dir dir) (f : IsFound desk s from dir file) (free : IsFree desk s to dir) where
   abbrev place : Place

@@ -1,58 +1,13 @@
 -- A file moves to another directory: how the try goes by the room that was made.
-use Rattle.std.proofs.Common.{◌≡◌, ◌<◌, ℕ, true, false, cond, eqb, arith, List, [], ◌∷◌, ◌++◌, length, Option, Some, None, Result, Ok, Err, sym, refl, ap, ◌∙◌, subst, inl, inr}
-use Rattle.std.specs.Prelude.{is_some, map}
-use Rattle.std.specs.Option.{option_map_or}
-use Rattle.std.proofs.lemmas.Bool.{ne_eqb}
-use Rattle.std.proofs.lemmas.List.{append-nil}
-use Rattle.trio_rights.specs.declared.kind.Kind.{Kind}
-use Rattle.trio_rights.specs.declared.rights.Creds.{Creds}
-use Rattle.trio_lists.specs.Lists.{In}
-use Rattle.trio_auxdir.specs.declared.place.Place.{Place}
-use Rattle.trio_nodes.specs.declared.answers.AllotFault.{AllotFault}
-use Rattle.trio_nodes.specs.declared.answers.AllotFault.TheVariants.{NoInodes as NoFreeInodes, NoPages, NoMemory as NoAllotMemory}
-use Rattle.trio_nodes.specs.declared.call.Answer.TheVariants.{Done as IsDone}
-use Rattle.trio_nodes.specs.declared.call.Call.{Call}
-use Rattle.trio_nodes.specs.declared.call.Call.TheVariants.{Rename, Unlink}
-use Rattle.trio_nodes.specs.declared.call.Done.{Done}
-use Rattle.trio_nodes.specs.declared.call.Reply.{Reply}
-use Rattle.trio_nodes.specs.declared.call.Reply.TheVariants.{Ok as IsReplied, NoSpace}
-use Rattle.trio_nodes.specs.Nodes.{Nodes, find_named}
-use Rattle.trio_nodes.specs.Walk.{Path, dir_of, name_of, walk_into}
-use Rattle.trio_nodes.specs.After.{batch_nodes}
-use Rattle.trio_nodes.specs.Apply.{LacksRoom, applied, is_done}
-use Rattle.trio_desk.specs.Call.{Allot, Ask, DeskSeen, NotGiven, Told}
+use Rattle.trio_calls_dir.proofs.Words.{◌++◌, ◌<◌, ◌∙◌, ◌∷◌, ◌≡◌, AfterTry, Allot, AllotFault, ArePossible, Ask, AskedBy, Busy, Call, ComesAcross, ComesBy, ComesTo, Creds, DeskSeen, Done, Err, Goes, HasPlaces, In, InAllShown, IsAlike, IsDone, IsNumber, IsOpenDir, IsRename, IsReplied, Kind, LacksRoom, LeavesHere, List, MadeFile, MadeRoom, MayCall, MayMove, MayPut, Met, NoAllotMemory, NoFreeInodes, NoMemory, NoPages, NoSpace, Nodes, None, NotGiven, Ok, Option, Outcome, Path, Place, PutFile, Rename, Replied, Reply, Result, RoomEnds, SessionSeen, Some, TakesMore, Target, Told, TryEnds, Unlink, Wanted, [], alike_then, allot_asks, allot_reply, ap, append-nil, applied, arith, as_lent, asks_fault, asks_short, batch_nodes, both_dirs, clear, cond, dir_of, edited, empty_shown, eqb, false, fill, fill_alike, find_named, in_hand, inl, inr, is_done, is_some, length, made_by, map, may_alike, moved, moved_shown, moves_entry, name_of, ne_eqb, noted, number_made, option_map_or, pages_for, refl, retitle, short_ends, slot_growth, spare_numbers, spare_pages, subst, sym, told_fault, took, true, try_ends, walk_into, wants_of, with_slot, without_file, write_paths, ℕ}
 use Rattle.trio_desk.specs.Calls as desk_calls
-use Rattle.trio_desk.specs.Edits.{TakesMore}
-use Rattle.trio_desk.specs.Ready.{ArePossible}
-use Rattle.trio_laws.specs.session.DirCalls.{ComesAcross, write_paths}
-use Rattle.trio_laws.proofs.session.DirCalls.{moves_entry, no_room_to_move}
-use Rattle.trio_session.specs.Seen.{IsOpenDir, MadeFile, SessionSeen, clear, empty_shown, fill, in_hand, retitle, spare_numbers, spare_pages}
-use Rattle.trio_edit_laws.specs.Allotting.{Wanted}
-use Rattle.trio_edit_laws.specs.Calls.{MayCall}
-use Rattle.trio_edit_laws.proofs.Allotting.{asks_fault, asks_short, told_fault}
-use Rattle.trio_walk.specs.declared.met.Met.{Met}
-use Rattle.trio_walk.specs.Walks.{InAllShown}
-use Rattle.trio_walk.specs.Asks.{AskedBy, TryEnds, noted}
-use Rattle.trio_walk.specs.Tries.{allot_reply}
-use Rattle.trio_walk.proofs.Then.{short_ends}
-use Rattle.trio_walk.specs.declared.outcome.Outcome.{Outcome}
-use Rattle.trio_walk.specs.declared.outcome.Outcome.TheVariants.{Busy, NoMemory, Replied}
-use Rattle.trio_calls_dir.specs.Asks.{ComesBy, ComesTo, Target, edited, made_by, moved, pages_for, wants_of}
-use Rattle.trio_calls_dir.specs.inner.Goes.{AfterTry, Goes, IsNumber, LeavesHere, number_made, try_ends, without_file}
-use Rattle.trio_calls_dir.specs.inner.Moves.{IsRename, MayMove, both_dirs}
-use Rattle.trio_deeds.specs.Slots.{MayPut, PutFile}
-use Rattle.trio_calls_dir.specs.inner.Rooms.{HasPlaces, MadeRoom, RoomEnds}
+use Rattle.trio_laws.proofs.session.DirCalls.{no_room_to_move}
 use Rattle.trio_calls_dir.proofs.EditDone.{as_done}
 use Rattle.trio_calls_dir.proofs.Ends.{may_looked}
 use Rattle.trio_calls_dir.proofs.MovesPlace.{may_put, move_calls, move_changes, move_noted}
 use Rattle.trio_calls_dir.proofs.MovesTakes.{made_numbers, slot_used, takes_still, took_used}
 use Rattle.trio_calls_dir.proofs.MovesWalk.{writes_are}
 use Rattle.trio_calls_dir.proofs.Then.{all_then, edited_alike}
-use Rattle.trio_session.specs.Asked.{IsAlike, allot_asks, took}
-use Rattle.trio_session.proofs.Alike.{alike_then}
-use Rattle.trio_session.specs.Deeds.{as_lent, moved_shown, slot_growth, with_slot}
-use Rattle.trio_edit_laws.proofs.Alike.{may_alike}
-use Rattle.trio_session.proofs.Others.{fill_alike}
 use Rattle.trio_edit_laws.proofs.WithSlot.{no_length}
 
 module _ {D : Type 0} (called : D → Ask → Told → D → Type 0) (seen : D → DeskSeen) (d : D) (s : SessionSeen) (call : Call) (from to : Path) (dir new_dir : ℕ) (file : Met) (r : IsRename call from to) (m : MayMove (seen d) s call from to dir new_dir file)

@@ -1,24 +1,13 @@
 -- What a file takes with it is there still once there is room for it.
-use Rattle.std.proofs.Common.{◌≡◌, ℕ, ◌+◌, ◌||◌, Bool, true, false, cond, eqb, List, [], ◌∷◌, ◌++◌, length, Option, Some, None, sym, refl, ap, ◌∙◌, subst, inl, inr}
-use Rattle.std.specs.Prelude.{is_some, map, not, slice_set, take}
-use Rattle.std.specs.List.{find}
-use Rattle.std.specs.Option.{option_map, option_map_or, option_or}
-use Rattle.std.proofs.lemmas.Bool.{false≢true}
-use Rattle.trio_lists.specs.Lists.{In, is_among}
+use Rattle.trio_calls_dir.proofs.Words.{◌++◌, ◌+◌, ◌∙◌, ◌∷◌, ◌≡◌, Bool, Chain, DeskSeen, HoldLease, HoldParts, In, In-cases, In-is_among, Kind, List, MadeFile, MayEdit, ModeSet, None, NotGiven, NotLent, NotModeSet, NotSettled, Option, ReadLease, SessionSeen, Settled, Some, Told, WriteLease, [], ap, block_count, body_in, chain_in, cond, empty_shown, eqb, false, false≢true, find, held_file, inl, ino_numbers, inr, is_allotted, is_among, is_among-In, is_some, length, made_body, made_file, map, moved_shown, not, option_map, option_map_or, option_or, place_in, refl, size_in, spare_numbers, spare_pages, subst, sym, took, true, used_numbers, with_lease, with_slot, ℕ}
+use Rattle.std.proofs.Common.{◌||◌}
+use Rattle.std.specs.Prelude.{slice_set, take}
 use Rattle.trio_lists.proofs.Filters.{In-filter}
-use Rattle.trio_lists.proofs.Members.{In-cases, In-is_among, is_among-In, map-In}
-use Rattle.trio_rights.specs.declared.kind.Kind.{Kind}
-use Rattle.trio_layout.specs.Body.{block_count}
-use Rattle.trio_layout.specs.Chain.{Chain}
-use Rattle.trio_lease.specs.declared.lease.Lease.TheVariants.{Write as WriteLease, Read as ReadLease, Hold as HoldLease}
-use Rattle.trio_lease.specs.declared.parts.HoldParts.{HoldParts}
-use Rattle.trio_desk.specs.Call.{DeskSeen, Told, Lent, NotLent, Given, NotGiven, Done, Judged, NotJudged, Settled, NotSettled, ModeSet, NotModeSet}
-use Rattle.trio_desk.specs.Out.{ino_numbers}
-use Rattle.trio_session.specs.Asked.{with_allotted, with_lease, took}
-use Rattle.trio_session.specs.Layout.{chain_grown, growth, size_in}
-use Rattle.trio_session.specs.Seen.{MadeFile, SessionSeen, body_in, chain_in, empty_shown, grown, held_file, is_allotted, made_body, made_chained, made_file, place_in, spare_numbers, spare_pages, used_numbers, with_chain}
-use Rattle.trio_edit_laws.specs.Written.{MayEdit}
-use Rattle.trio_session.specs.Deeds.{moved_shown, with_slot}
+use Rattle.trio_lists.proofs.Members.{map-In}
+use Rattle.trio_desk.specs.Call.{Lent, Given, Done, Judged, NotJudged}
+use Rattle.trio_session.specs.Asked.{with_allotted}
+use Rattle.trio_session.specs.Layout.{chain_grown, growth}
+use Rattle.trio_session.specs.Seen.{grown, made_chained, with_chain}
 
 -- ---- files that were made are made still
 

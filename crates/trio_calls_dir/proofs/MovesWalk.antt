@@ -1,30 +1,8 @@
 -- A rename on its two walks.
-use Rattle.std.proofs.Common.{◌≡◌, ℕ, List, ◌++◌, Result, Ok, Err, sym, refl, ap, ◌∙◌, subst}
-use Rattle.trio_rights.specs.declared.kind.Kind.TheVariants.{Directory}
-use Rattle.trio_rights.specs.declared.rights.Creds.{Creds}
-use Rattle.trio_lists.specs.Lists.{In}
-use Rattle.trio_nodes.specs.declared.call.Call.{Call}
-use Rattle.trio_nodes.specs.declared.call.Reply.{Reply}
-use Rattle.trio_nodes.specs.Nodes.{Nodes}
-use Rattle.trio_nodes.specs.Tree.{IsTree}
-use Rattle.trio_nodes.specs.Walk.{Path, and_then, dir_of, need_at, walk_into}
-use Rattle.trio_nodes.specs.After.{batch_nodes}
-use Rattle.trio_onetree.proofs.TreeStays.{tree_stays_through}
-use Rattle.trio_desk.specs.Call.{Ask, DeskSeen, Told}
-use Rattle.trio_laws.specs.session.DirCalls.{write_paths}
-use Rattle.trio_laws.proofs.session.DirCalls.{needs_write, rename_refused_by_walk}
-use Rattle.trio_session.specs.Seen.{IsOpenDir, SessionSeen}
-use Rattle.trio_edit_laws.specs.Calls.{MayCall}
-use Rattle.trio_walk.specs.declared.walks.WalkEnd.{WalkEnd}
-use Rattle.trio_walk.specs.declared.walks.WalkEnd.TheVariants.{At}
-use Rattle.trio_walk.specs.Needs.{Needed, into_needs, kind_for, reached_by, dir_needs, moving_needs}
-use Rattle.trio_walk.specs.Walks.{InAllShown, IsHad, IsStopped, MayLookIn, MayWalk, Walked, WalksInto, shows_root}
-use Rattle.trio_walk.specs.declared.outcome.Outcome.{Outcome}
+use Rattle.trio_calls_dir.proofs.Words.{◌++◌, ◌∙◌, ◌≡◌, Ask, At, Call, Creds, DeskSeen, Directory, Err, Goes, In, InAllShown, IsAcross, IsHad, IsOpenDir, IsOut, IsRefusedAs, IsRename, IsStopped, IsTree, List, MayCall, MayLookIn, MayWalk, Needed, Nodes, Ok, Outcome, Path, Reply, Result, SessionSeen, Stop, StopsBy, Told, WalkEnd, Walked, WalksInto, across_needs, and_then, ap, batch_nodes, both_dirs, dir_needs, dir_of, into_needs, kind_for, moving_needs, need_at, needs_write, number_made, reached_by, refl, shows_root, subst, sym, tree_stays_through, try_ends, walk_into, write_paths, ℕ}
+use Rattle.trio_laws.proofs.session.DirCalls.{rename_refused_by_walk}
 use Rattle.trio_walk.proofs.Meeting.{look_still, open_still}
 use Rattle.trio_calls_dir.specs.declared.replies.Replied as replied
-use Rattle.trio_walk.specs.declared.outcome.Stop.{Stop}
-use Rattle.trio_calls_dir.specs.inner.Goes.{Goes, IsRefusedAs, StopsBy, number_made, try_ends}
-use Rattle.trio_calls_dir.specs.inner.Moves.{IsAcross, IsOut, IsRename, across_needs, both_dirs}
 use Rattle.trio_calls_dir.proofs.Entered.{open_had}
 use Rattle.trio_calls_dir.proofs.Into.{into_goes, into_stops}
 use Rattle.trio_calls_dir.proofs.MovesPaths.{rename_across}

@@ -1,31 +1,9 @@
 -- A try that is noted.
-use Rattle.std.proofs.Common.{◌≡◌, ℕ, List, [], ◌++◌, Option, sym, ap, ◌∙◌, subst, inl}
-use Rattle.std.specs.Prelude.{map}
-use Rattle.std.proofs.lemmas.List.{append-nil}
-use Rattle.trio_rights.specs.Row.{Row}
-use Rattle.trio_rights.specs.declared.rights.Creds.{Creds}
-use Rattle.trio_nodes.specs.declared.call.Answer.TheVariants.{Bytes, Names}
-use Rattle.trio_nodes.specs.declared.call.Call.{Call}
-use Rattle.trio_nodes.specs.declared.call.Done.{Done}
-use Rattle.trio_nodes.specs.declared.call.Reply.{Reply}
-use Rattle.trio_nodes.specs.declared.call.Reply.TheVariants.{Ok as IsReplied}
-use Rattle.trio_nodes.specs.declared.grant.Holder.{Holder}
-use Rattle.trio_nodes.specs.Nodes.{Nodes}
-use Rattle.trio_nodes.specs.After.{batch_nodes}
-use Rattle.trio_desk.specs.Call.{Ask, DeskSeen, Told}
-use Rattle.trio_desk.specs.Ready.{ArePossible}
-use Rattle.trio_session.specs.Seen.{SessionSeen}
-use Rattle.trio_edit_laws.specs.Calls.{MayCall}
-use Rattle.trio_walk.specs.Walks.{shows_root}
+use Rattle.trio_calls_dir.proofs.Words.{◌++◌, ◌∙◌, ◌≡◌, ArePossible, Ask, Busy, Call, Creds, DeskSeen, DirTried, Done, Goes, Holder, IsAlike, IsNames, IsNumber, IsOfDir, IsReplied, LeavesHere, List, MayCall, Names, NoMemory, Nodes, Option, Outcome, Replied, Reply, Row, SessionSeen, Target, Told, TryEnds, [], ap, append-nil, batch_nodes, dir_needs, edited, inl, map, noted, shows_root, subst, sym, took, ℕ}
+use Rattle.trio_nodes.specs.declared.call.Answer.TheVariants.{Bytes}
 use Rattle.trio_desk.specs.Calls as desk_calls
-use Rattle.trio_walk.specs.Asks.{TryEnds, noted}
 use Rattle.trio_walk.specs.Tries.{TakesMemory}
-use Rattle.trio_walk.specs.declared.outcome.Outcome.{Outcome}
-use Rattle.trio_walk.specs.declared.outcome.Outcome.TheVariants.{Replied, Busy, NoMemory}
-use Rattle.trio_calls_dir.specs.Asks.{DirTried, Leaves, Target, TriedIn, edited}
-use Rattle.trio_walk.specs.Needs.{dir_needs}
-use Rattle.trio_calls_dir.specs.inner.Goes.{Goes, IsNames, IsNumber, IsOfDir, LeavesHere}
-use Rattle.trio_session.specs.Asked.{IsAlike, took}
+use Rattle.trio_calls_dir.specs.Asks.{Leaves, TriedIn}
 
 -- ---- what is left
 

@@ -1,21 +1,9 @@
 -- The grants that a walk into a directory needs are of directories on the way to it.
-use Rattle.std.proofs.Common.{◌≡◌, ℕ, ◌+◌, arith, Bool, true, false, cond, eqb, List, [], ◌∷◌, ◌++◌, length, Option, Some, None, Result, Ok, Err, sym, refl, ap, ◌∙◌, subst, inl, inr, append_assoc}
-use Rattle.std.specs.Prelude.{not, ◌||◌}
-use Rattle.std.specs.Option.{ok_or}
-use Rattle.std.proofs.lemmas.Bool.{ne_eqb}
-use Rattle.std.proofs.lemmas.List.{append-nil, length-append}
-use Rattle.trio_rights.specs.declared.rights.Creds.{Creds}
-use Rattle.trio_rights.specs.declared.rights.Need.{Need}
-use Rattle.trio_lists.specs.Lists.{In}
-use Rattle.trio_lists.proofs.Members.{In-cases}
-use Rattle.trio_nodes.specs.declared.grant.GrantKind.{GrantKind}
-use Rattle.trio_nodes.specs.declared.call.Reply.{Reply}
-use Rattle.trio_nodes.specs.declared.call.Reply.TheVariants.{Ok as IsReplied, NotFound, Exists, NotDir, IsDir, NotEmpty, Denied, IntoItself, NoSpace, NoInodes, TooLarge}
-use Rattle.trio_nodes.specs.Nodes.{Nodes, find_named, node_at}
-use Rattle.trio_nodes.specs.Tree.{IsTree}
-use Rattle.trio_nodes.specs.Walk.{Path, and_then, enter, need_at, walk, walk_from, walk_into}
-use Rattle.trio_walk.specs.Needs.{Needed, entered_needs, found_needs, into_needs, kind_for, needs_from, needs_if, reached_by, walk_needs}
-use Rattle.trio_walk.proofs.Agreeing.{IsAt, in_order, one_path, same_dir, walk_at}
+use Rattle.trio_calls_dir.proofs.Words.{◌++◌, ◌+◌, ◌||◌, ◌∙◌, ◌∷◌, ◌≡◌, Bool, Creds, Denied, Err, Exists, GrantKind, In, In-cases, IntoItself, IsAt, IsDir, IsReplied, IsTree, List, Need, Needed, NoInodes, NoSpace, Nodes, None, NotDir, NotEmpty, NotFound, Ok, Option, Path, Reply, Result, Some, TooLarge, [], and_then, ap, append-nil, append_assoc, arith, cond, enter, eqb, false, find_named, in_order, inl, inr, into_needs, kind_for, length, ne_eqb, need_at, node_at, not, ok_or, one_path, reached_by, refl, subst, sym, true, walk, walk_into, walk_needs, ℕ}
+use Rattle.std.proofs.lemmas.List.{length-append}
+use Rattle.trio_nodes.specs.Walk.{walk_from}
+use Rattle.trio_walk.specs.Needs.{entered_needs, found_needs, needs_from, needs_if}
+use Rattle.trio_walk.proofs.Agreeing.{same_dir, walk_at}
 
 -- a need of a file on the way to the one at this path
 pub record IsOnWay (now : Nodes) (path : Path) (x' : Needed) : Type 0 where

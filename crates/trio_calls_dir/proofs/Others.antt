@@ -1,22 +1,6 @@
 -- A try of a session that had nothing is kept busy by another library.
-use Rattle.std.proofs.Common.{ℕ, List, Result, Ok, Err, sym, refl, subst, inl, inr}
-use Rattle.std.specs.Prelude.{map}
-use Rattle.trio_lists.specs.Lists.{In}
-use Rattle.trio_nodes.specs.declared.answers.GrantFault.TheVariants.{Busy as BusyGrant}
-use Rattle.trio_nodes.specs.declared.grant.GrantKind.{GrantKind}
-use Rattle.trio_lease.specs.Shown.{Shown}
-use Rattle.trio_nodes.specs.Nodes.{Nodes}
-use Rattle.trio_desk.specs.Call.{Ask, DeskSeen, Grant, Told, NotLent}
-use Rattle.trio_desk.specs.Out.{Parcel, file_numbers, hold_numbers}
-use Rattle.trio_session.specs.Seen.{SessionSeen}
-use Rattle.trio_walk.specs.declared.walks.WalkEnd.{WalkEnd}
-use Rattle.trio_walk.specs.declared.walks.WalkEnd.TheVariants.{At, Reply as IsReply, Busy as IsBusyWalk, NoMemory as NoWalkMemory}
-use Rattle.trio_walk.specs.Needs.{Needed}
-use Rattle.trio_walk.specs.Walks.{IsOwnBusy, IsStopped, Walked}
+use Rattle.trio_calls_dir.proofs.Words.{Ask, At, BusyGrant, DeskSeen, Err, Grant, GrantKind, HasNothing, In, IsBusyWalk, IsOwnBusy, IsReply, IsStopped, List, Needed, NoWalkMemory, Nodes, NotLent, Ok, OthersHold, Parcel, Result, SessionSeen, Shown, Stop, StopsBy, Told, WalkEnd, Walked, file_numbers, hold_numbers, inl, inr, map, refl, subst, sym, try_ends, ℕ}
 use Rattle.trio_calls_dir.specs.declared.replies.Replied as replied
-use Rattle.trio_walk.specs.declared.outcome.Stop.{Stop}
-use Rattle.trio_calls_dir.specs.inner.Goes.{StopsBy, try_ends}
-use Rattle.trio_walk.specs.Tries.{OthersHold, HasNothing}
 
 pub nothing_own : (s : SessionSeen) (n : ℕ) (kind : GrantKind) → HasNothing s → IsOwnBusy s n kind → ⊥
 nothing_own s n kind none own =

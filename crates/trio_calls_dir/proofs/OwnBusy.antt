@@ -1,19 +1,8 @@
 -- Grants of the session's own that exclude one that is asked, by the leases that it took.
-use Rattle.std.proofs.Common.{◌≡◌, ◌⊎◌, ℕ, List, [], ◌∷◌, sym, refl, ap, subst, inl, inr}
-use Rattle.std.specs.Prelude.{map}
-use Rattle.std.proofs.lemmas.List.{map-append}
-use Rattle.trio_lists.specs.Lists.{In}
-use Rattle.trio_lists.proofs.Members.{In-cases}
-use Rattle.trio_lease.specs.Shown.{LentFile, Shown}
-use Rattle.trio_lease.specs.declared.lease.Lease.{Lease}
-use Rattle.trio_lease.specs.declared.lease.Lease.TheVariants.{Write as WriteLease, Read as ReadLease, Hold as HoldLease}
-use Rattle.trio_lease.specs.declared.parts.HoldParts.{HoldParts}
-use Rattle.trio_nodes.specs.declared.grant.GrantKind.{GrantKind}
-use Rattle.trio_nodes.specs.declared.grant.GrantKind.TheVariants.{Hold, Read as ToRead}
-use Rattle.trio_desk.specs.Out.{file_numbers, hold_numbers}
-use Rattle.trio_session.specs.Asked.{with_lease}
-use Rattle.trio_session.specs.Seen.{SessionSeen}
-use Rattle.trio_walk.specs.Walks.{IsOwnBusy, file_of, with_leases}
+use Rattle.trio_calls_dir.proofs.Words.{◌∷◌, ◌≡◌, GrantKind, Hold, HoldLease, HoldParts, In, In-cases, IsOwnBusy, Lease, LentFile, List, ReadLease, SessionSeen, Shown, WriteLease, [], ap, file_numbers, hold_numbers, inl, inr, map, map-append, refl, subst, sym, with_lease, with_leases, ℕ}
+use Rattle.std.proofs.Common.{◌⊎◌}
+use Rattle.trio_nodes.specs.declared.grant.GrantKind.TheVariants.{Read as ToRead}
+use Rattle.trio_walk.specs.Walks.{file_of}
 
 -- the number of a lease's file, as it stands
 abbrev pub number : Lease → ℕ

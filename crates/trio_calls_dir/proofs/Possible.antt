@@ -1,23 +1,12 @@
 -- What is possible after an edit of a directory's slots was so before: the leases as they were lent stay.
-use Rattle.std.proofs.Common.{◌≡◌, ℕ, true, false, cond, eqb, Bool, List, [], ◌∷◌, ◌++◌, Option, Some, refl, ap, ◌∙◌, subst}
-use Rattle.std.specs.Prelude.{◌*◌, not}
-use Rattle.std.specs.List.{filter}
-use Rattle.std.specs.Option.{option_map_or}
-use Rattle.std.proofs.lemmas.Simd.{map-map}
+use Rattle.trio_calls_dir.proofs.Words.{◌++◌, ◌∙◌, ◌∷◌, ◌≡◌, ArePossible, Bool, DeskSeen, EntryPart, Kind, LentFile, List, MadeFile, Nodes, Option, Parcel, Place, Row, SessionSeen, Shown, Some, [], ap, cond, empty_shown, entry_shown, eqb, false, filter, is_allotted, map-map, not, number_shown, option_map_or, place_shown, refl, subst, true, ℕ}
+use Rattle.std.specs.Prelude.{◌*◌}
 use Rattle.trio_page.specs.Field.{with_part, zeros}
-use Rattle.trio_rights.specs.Row.{Row}
-use Rattle.trio_rights.specs.declared.kind.Kind.{Kind}
 use Rattle.trio_layout.specs.Slot.{entry_bytes}
-use Rattle.trio_layout.specs.declared.slot.EntryPart.{EntryPart}
-use Rattle.trio_auxdir.specs.declared.place.Place.{Place}
-use Rattle.trio_lease.specs.Shown.{LentFile, Shown}
-use Rattle.trio_nodes.specs.Nodes.{Nodes}
 use Rattle.trio_desk.specs.Agrees.{Agrees, HasPlaces}
-use Rattle.trio_desk.specs.Call.{DeskSeen}
-use Rattle.trio_desk.specs.Out.{Parcel}
-use Rattle.trio_desk.specs.Ready.{ArePossible, leases_in}
+use Rattle.trio_desk.specs.Ready.{leases_in}
 use Rattle.trio_session.specs.Layout.{cleared as cleared_slot, file_with, page_in, retitled as retitled_slot, with_page}
-use Rattle.trio_session.specs.Seen.{MadeFile, SessionSeen, block_number, clear, empty_shown, entry_shown, fill, filled_at, is_allotted, number_shown, place_shown, placed_made, renamed, retitle, with_made, without_made}
+use Rattle.trio_session.specs.Seen.{block_number, clear, fill, filled_at, placed_made, renamed, retitle, with_made, without_made}
 
 leases_with : (n : ℕ) (w : List ℕ) (b : Parcel) (back : List Shown) → leases_in (with_page n w b) back ≡ leases_in b back
 unfolding with_page

@@ -1,30 +1,9 @@
 -- What a walk into a directory takes lies above the files of the directory, and keeps a hold on none of them off.
-use Rattle.std.proofs.Common.{◌≡◌, ℕ, List, [], ◌∷◌, ◌++◌, Some, sym, ap, ◌∙◌, subst, inl, inr}
-use Rattle.std.specs.Prelude.{map}
-use Rattle.std.proofs.lemmas.List.{append-nil}
-use Rattle.trio_lists.specs.Lists.{In}
-use Rattle.trio_lists.proofs.Members.{In-map}
-use Rattle.trio_nodes.specs.declared.grant.GrantKind.TheVariants.{Hold}
-use Rattle.trio_nodes.specs.Nodes.{Nodes, find_named}
-use Rattle.trio_nodes.specs.Tree.{IsTree}
-use Rattle.trio_nodes.specs.Walk.{Path, dir_of, name_of}
-use Rattle.trio_nodes.specs.After.{batch_nodes}
-use Rattle.trio_onetree.proofs.TreeStays.{tree_stays_through}
-use Rattle.trio_desk.specs.Call.{Ask, DeskSeen, Told}
-use Rattle.trio_desk.specs.Ready.{ArePossible}
-use Rattle.trio_session.specs.Seen.{SessionSeen}
-use Rattle.trio_walk.specs.declared.walks.WalkEnd.TheVariants.{At}
-use Rattle.trio_walk.specs.Needs.{Needed, asked, into_needs}
-use Rattle.trio_walk.specs.Walks.{InAllShown, IsOwnBusy, MayWalk, Walked, WalksInto, need_of, served_by, shows_root, with_leases}
-use Rattle.trio_walk.specs.declared.outcome.Outcome.{Outcome}
-use Rattle.trio_walk.specs.declared.outcome.Outcome.TheVariants.{Replied, Busy, NoMemory}
-use Rattle.trio_walk.proofs.Agreeing.{asked_beside-In}
-use Rattle.trio_walk.specs.Tries.{OthersHold, HasNothing}
-use Rattle.trio_calls_dir.specs.inner.Removes.{HoldBusyAt, KeepsOff}
+use Rattle.trio_calls_dir.proofs.Words.{◌++◌, ◌∙◌, ◌∷◌, ◌≡◌, ArePossible, Ask, At, Busy, DeskSeen, HasNothing, Hold, HoldBusyAt, In, In-map, InAllShown, IsAlike, IsOwnBusy, IsTree, List, MayWalk, Needed, NoMemory, Nodes, OthersHold, Outcome, Path, Replied, SessionSeen, Some, Told, Walked, WalksInto, [], ap, append-nil, asked, asked_beside-In, batch_nodes, dir_of, find_named, inl, inr, into_needs, map, name_of, need_of, served_by, shows_root, subst, sym, tree_stays_through, with_leases, ℕ}
+use Rattle.trio_calls_dir.specs.inner.Removes.{KeepsOff}
 use Rattle.trio_calls_dir.proofs.Others.{nothing_own}
 use Rattle.trio_calls_dir.proofs.OnWay.{not_below}
 use Rattle.trio_calls_dir.proofs.OwnBusy.{busy_by, lent_number, off_more}
-use Rattle.trio_session.specs.Asked.{IsAlike}
 
 -- ---- the second try
 

@@ -1,59 +1,20 @@
 -- A file that is had goes with its slot, where it has no entries.
-use Rattle.std.proofs.Common.{◌≡◌, ℕ, zero, suc, ◌+◌, ◌<◌, arith, Bool, true, false, cond, eqb, ltb, ltb-false, List, [], ◌∷◌, length, Option, Some, None, Result, Ok, Err, sym, refl, ap, ◌∙◌, subst, inl, inr}
-use Rattle.std.specs.Prelude.{MatchResult, count_by, is_some, not}
-use Rattle.std.specs.Option.{option_map, option_or}
-use Rattle.std.proofs.lemmas.Bool.{cases_eq, eqb-true, false≢true}
+use Rattle.trio_calls_dir.proofs.Words.{◌+◌, ◌<◌, ◌∙◌, ◌∷◌, ◌≡◌, ArePossible, Ask, Bool, Call, Changes, ComesBy, ComesInto, ComesTo, Creds, DeskSeen, Directory, DoesCall, Done, Err, Goes, HoldParts, InAllShown, IsAlike, IsDir, IsDirectory, IsDone, IsRefusedAs, IsReplied, IsTree, Kind, LacksMemory, LeavesCleared, List, MadeFile, MatchResult, MayCall, MayShow, Met, Node, Nodes, None, NotDir, NotEmpty, Ok, Option, Path, Regular, Replied, Reply, Result, Rmdir, Room, Row, SessionSeen, Some, StaysTree, Stop, Target, Told, Unlink, [], alike_room, alike_then, ap, applied, arith, batch_nodes, cases_eq, clear, clear_leaves, cond, count_in, dir_of, edited, entry_count, eqb, eqb-true, false, false≢true, find-In, find_named, find_named-Child, held_file, in_hand, inl, inr, is_directory, is_done, is_in, is_some, length, ltb, made_by, made_file, may_alike, name_of, node_at, not, noted, number_made, open_kind, option_map, option_or, place_shown, refl, refused_at_entry, removing, rights_of, sees_directory, shown_by, slots_shown, some_one, subst, suc, sym, true, try_ends, walk_into, wants_of, with_node, write_paths, written_file, zero, ℕ}
+use Rattle.std.proofs.Common.{ltb-false}
+use Rattle.std.specs.Prelude.{count_by}
 use Rattle.std.proofs.lemmas.List.Sums.{sum_by-cons}
-use Rattle.trio_lists.proofs.Filters.{find-In, some_one}
-use Rattle.trio_rights.specs.Row.{Row}
-use Rattle.trio_rights.specs.declared.kind.Kind.{Kind}
-use Rattle.trio_rights.specs.declared.kind.Kind.TheVariants.{Directory, Regular}
-use Rattle.trio_rights.specs.declared.rights.Creds.{Creds}
-use Rattle.trio_lease.specs.declared.parts.HoldParts.{HoldParts}
-use Rattle.trio_nodes.specs.declared.call.Answer.TheVariants.{Done as IsDone}
-use Rattle.trio_nodes.specs.declared.call.Call.{Call}
-use Rattle.trio_nodes.specs.declared.call.Call.TheVariants.{Rmdir, Unlink}
-use Rattle.trio_nodes.specs.declared.call.Done.{Done}
-use Rattle.trio_nodes.specs.declared.call.Reply.{Reply}
-use Rattle.trio_nodes.specs.declared.call.Reply.TheVariants.{Ok as IsReplied, IsDir, NotDir, NotEmpty}
-use Rattle.trio_nodes.specs.declared.node.Node.{Node}
-use Rattle.trio_nodes.specs.Nodes.{Nodes, count_in, find_named, is_in, node_at, with_node}
-use Rattle.trio_nodes.specs.Tree.{IsDirectory, IsTree}
-use Rattle.trio_nodes.specs.Walk.{Path, dir_of, is_directory, name_of, walk_into}
-use Rattle.trio_nodes.specs.After.{batch_nodes}
-use Rattle.trio_nodes.specs.Apply.{applied, is_done}
-use Rattle.trio_onetree.proofs.Children.{child-counts, find_named-Child}
+use Rattle.trio_onetree.proofs.Children.{child-counts}
 use Rattle.trio_onetree.proofs.TreePut.{tree_without}
-use Rattle.trio_desk.specs.Call.{Ask, DeskSeen, Told}
-use Rattle.trio_desk.specs.Contents.{rights_of}
-use Rattle.trio_desk.specs.Edits.{DoesCall, MayShow}
-use Rattle.trio_desk.specs.Ready.{ArePossible}
-use Rattle.trio_laws.specs.session.DirCalls.{ComesInto, write_paths}
-use Rattle.trio_laws.proofs.session.DirCalls.{refused_at_entry, removes_entry}
-use Rattle.trio_session.specs.Seen.{MadeFile, Room, SessionSeen, children_shown, clear, entry_count, held_file, in_hand, made_children, made_file, open_kind, place_shown, slots_shown, written_file}
-use Rattle.trio_edit_laws.specs.Calls.{MayCall}
-use Rattle.trio_edit_laws.specs.DirLaws.{Changes, LeavesCleared, StaysTree}
-use Rattle.trio_edit_laws.proofs.Shown.{shown_by}
-use Rattle.trio_edit_laws.proofs.directories.Cleared.{clear_leaves, clear_shows}
-use Rattle.trio_edit_laws.proofs.directories.Sees.{sees_directory}
-use Rattle.trio_walk.specs.declared.met.Met.{Met}
-use Rattle.trio_walk.specs.Walks.{InAllShown}
-use Rattle.trio_walk.specs.Asks.{noted}
-use Rattle.trio_walk.specs.declared.outcome.Outcome.TheVariants.{Replied}
+use Rattle.trio_laws.proofs.session.DirCalls.{removes_entry}
+use Rattle.trio_session.specs.Seen.{children_shown, made_children}
+use Rattle.trio_edit_laws.proofs.directories.Cleared.{clear_shows}
 use Rattle.trio_calls_dir.specs.declared.replies.Replied as replied
-use Rattle.trio_walk.specs.declared.outcome.Stop.{Stop}
-use Rattle.trio_walk.specs.declared.outcome.Stop.TheVariants.{NoMemory as LacksMemory}
-use Rattle.trio_calls_dir.specs.Asks.{ComesBy, ComesTo, Target, edited, made_by, wants_of}
-use Rattle.trio_calls_dir.specs.inner.Goes.{Goes, IsRefusedAs, number_made, removing, try_ends}
 use Rattle.trio_calls_dir.proofs.Possible.{possible_clear}
 use Rattle.trio_calls_dir.proofs.EditDone.{as_done, may_done}
 use Rattle.trio_calls_dir.proofs.Ends.{lacks, refused_goes}
 use Rattle.trio_calls_dir.proofs.RemovesCount.{held_count}
 use Rattle.trio_calls_dir.proofs.RemovesTake.{MayClear}
 use Rattle.trio_calls_dir.proofs.Then.{edited_alike}
-use Rattle.trio_session.specs.Asked.{IsAlike}
-use Rattle.trio_session.proofs.Alike.{alike_room, alike_then}
-use Rattle.trio_edit_laws.proofs.Alike.{may_alike}
 
 -- ---- entries that are counted
 

@@ -1,27 +1,14 @@
 -- How many entries a held directory has: as many as its hold tells.
-use Rattle.std.proofs.Common.{◌≡◌, ℕ, Bool, true, false, cond, eqb, List, Option, Some, None, sym, refl, ap, ◌∙◌, subst, inl, inr}
-use Rattle.std.specs.Prelude.{is_some}
-use Rattle.std.specs.Option.{option_map}
-use Rattle.std.proofs.lemmas.Bool.{cases_Bool, ne_eqb}
-use Rattle.trio_rights.specs.Row.{Row, row_in}
-use Rattle.trio_rights.specs.declared.kind.Kind.{Kind}
-use Rattle.trio_lists.specs.Lists.{In, is_among}
-use Rattle.trio_lists.proofs.Filters.{some_one}
-use Rattle.trio_lists.proofs.Members.{In-map, is_among-In}
+use Rattle.trio_calls_dir.proofs.Words.{◌∙◌, ◌≡◌, Bool, DeskSeen, HoldParts, In, In-map, IsTree, IsView, Kind, List, Node, Nodes, None, Option, Row, Some, ap, bytes_now, case_in_hand, cond, count_in, eqb, false, inl, inr, is_among, is_among-In, is_in, is_some, naming_of, ne_eqb, node_at, option_map, refl, rights_in, rights_of, some_one, subst, sym, true, with_bytes, ℕ}
+use Rattle.std.proofs.lemmas.Bool.{cases_Bool}
+use Rattle.trio_rights.specs.Row.{row_in}
 use Rattle.trio_layout.specs.Survey.{Met}
 use Rattle.trio_layout.specs.Case.{Case}
 use Rattle.trio_layout.specs.JudgedFiles.{judged_files}
-use Rattle.trio_lease.specs.declared.parts.HoldParts.{HoldParts}
-use Rattle.trio_nodes.specs.declared.node.Node.{Node}
-use Rattle.trio_nodes.specs.Nodes.{Nodes, count_in, entry_in, is_in, node_at}
-use Rattle.trio_nodes.specs.Tree.{IsTree}
+use Rattle.trio_nodes.specs.Nodes.{entry_in}
 use Rattle.trio_desk.specs.Among.{IsAmong, written_numbers}
-use Rattle.trio_desk.specs.Call.{DeskSeen}
-use Rattle.trio_desk.specs.Contents.{rights_in, rights_of}
 use Rattle.trio_desk.specs.Edits.{InHand}
-use Rattle.trio_desk.specs.Shows.{Naming, Shows, bytes_now, naming_of, with_bytes}
-use Rattle.trio_laws.specs.session.Sees.{IsView}
-use Rattle.trio_laws.specs.session.Takes.{case_in_hand}
+use Rattle.trio_desk.specs.Shows.{Naming, Shows}
 use Rattle.trio_laws.proofs.session.Counts.{count_pair}
 use Rattle.trio_laws.proofs.session.Edges.{held_gone, kept_parent, listed_now, new_dead, node_row, own, unlisted_now}
 use Rattle.trio_laws.proofs.session.LentNodes.{mapped}

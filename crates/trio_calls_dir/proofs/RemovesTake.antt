@@ -1,30 +1,5 @@
 -- A file that is removed is held first.
-use Rattle.std.proofs.Common.{◌≡◌, ℕ, true, false, cond, List, [], ◌∷◌, Option, Some, Ok, Err, sym, ap, ◌∙◌, subst}
-use Rattle.std.specs.Option.{option_map_or}
-use Rattle.trio_auxdir.specs.declared.place.Place.{Place}
-use Rattle.trio_rights.specs.declared.kind.Kind.{Kind}
-use Rattle.trio_rights.specs.declared.kind.Kind.TheVariants.{Directory, Regular}
-use Rattle.trio_rights.specs.declared.rights.Creds.{Creds}
-use Rattle.trio_layout.specs.declared.slot.EntryPart.{EntryPart}
-use Rattle.trio_nodes.specs.declared.grant.GrantKind.TheVariants.{Hold}
-use Rattle.trio_nodes.specs.declared.grant.Holder.{Holder}
-use Rattle.trio_nodes.specs.declared.call.Call.{Call}
-use Rattle.trio_nodes.specs.declared.node.Node.{Node}
-use Rattle.trio_nodes.specs.Nodes.{Nodes, find_named, node_at}
-use Rattle.trio_nodes.specs.Walk.{Path, is_directory, is_root, name_of}
-use Rattle.trio_nodes.specs.After.{batch_nodes}
-use Rattle.trio_desk.specs.Call.{Ask, DeskSeen, Told}
-use Rattle.trio_laws.specs.session.DirCalls.{ComesInto}
-use Rattle.trio_session.specs.Seen.{IsOpenDir, SessionSeen, entry_shown, place_shown}
-use Rattle.trio_edit_laws.specs.Calls.{MayCall}
-use Rattle.trio_walk.specs.declared.met.Met.{Met}
-use Rattle.trio_walk.specs.declared.walks.WalkEnd.TheVariants.{Busy as IsBusyWalk, NoMemory as NoWalkMemory}
-use Rattle.trio_walk.specs.Needs.{Needed, node_needs, named_needs, removing_needs}
-use Rattle.trio_walk.specs.Walks.{FindsEntry, HasMet, InAllShown, IsListed, MayWalk, Took}
-use Rattle.trio_walk.specs.declared.outcome.Outcome.{Outcome}
-use Rattle.trio_walk.specs.declared.outcome.Outcome.TheVariants.{Busy, NoMemory}
-use Rattle.trio_calls_dir.specs.inner.Goes.{Goes, removing}
-use Rattle.trio_calls_dir.specs.inner.Removes.{HoldBusyAt}
+use Rattle.trio_calls_dir.proofs.Words.{◌∙◌, ◌∷◌, ◌≡◌, Ask, Busy, Call, ComesInto, Creds, DeskSeen, Directory, EntryPart, Err, FindsEntry, Goes, HasMet, Hold, HoldBusyAt, Holder, InAllShown, IsBusyWalk, IsListed, IsOpenDir, Kind, List, MayCall, MayWalk, Met, Needed, NoMemory, NoWalkMemory, Node, Nodes, Ok, Option, Outcome, Path, Place, Regular, SessionSeen, Some, Told, Took, [], ap, batch_nodes, cond, entry_shown, false, find_named, is_directory, is_root, name_of, named_needs, node_at, node_needs, option_map_or, place_shown, removing, removing_needs, subst, sym, true, ℕ}
 use Rattle.trio_calls_dir.proofs.Held as holding
 
 -- What is known of a file that is to be removed, before it is held: its directory is open, and lists it by the name.

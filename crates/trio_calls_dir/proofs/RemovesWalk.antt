@@ -1,41 +1,11 @@
 -- A file is removed: its walk, and the look-up of its name.
-use Rattle.std.proofs.Common.{◌≡◌, ℕ, ◌<◌, Bool, true, false, cond, ltb, List, [], ◌∷◌, ◌++◌, length, Option, Some, None, Result, sym, refl, ap, ◌∙◌, subst}
-use Rattle.std.specs.Prelude.{MatchResult, not}
-use Rattle.std.specs.Option.{option_map, option_map_or}
-use Rattle.trio_rights.specs.declared.kind.Kind.{Kind}
-use Rattle.trio_rights.specs.declared.kind.Kind.TheVariants.{Directory, Regular}
-use Rattle.trio_rights.specs.declared.rights.Creds.{Creds}
-use Rattle.trio_nodes.specs.declared.grant.GrantKind.TheVariants.{Hold}
-use Rattle.trio_nodes.specs.declared.call.Call.{Call}
-use Rattle.trio_nodes.specs.declared.call.Call.TheVariants.{Rmdir, Unlink}
-use Rattle.trio_nodes.specs.declared.call.Reply.{Reply}
-use Rattle.trio_nodes.specs.declared.call.Reply.TheVariants.{Denied, IsDir, NotDir, NotEmpty, NotFound}
-use Rattle.trio_nodes.specs.declared.node.Node.{Node}
-use Rattle.trio_nodes.specs.Nodes.{Nodes, count_in, find_named, node_at}
-use Rattle.trio_nodes.specs.Walk.{Path, dir_of, is_directory, is_root, name_of, walk_into}
-use Rattle.trio_nodes.specs.After.{batch_nodes}
-use Rattle.trio_desk.specs.Call.{Ask, DeskSeen, Told}
-use Rattle.trio_desk.specs.Contents.{rights_of}
-use Rattle.trio_laws.specs.session.DirCalls.{ComesInto, early_refusal, name_refusal}
-use Rattle.trio_laws.proofs.session.DirCalls.{refused_at_entry, refused_by_name, refused_by_path}
-use Rattle.trio_session.specs.Seen.{SessionSeen}
-use Rattle.trio_edit_laws.specs.Calls.{MayCall}
-use Rattle.trio_walk.specs.declared.met.Met.{Met}
-use Rattle.trio_walk.specs.declared.walks.WalkEnd.{WalkEnd}
-use Rattle.trio_walk.specs.declared.walks.WalkEnd.TheVariants.{At}
-use Rattle.trio_walk.specs.Needs.{Needed, into_needs, node_needs, reached_by, dir_needs, named_needs, removal_needs, removing_needs}
-use Rattle.trio_walk.specs.Walks.{FindsEntry, InAllShown, IsMetIn, IsStopped, MayWalk, Walked, WalksInto, shows_root}
-use Rattle.trio_walk.specs.declared.outcome.Outcome.{Outcome}
+use Rattle.trio_calls_dir.proofs.Words.{◌++◌, ◌<◌, ◌∙◌, ◌∷◌, ◌≡◌, Ask, At, Bool, Call, ComesInto, Creds, Denied, DeskSeen, Directory, FindsEntry, Goes, Hold, InAllShown, IsAlike, IsDir, IsMetIn, IsRefusal, IsRefusedAs, IsStopped, Kind, LacksMemory, List, MatchResult, MayCall, MayWalk, Met, Needed, Node, Nodes, None, NotDir, NotEmpty, NotFound, Option, Outcome, Path, Regular, Reply, Result, Rmdir, SessionSeen, Some, Stop, StopsBy, Told, Unlink, WalkEnd, Walked, WalksInto, [], ap, batch_nodes, cond, count_in, dir_needs, dir_of, early_refusal, false, find_named, into_needs, is_directory, is_root, length, ltb, may_alike, name_of, name_refusal, named_needs, node_at, node_needs, not, number_made, option_map, option_map_or, reached_by, refl, refused_at_entry, refused_by_name, refused_by_path, removing, removing_needs, rights_of, shows_root, subst, sym, true, try_ends, walk_into, ℕ}
+use Rattle.trio_walk.specs.Needs.{removal_needs}
 use Rattle.trio_calls_dir.specs.declared.replies.Replied as replied
-use Rattle.trio_walk.specs.declared.outcome.Stop.{Stop}
-use Rattle.trio_walk.specs.declared.outcome.Stop.TheVariants.{NoMemory as LacksMemory}
-use Rattle.trio_calls_dir.specs.inner.Goes.{Goes, IsRefusal, IsRefusedAs, StopsBy, number_made, removing, try_ends}
 use Rattle.trio_calls_dir.specs.inner.Removes.{other_kind}
 use Rattle.trio_calls_dir.proofs.Ends.{refused_goes}
 use Rattle.trio_calls_dir.proofs.Entered.{IsOneName, comes_into, one_goes, one_stops, removing_one}
 use Rattle.trio_calls_dir.proofs.Walked.{way_may}
-use Rattle.trio_session.specs.Asked.{IsAlike}
-use Rattle.trio_edit_laws.proofs.Alike.{may_alike}
 
 remove_needs : (kind : Kind) (path : Path) → is_root path ≡ false → (now : Nodes) (creds : Creds) (shown : Bool)
     → dir_needs now creds shown (removing kind path)

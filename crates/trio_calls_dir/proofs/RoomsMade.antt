@@ -1,37 +1,16 @@
 -- Room for one entry more of a directory: the whole.
-use Rattle.std.proofs.Common.{◌≡◌, ℕ, ◌+◌, ◌%◌, ◌<◌, ◌≤◌, List, [], length, None, Result, Ok, Err, sym, refl, ap, ◌∙◌, subst, inr, eqb, arith}
-use Rattle.std.specs.Prelude.{is_some, map}
-use Rattle.std.specs.List.{find}
-use Rattle.std.proofs.lemmas.Bool.{eqb-true}
-use Rattle.trio_lists.specs.Lists.{In}
-use Rattle.trio_rights.specs.declared.kind.Kind.TheVariants.{Directory}
-use Rattle.trio_layout.specs.declared.body.Body.{Body}
-use Rattle.trio_layout.specs.Body.{block_count}
-use Rattle.trio_lease.specs.Shown.{Shown}
-use Rattle.trio_lease.specs.declared.parts.HoldParts.{HoldParts}
-use Rattle.trio_nodes.specs.declared.answers.AllotFault.{AllotFault}
+use Rattle.trio_calls_dir.proofs.Words.{◌%◌, ◌+◌, ◌<◌, ◌∙◌, ◌≡◌, ◌≤◌, AllotFault, Allots, ArePossible, AreWithinLimits, Ask, Body, DeskSeen, Directory, Done, Err, HasNumbers, HasPlaces, HoldParts, In, IsAlike, IsOn, IsOpenDir, List, MadeFile, MadeRoom, MayCall, None, Ok, Result, Room, SessionSeen, Shown, Told, [], alike_room, alike_then, ap, arith, block_count, body_in, chain_in, empty_shown, eqb, eqb-true, find, grant_in, inr, is_some, length, map, may_alike, open_chain, refl, room_in, size_fits-body_of, size_in, slot_growth, spare_numbers, spare_pages, subst, sym, took, with_slot, ℕ}
 use Rattle.trio_nodes.specs.declared.answers.AllotFault.TheVariants.{NoMemory}
-use Rattle.trio_nodes.specs.declared.call.Done.{Done}
-use Rattle.trio_desk.specs.Call.{Ask, DeskSeen, Told}
 use Rattle.trio_desk.specs.Calls as desk_calls
-use Rattle.trio_desk.specs.Contents.{AreWithinLimits}
-use Rattle.trio_desk.specs.Ready.{ArePossible}
-use Rattle.trio_session.specs.Asked.{Allots, IsAlike, IsSame, took}
-use Rattle.trio_session.specs.Deeds.{slot_growth, with_slot}
-use Rattle.trio_session.specs.Layout.{size_in}
-use Rattle.trio_session.specs.Seen.{IsOn, IsOpenDir, LeavesPlace, MadeFile, Room, SessionSeen, body_in, chain_in, empty_shown, grant_in, room_in, spare_numbers, spare_pages}
-use Rattle.trio_session.proofs.Alike.{alike_room, alike_then}
+use Rattle.trio_session.specs.Asked.{IsSame}
+use Rattle.trio_session.specs.Seen.{LeavesPlace}
 use Rattle.trio_session.proofs.Others.{slot_alike}
-use Rattle.trio_edit_laws.specs.Allotting.{AllotEnds, Allotted, HasNumbers, NamesStay}
-use Rattle.trio_edit_laws.specs.Calls.{MayCall}
-use Rattle.trio_edit_laws.proofs.Alike.{go_on_alike, may_alike}
+use Rattle.trio_edit_laws.specs.Allotting.{AllotEnds, Allotted, NamesStay}
+use Rattle.trio_edit_laws.proofs.Alike.{go_on_alike}
 use Rattle.trio_edit_laws.proofs.Allotting.{allotted, allotted_before, growth_files, names_room, names_then, numbers_still, room_files, spent_still, stood}
-use Rattle.trio_edit_laws.proofs.OpenChain.{open_chain}
-use Rattle.trio_edit_laws.proofs.Sized.{size_fits-body_of}
 use Rattle.trio_edit_laws.proofs.WithSlot.{IsSlotted, slotted}
 use Rattle.trio_edit_laws.proofs.directories.Stays.{grant-none, no_grant}
 use Rattle.trio_deeds.specs.Slots.{MayAddSlot}
-use Rattle.trio_calls_dir.specs.inner.Rooms.{HasPlaces, MadeRoom}
 
 -- on what the session has nothing it has nothing still
 grant_stays : (s s' : SessionSeen) (n : ℕ) → NamesStay s s' → grant_in s n ≡ None → grant_in s' n ≡ None

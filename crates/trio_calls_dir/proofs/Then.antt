@@ -1,44 +1,16 @@
 -- A try goes on: what was known and given before is added to what comes then.
-use Rattle.std.proofs.Common.{◌≡◌, ℕ, ◌+◌, Bool, true, false, cond, eqb, Option, Some, None, List, [], ◌∷◌, ◌++◌, sym, refl, ap, ◌∙◌, subst, inl, inr, append_assoc}
-use Rattle.std.specs.Prelude.{map, take, ◌||◌}
+use Rattle.trio_calls_dir.proofs.Words.{◌++◌, ◌+◌, ◌||◌, ◌∙◌, ◌∷◌, ◌≡◌, Ask, AskedBy, Bool, Busy, Call, Calls, Chmod, Create, Creds, Denied, DeskSeen, Directory, Exists, Goes, In, In-cases, InAllShown, InoParts, IntoItself, IsAlike, IsDir, IsNumber, IsReplied, Kind, Lease, LeavesHere, LentFile, List, ListNames, Mkdir, Mode, Needed, NoInodes, NoMemory, NoSpace, Nodes, None, NotDir, NotEmpty, NotFound, Option, Outcome, Path, Regular, Rename, Replied, Rmdir, Room, SameDesk, SessionSeen, Some, TakesMore, Target, Told, TooLarge, Unlink, Went, WriteLease, [], alike_then, allot_asks, ap, append-nil, append_assoc, applied, as_lent, asked, asked_beside, asks_from, batch_nodes, calls_then, clear, cond, edited, eqb, false, fill, grant_ask, in_hand, inl, inr, is_done, made_by, map, map-append, moved, moved_shown, name_of, need_of, new_body, new_number, numbers_for, option_map_or, pages_for, possible_then, refl, retitle, served_by, slot_growth, subst, sym, took, true, wants_of, with_slot, ℕ}
+use Rattle.std.specs.Prelude.{take}
 use Rattle.std.specs.List.{list_any}
-use Rattle.std.specs.Option.{option_map_or}
-use Rattle.std.proofs.lemmas.List.{append-nil, map-append}
-use Rattle.trio_lists.proofs.Members.{In-cases}
-use Rattle.trio_lists.specs.Lists.{In}
-use Rattle.trio_rights.specs.declared.kind.Kind.{Kind}
-use Rattle.trio_rights.specs.declared.kind.Kind.TheVariants.{Directory, Regular}
-use Rattle.trio_rights.specs.declared.rights.Creds.{Creds}
-use Rattle.trio_rights.specs.declared.rights.Mode.{Mode}
 use Rattle.trio_lease.specs.declared.parts.FreshParts.{FreshParts}
-use Rattle.trio_lease.specs.declared.parts.InoParts.{InoParts}
-use Rattle.trio_lease.specs.Shown.{LentFile}
-use Rattle.trio_lease.specs.declared.lease.Lease.{Lease}
-use Rattle.trio_lease.specs.declared.lease.Lease.TheVariants.{Write as WriteLease}
-use Rattle.trio_nodes.specs.declared.call.Call.{Call}
-use Rattle.trio_nodes.specs.declared.call.Call.TheVariants.{Mkdir, Create, Write, Read, Truncate, Unlink, Rmdir, Rename, List as ListNames, Stat, Chmod}
-use Rattle.trio_nodes.specs.declared.call.Reply.TheVariants.{Ok as IsReplied, NotFound, Exists, NotDir, IsDir, NotEmpty, Denied, IntoItself, NoSpace, NoInodes, TooLarge}
-use Rattle.trio_nodes.specs.Nodes.{Nodes}
-use Rattle.trio_nodes.specs.Walk.{Path, name_of}
-use Rattle.trio_nodes.specs.Apply.{applied, is_done}
-use Rattle.trio_nodes.specs.After.{batch_nodes}
-use Rattle.trio_desk.specs.Call.{Ask, DeskSeen, Told}
+use Rattle.trio_nodes.specs.declared.call.Call.TheVariants.{Write, Read, Truncate, Stat}
 use Rattle.trio_desk.specs.Calls as desk_calls
-use Rattle.trio_desk.specs.Calls.{Calls}
-use Rattle.trio_desk.specs.Edits.{TakesMore}
-use Rattle.trio_session.specs.Asked.{IsAlike, allot_asks, took, SameDesk}
-use Rattle.trio_session.specs.Seen.{Room, SessionSeen, clear, fill, in_hand, retitle}
-use Rattle.trio_walk.specs.Needs.{Needed, asked, asked_beside, serves_need}
-use Rattle.trio_walk.specs.Walks.{InAllShown, TookLeases, need_of, served_by}
-use Rattle.trio_walk.specs.Asks.{AskedBy, grant_ask}
-use Rattle.trio_walk.specs.declared.outcome.Outcome.{Outcome}
-use Rattle.trio_walk.specs.declared.outcome.Outcome.TheVariants.{Replied, Busy, NoMemory}
-use Rattle.trio_calls_dir.specs.Asks.{Target, made_by, numbers_for, edited, filled_new, moved, pages_for, wants_of}
-use Rattle.trio_calls_dir.specs.inner.Goes.{Goes, IsNumber, LeavesHere, Went, asks_from}
+use Rattle.trio_walk.specs.Needs.{serves_need}
+use Rattle.trio_walk.specs.Walks.{TookLeases}
+use Rattle.trio_calls_dir.specs.Asks.{filled_new}
 use Rattle.trio_walk.proofs.Stepping.{served_by-took}
-use Rattle.trio_session.proofs.Alike.{alike_then, took_more, took_alike, same_then, same_back, alike_edited}
-use Rattle.trio_session.specs.Deeds.{as_lent, new_number, moved_shown, new_body, slot_growth, with_slot}
-use Rattle.trio_walk.proofs.Then.{both_then, calls_then, asked_behind, possible_then}
+use Rattle.trio_session.proofs.Alike.{took_more, took_alike, same_then, same_back, alike_edited}
+use Rattle.trio_walk.proofs.Then.{both_then, asked_behind}
 use Rattle.trio_session.proofs.Others.{fill-other, clear-other, retitle-other, with_slot-other}
 
 -- ---- another moment of the desk

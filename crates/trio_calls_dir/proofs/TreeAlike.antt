@@ -1,16 +1,9 @@
 -- Lists of nodes that say the same of every number are one tree together.
-use Rattle.std.proofs.Common.{◌≡◌, ℕ, true, cond, List, [], ◌∷◌, Some, None, sym, ap, ◌∙◌, subst, inl, inr}
-use Rattle.std.specs.Prelude.{is_some}
-use Rattle.std.specs.Option.{option_map}
-use Rattle.std.proofs.lemmas.Bool.{cases_eq}
-use Rattle.trio_nodes.specs.declared.node.Node.{Node}
-use Rattle.trio_nodes.specs.Nodes.{Nodes, SameNodes, find_named, node_at}
+use Rattle.trio_calls_dir.proofs.Words.{◌∙◌, ◌∷◌, ◌≡◌, Child-find_named, IsDirectory, IsTree, List, Node, Nodes, None, Path, Some, [], ap, cases_eq, cond, find_named, find_named-Child, inl, inr, is_some, node_at, option_map, subst, sym, true, with_changed, ℕ}
+use Rattle.trio_nodes.specs.Nodes.{SameNodes}
 use Rattle.trio_nodes.specs.Found.{found_from, path_found, then_found}
-use Rattle.trio_nodes.specs.Tree.{IsDirectory, IsTree}
-use Rattle.trio_nodes.specs.Walk.{Path}
 use Rattle.trio_nodes.proofs.NodeFacts.{with_node-else, with_node-same}
-use Rattle.trio_onetree.proofs.Children.{Child, Child-find_named, Names, find_named-Child, then_found-Some}
-use Rattle.trio_laws.specs.session.SlotEdits.{with_changed}
+use Rattle.trio_onetree.proofs.Children.{Child, Names, then_found-Some}
 
 module _ (a b : Nodes) (same : SameNodes a b) (tree : IsTree a) where
   names_alike : Names b

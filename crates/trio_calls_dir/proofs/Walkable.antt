@@ -1,16 +1,7 @@
 -- A session that may make calls may walk, and may make calls with what a walk takes.
-use Rattle.std.proofs.Common.{List, [], ◌∷◌, refl}
-use Rattle.trio_lease.specs.declared.lease.Lease.{Lease}
-use Rattle.trio_lease.specs.declared.lease.Lease.TheVariants.{Write as WriteLease, Read as ReadLease, Hold as HoldLease}
-use Rattle.trio_nodes.specs.After.{batch_nodes}
-use Rattle.trio_desk.specs.Call.{DeskSeen}
-use Rattle.trio_session.specs.Asked.{SameDesk, with_lease}
-use Rattle.trio_session.specs.Seen.{IsOn, SessionSeen}
-use Rattle.trio_edit_laws.specs.Calls.{MayCall}
-use Rattle.trio_edit_laws.proofs.Called.{may_same}
-use Rattle.trio_edit_laws.proofs.Walkable.{hand_out, kind_shows, listed_now, looked_held, may_hold, may_read, may_write, shows_calls}
-use Rattle.trio_edit_laws.proofs.directories.Sees.{sees_directory}
-use Rattle.trio_walk.specs.Walks.{IsLentNow, Lends, MayWalk, with_leases}
+use Rattle.trio_calls_dir.proofs.Words.{◌∷◌, DeskSeen, HoldLease, IsOn, Lease, List, MayCall, MayWalk, ReadLease, SameDesk, SessionSeen, WriteLease, [], batch_nodes, may_same, refl, sees_directory, shows_calls, with_lease, with_leases}
+use Rattle.trio_edit_laws.proofs.Walkable.{hand_out, kind_shows, listed_now, looked_held, may_hold, may_read, may_write}
+use Rattle.trio_walk.specs.Walks.{IsLentNow, Lends}
 
 pub may_walk : (desk : DeskSeen) (s : SessionSeen) → MayCall desk s → MayWalk desk s
 may_walk desk s may = record {

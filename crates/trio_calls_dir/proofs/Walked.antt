@@ -1,23 +1,10 @@
 -- A try after its walks.
-use Rattle.std.proofs.Common.{◌≡◌, List, [], ◌∷◌, sym, refl, ap, ◌∙◌, subst}
-use Rattle.std.specs.Prelude.{map}
-use Rattle.std.proofs.lemmas.List.{append-nil}
-use Rattle.trio_lease.specs.declared.lease.Lease.{Lease}
-use Rattle.trio_lease.specs.declared.lease.Lease.TheVariants.{Write as WriteLease, Read as ReadLease, Hold as HoldLease}
-use Rattle.trio_desk.specs.Call.{Ask, DeskSeen, Told}
+use Rattle.trio_calls_dir.proofs.Words.{◌∙◌, ◌∷◌, ◌≡◌, Ask, Calls, DeskSeen, HoldLease, IsAlike, Lease, List, MayCall, MayWalk, ReadLease, SameDesk, SessionSeen, TakesMore, Told, Way, Went, WriteLease, [], ap, append-nil, calls_same, given_all, in_hand, lent_call, map, may_alike, on_alike, refl, subst, sym, took, with_lease, with_leases}
 use Rattle.trio_desk.specs.Calls as desk_calls
-use Rattle.trio_desk.specs.Calls.{Calls}
-use Rattle.trio_desk.specs.Edits.{TakesMore}
-use Rattle.trio_session.specs.Asked.{with_lease, IsAlike, took, SameDesk}
-use Rattle.trio_session.specs.Seen.{SessionSeen, in_hand}
-use Rattle.trio_edit_laws.specs.Calls.{MayCall}
-use Rattle.trio_walk.specs.Walks.{MayWalk, Way, lent_call, with_leases}
-use Rattle.trio_walk.proofs.Possible.{calls_same, possible_before}
-use Rattle.trio_calls_dir.specs.inner.Goes.{Went}
+use Rattle.trio_walk.proofs.Possible.{possible_before}
 use Rattle.trio_calls_dir.proofs.Walkable.{lends_may}
-use Rattle.trio_session.proofs.Alike.{alike_back, on_alike}
-use Rattle.trio_walk.proofs.Then.{given_all, took_leases}
-use Rattle.trio_edit_laws.proofs.Alike.{may_alike}
+use Rattle.trio_session.proofs.Alike.{alike_back}
+use Rattle.trio_walk.proofs.Then.{took_leases}
 
 -- ---- what a walk takes
 

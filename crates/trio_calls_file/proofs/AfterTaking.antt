@@ -1,29 +1,11 @@
 -- A try after its file was taken: what comes then is added to what was given.
-use Rattle.std.proofs.Common.{◌≡◌, ℕ, Bool, true, false, cond, eqb, List, [], ◌++◌, sym, ap, ◌∙◌, subst, inl, inr, append_assoc}
-use Rattle.std.specs.Prelude.{map, length}
-use Rattle.std.proofs.lemmas.List.{append-nil, map-append}
-use Rattle.trio_lists.proofs.Members.{In-cases}
-use Rattle.trio_nodes.specs.declared.call.Call.{Call}
-use Rattle.trio_nodes.specs.declared.call.Call.TheVariants.{Mkdir, Create, Write, Read, Truncate, Unlink, Rmdir, Rename, List as ListNames, Stat, Chmod}
-use Rattle.trio_nodes.specs.declared.call.Reply.TheVariants.{Ok as IsReplied, NotFound, Exists, NotDir, IsDir, NotEmpty, Denied, IntoItself, NoSpace, NoInodes, TooLarge}
-use Rattle.trio_desk.specs.Call.{Ask, DeskSeen, Told}
+use Rattle.trio_calls_file.proofs.Words.{◌++◌, ◌∙◌, ◌≡◌, Ask, AskedBy, Bool, Busy, Call, Chmod, Create, Denied, DeskSeen, Exists, Goes, In-cases, InAllShown, IntoItself, IsAlike, IsDir, IsReplied, LeavesHere, List, ListNames, Mkdir, NoInodes, NoMemory, NoSpace, Nodes, NotDir, NotEmpty, NotFound, Outcome, Read, Rename, Replied, Rmdir, SessionSeen, Stat, Told, TooLarge, Truncate, Unlink, Went, Write, [], alike_then, ap, append-nil, append_assoc, batch_nodes, body_in, both_then, cond, edited, eqb, false, inl, inr, map, map-append, new_length, put, put_alike, size_in, sized, subst, sym, took, true, ℕ}
+use Rattle.std.specs.Prelude.{length}
 use Rattle.trio_desk.specs.Calls as desk_calls
 use Rattle.trio_desk.specs.Calls.{Calls}
-use Rattle.trio_nodes.specs.Nodes.{Nodes}
-use Rattle.trio_nodes.specs.After.{batch_nodes}
-use Rattle.trio_session.specs.Asked.{IsAlike, took}
-use Rattle.trio_session.specs.Layout.{size_in}
-use Rattle.trio_session.specs.Seen.{SessionSeen, body_in, put}
-use Rattle.trio_walk.specs.Walks.{InAllShown}
-use Rattle.trio_walk.specs.declared.outcome.Outcome.{Outcome}
-use Rattle.trio_walk.specs.declared.outcome.Outcome.TheVariants.{Replied, Busy, NoMemory}
-use Rattle.trio_walk.specs.Asks.{AskedBy}
-use Rattle.trio_calls_file.specs.Asks.{edited, new_length}
-use Rattle.trio_calls_file.specs.inner.Goes.{Goes, LeavesHere, Went}
-use Rattle.trio_session.proofs.Alike.{alike_then, took_more, took_alike, same_then, same_back}
-use Rattle.trio_session.specs.Deeds.{sized}
-use Rattle.trio_walk.proofs.Then.{both_then, possible_then, calls_then, asked_behind}
-use Rattle.trio_session.proofs.Others.{put_alike, sized_alike}
+use Rattle.trio_session.proofs.Alike.{took_more, took_alike, same_then, same_back}
+use Rattle.trio_walk.proofs.Then.{possible_then, calls_then, asked_behind}
+use Rattle.trio_session.proofs.Others.{sized_alike}
 
 -- ---- edits go by neither indexes nor room
 

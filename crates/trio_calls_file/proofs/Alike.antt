@@ -1,13 +1,6 @@
 -- A session that is alike has the same files open; and what a write edits, of some bytes and of none.
-use Rattle.std.proofs.Common.{◌≡◌, ℕ, true, false, cond, eqb, List, ◌+◌, length, max, ap}
+use Rattle.trio_calls_file.proofs.Words.{◌+◌, ◌≡◌, IsAlike, IsOpen, List, Path, SessionSeen, alike_by, ap, body_in, cond, edited, eqb, false, length, max, put, size_in, sized, true, ℕ}
 use Rattle.trio_nodes.specs.declared.call.Call.TheVariants.{Write as WriteCall}
-use Rattle.trio_nodes.specs.Walk.{Path}
-use Rattle.trio_session.specs.Layout.{size_in}
-use Rattle.trio_session.specs.Seen.{IsOpen, SessionSeen, body_in, put}
-use Rattle.trio_calls_file.specs.Asks.{edited}
-use Rattle.trio_session.specs.Asked.{IsAlike}
-use Rattle.trio_session.proofs.Alike.{alike_by}
-use Rattle.trio_session.specs.Deeds.{sized}
 
 -- ---- what a session may
 

@@ -1,54 +1,15 @@
 -- A call at the file to which its walk came.
-use Rattle.std.proofs.Common.{◌≡◌, ℕ, ◌-◌, ◌+◌, ◌/◌, ◌<◌, Bool, true, false, cond, leb, List, [], ◌∷◌, ◌++◌, length, Option, Some, None, Result, Ok, Err, sym, refl, ap, ◌∙◌, subst, inr, arith, append_assoc}
-use Rattle.std.specs.Prelude.{◌≢◌, map, not, MatchResult}
-use Rattle.std.proofs.lemmas.List.{append-nil}
-use Rattle.trio_rights.specs.declared.kind.Kind.{Kind}
-use Rattle.trio_rights.specs.declared.kind.Kind.TheVariants.{Directory, Regular}
-use Rattle.trio_rights.specs.declared.rights.Creds.{Creds}
-use Rattle.trio_rights.specs.declared.rights.Need.TheVariants.{Read as ToRead}
-use Rattle.trio_nodes.specs.declared.node.Node.{Node}
-use Rattle.trio_nodes.specs.declared.call.Call.{Call}
-use Rattle.trio_nodes.specs.declared.call.Call.TheVariants.{Mkdir, Create, Write, Read, Truncate, Unlink, Rmdir, Rename, List as ListNames, Stat, Chmod}
-use Rattle.trio_nodes.specs.declared.call.Reply.{Reply}
-use Rattle.trio_nodes.specs.declared.call.Reply.TheVariants.{Denied, IsDir}
-use Rattle.trio_nodes.specs.declared.grant.GrantKind.{GrantKind}
-use Rattle.trio_rights.specs.Row.{Row}
-use Rattle.trio_nodes.specs.declared.grant.GrantKind.TheVariants.{Read as ReadGrant, Write as WriteGrant, Hold as HoldGrant}
-use Rattle.trio_desk.specs.Ready.{ArePossible}
-use Rattle.trio_nodes.specs.Nodes.{Nodes, node_at}
-use Rattle.trio_nodes.specs.Walk.{Path, walk}
-use Rattle.trio_nodes.specs.Apply.{applied, is_done, largest_size}
-use Rattle.trio_nodes.specs.After.{batch_nodes}
-use Rattle.trio_desk.specs.Call.{Ask, DeskSeen, Grant, NotLent, Told}
-use Rattle.trio_nodes.specs.declared.answers.GrantFault.TheVariants.{Denied as DeniedGrant}
+use Rattle.trio_calls_file.proofs.Words.{◌++◌, ◌+◌, ◌-◌, ◌/◌, ◌<◌, ◌∙◌, ◌∷◌, ◌≡◌, ◌≢◌, ArePossible, AreWithinLimits, Ask, Bool, BusyAt, Call, Chmod, ComesHere, Create, Creds, Denied, DeniedGrant, DeskSeen, Directory, DoesCall, Err, Goes, Grant, GrantKind, HasMet, HasRights, InAllShown, InBoth, IsAlike, IsBusy, IsDir, IsFileCall, IsHad, Kind, LacksMemory, List, ListNames, MatchResult, MayCall, MayTake, Met, Mkdir, NoMemory, Node, Nodes, None, NotLent, Ok, Option, Outcome, Path, Read, ReadGrant, Regular, Rename, Replied, Reply, Result, Rmdir, Row, SessionSeen, Some, Stat, Stop, ToRead, Told, TookFile, Truncate, Unlink, Unrefused, Went, Write, WriteGrant, [], alike_room, allot_asks, ap, append-nil, append_assoc, applied, arith, asks_at, batch_nodes, bytes_refusal, checked, cond, false, gives, gives_met, grant_for, growth_of, in_hand, inr, is_done, kind_shown, largest_size, leb, length, map, need_for, node_at, not, one_ask, path_of, refl, refusal_at, refused_by_check, sees_root, shown_by, subst, sym, true, try_ends, walk, walked_growth, wanted_pages, wants_pages_for, ℕ}
+use Rattle.trio_nodes.specs.declared.grant.GrantKind.TheVariants.{Hold as HoldGrant}
 use Rattle.trio_desk.specs.Calls as desk_calls
-use Rattle.trio_desk.specs.Contents.{AreWithinLimits, Sizes}
-use Rattle.trio_desk.specs.Edits.{DoesCall}
-use Rattle.trio_laws.specs.session.FileCalls.{gives}
-use Rattle.trio_desk.specs.Agrees.{HasRights}
-use Rattle.trio_laws.proofs.session.FileCalls.{refused_by_check}
-use Rattle.trio_laws.proofs.session.Sees.{sees_root}
-use Rattle.trio_edit_laws.proofs.Shown.{shown_by}
-use Rattle.trio_session.specs.Seen.{SessionSeen, in_hand, kind_shown}
-use Rattle.trio_walk.specs.declared.met.Met.{Met}
+use Rattle.trio_desk.specs.Contents.{Sizes}
 use Rattle.trio_walk.specs.declared.met.Rights as shown_rights
-use Rattle.trio_walk.specs.Needs.{path_of}
-use Rattle.trio_walk.specs.Walks.{InAllShown, InBoth, denies, HasMet, MayTake, gives_met}
-use Rattle.trio_walk.specs.declared.outcome.Outcome.{Outcome}
-use Rattle.trio_walk.specs.declared.outcome.Outcome.TheVariants.{Replied, NoMemory}
-use Rattle.trio_walk.specs.declared.outcome.Stop.{Stop}
-use Rattle.trio_walk.specs.declared.outcome.Stop.TheVariants.{Busy as IsBusy, NoMemory as LacksMemory}
-use Rattle.trio_calls_file.specs.Asks.{IsFileCall, growth_of, wanted_pages, walked_growth}
-use Rattle.trio_edit_laws.specs.Calls.{MayCall}
-use Rattle.trio_calls_file.specs.inner.Goes.{BusyAt, ComesHere, Goes, bytes_refusal, TookFile, Unrefused, Went, asks_at, checked, grant_for, need_for, one_ask, refusal_at, try_ends, wants_pages_for}
+use Rattle.trio_walk.specs.Walks.{denies}
 use Rattle.trio_calls_file.proofs.AfterTaking.{goes_on}
 use Rattle.trio_calls_file.proofs.Checking.{asks_none, asks_own, known_unrefused, refused_at, refuses_call, root_kind}
 use Rattle.trio_calls_file.proofs.Looked.{IsLook, look_goes, may_looked, refused_look, refused_undone}
 use Rattle.trio_calls_file.proofs.Shown.{both_alike, both_went, met_went, stood, went_alike}
-use Rattle.trio_session.specs.Asked.{IsAlike, allot_asks}
-use Rattle.trio_session.proofs.Alike.{alike_room}
 use Rattle.trio_edit_laws.proofs.Had.{had_served}
-use Rattle.trio_session.specs.Deeds.{IsHad}
 
 -- ---- what no check refuses
 

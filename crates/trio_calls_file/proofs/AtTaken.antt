@@ -1,45 +1,14 @@
 -- What is done at the file that is taken.
-use Rattle.std.proofs.Common.{◌≡◌, ℕ, ◌<◌, Bool, true, false, cond, List, [], length, take, drop, Option, Some, None, Result, sym, refl, ap, ◌∙◌, subst}
-use Rattle.std.specs.Prelude.{is_some, not, MatchResult}
-use Rattle.std.specs.Option.{option_map, option_or}
-use Rattle.std.proofs.lemmas.Bool.{false≢true}
-use Rattle.trio_lease.specs.Shown.{Shown}
-use Rattle.trio_rights.specs.Row.{Row}
-use Rattle.trio_rights.specs.declared.kind.Kind.{Kind}
-use Rattle.trio_rights.specs.declared.kind.Kind.TheVariants.{Directory, Regular}
-use Rattle.trio_rights.specs.declared.rights.Need.TheVariants.{Read as ToRead}
-use Rattle.trio_nodes.specs.declared.call.Answer.TheVariants.{Bytes, Stat as IsStat}
-use Rattle.trio_nodes.specs.declared.call.Call.{Call}
-use Rattle.trio_nodes.specs.declared.call.Call.TheVariants.{Read, Stat}
-use Rattle.trio_nodes.specs.declared.call.Reply.{Reply}
-use Rattle.trio_nodes.specs.declared.call.Reply.TheVariants.{Ok as IsReplied, Denied}
-use Rattle.trio_nodes.specs.declared.grant.GrantKind.TheVariants.{Read as ReadGrant, Write as WriteGrant}
-use Rattle.trio_nodes.specs.Nodes.{Nodes, node_at}
-use Rattle.trio_nodes.specs.Walk.{Path, is_directory}
-use Rattle.trio_nodes.specs.After.{batch_nodes}
-use Rattle.trio_desk.specs.Call.{Ask, DeskSeen, Told}
-use Rattle.trio_desk.specs.Contents.{Rights, rights_in, rights_of}
-use Rattle.trio_desk.specs.Edits.{DoesCall}
-use Rattle.trio_desk.specs.Ready.{ArePossible}
-use Rattle.trio_laws.specs.session.FileCalls.{gives, refusal}
-use Rattle.trio_laws.proofs.session.FileCalls.{done_by_bytes, refused_by_check, stats_directory}
-use Rattle.trio_session.specs.Seen.{IsOpen, SessionSeen, kind_shown, open_kind, pages_shown, read_file, serves}
-use Rattle.trio_walk.specs.declared.met.Met.{Met}
-use Rattle.trio_walk.specs.Needs.{path_of}
-use Rattle.trio_walk.specs.Walks.{InAllShown, HasMet}
-use Rattle.trio_walk.specs.declared.outcome.Outcome.{Outcome}
-use Rattle.trio_walk.specs.declared.outcome.Stop.{Stop}
-use Rattle.trio_walk.specs.declared.outcome.Stop.TheVariants.{NoMemory as LacksMemory}
-use Rattle.trio_calls_file.specs.Asks.{IsFileCall}
-use Rattle.trio_edit_laws.specs.Calls.{MayCall}
-use Rattle.trio_calls_file.specs.inner.Goes.{ComesHere, Goes, Unrefused, bytes_reply, checked, grant_for, size_had, stat_reply, try_ends, wants_pages_for}
+use Rattle.trio_calls_file.proofs.Words.{◌<◌, ◌∙◌, ◌≡◌, ArePossible, Ask, Bool, Bytes, Call, ComesHere, Denied, DeskSeen, Directory, DoesCall, Goes, HasMet, InAllShown, IsFileCall, IsHad, IsOpen, IsReplied, Kind, LacksMemory, List, MatchResult, MayCall, Met, Nodes, None, Option, Outcome, Path, Read, ReadGrant, Regular, Reply, Result, Rights, Row, SessionSeen, Shown, Some, Stat, Stop, ToRead, Told, Unrefused, WriteGrant, [], ap, batch_nodes, body_had, bytes_had, checked, cond, done_by_bytes, drop, entries_counted, false, false≢true, gives, grant_for, is_directory, is_some, kind_shown, length, node_at, not, open_kind, option_map, pages_shown, path_of, read_file, refl, refusal, refused_by_check, rights_in, rights_of, serves, subst, sym, take, true, try_ends, wants_pages_for, ℕ}
+use Rattle.std.specs.Option.{option_or}
+use Rattle.trio_nodes.specs.declared.call.Answer.TheVariants.{Stat as IsStat}
+use Rattle.trio_laws.proofs.session.FileCalls.{stats_directory}
+use Rattle.trio_calls_file.specs.inner.Goes.{bytes_reply, size_had, stat_reply}
 use Rattle.trio_calls_file.proofs.AtFile.{look_pages, write_regular}
 use Rattle.trio_calls_file.proofs.Checking.{regular_unrefused}
 use Rattle.trio_calls_file.proofs.Contents.{HadHere, had_count, had_here, had_length}
 use Rattle.trio_calls_file.proofs.Looked.{IsLook, look_goes, read_look, refused_look}
 use Rattle.trio_calls_file.proofs.Shown.{stood}
-use Rattle.trio_session.specs.Deeds.{IsHad, body_had, bytes_had}
-use Rattle.trio_deeds.specs.Reads.{entries_counted}
 
 -- a regular file that is taken for writing is open
 pub open_served : (s : SessionSeen) (ino : ℕ) → serves s ino WriteGrant ≡ true → kind_shown s ino ≡ Some Regular → IsOpen s ino

@@ -1,42 +1,9 @@
 -- What the checks of a call say of the nodes that are shown.
-use Rattle.std.proofs.Common.{◌≡◌, ℕ, ◌+◌, Bool, true, false, cond, ltb, leb, arith, List, [], ◌∷◌, ◌++◌, length, Option, Some, None, sym, refl, ap, ◌∙◌, subst}
-use Rattle.std.specs.Prelude.{is_some, map, not}
-use Rattle.std.specs.Option.{option_map}
-use Rattle.std.proofs.Math.Bool.{or-false}
+use Rattle.trio_calls_file.proofs.Words.{◌++◌, ◌+◌, ◌∙◌, ◌∷◌, ◌≡◌, ArePossible, Bool, Call, Chmod, ComesHere, Create, Creds, Denied, DeskSeen, Directory, DoesCall, Grant, HasMet, HasRights, IsDir, IsFileCall, IsMet, Kind, List, ListNames, MayBeDone, MayCall, Met, Mkdir, Needed, Nodes, None, Option, Read, Regular, Rename, Reply, Rights, Rmdir, Row, SessionSeen, Some, Stat, TooLarge, Truncate, Unlink, Write, [], allot_asks, ap, applied, arith, asked, asks_at, batch_nodes, bytes_refusal, checked, cond, false, file_path, gives, gives_met, grant_ask, grant_for, in_hand, is_directory, is_done, is_some, largest_size, leb, length, ltb, map, need_for, node_at, not, one_ask, option_map, or-false, path_of, refl, refusal, refusal_at, refused_by_check, rights_of, sees_root, served_by, serves, shown_by, subst, sym, true, walk, walked_growth, wanted_pages, ℕ}
 use Rattle.std.proofs.lemmas.Bool.Decides.{nat_tests}
-use Rattle.trio_rights.specs.Row.{Row}
-use Rattle.trio_rights.specs.declared.kind.Kind.{Kind}
-use Rattle.trio_rights.specs.declared.kind.Kind.TheVariants.{Directory, Regular}
-use Rattle.trio_rights.specs.declared.rights.Creds.{Creds}
-use Rattle.trio_nodes.specs.declared.call.Call.{Call}
-use Rattle.trio_nodes.specs.declared.call.Call.TheVariants.{Mkdir, Create, Write, Read, Truncate, Unlink, Rmdir, Rename, List as ListNames, Stat, Chmod}
-use Rattle.trio_nodes.specs.declared.call.Reply.{Reply}
-use Rattle.trio_nodes.specs.declared.call.Reply.TheVariants.{IsDir, Denied, TooLarge}
-use Rattle.trio_nodes.specs.Nodes.{Nodes, node_at}
-use Rattle.trio_nodes.specs.Walk.{is_directory, walk}
-use Rattle.trio_nodes.specs.Apply.{applied, is_done, largest_size}
-use Rattle.trio_nodes.specs.After.{batch_nodes}
-use Rattle.trio_desk.specs.Agrees.{HasRights}
-use Rattle.trio_desk.specs.Call.{DeskSeen, Grant}
-use Rattle.trio_desk.specs.Contents.{Rights, rights_of}
-use Rattle.trio_desk.specs.Edits.{DoesCall}
-use Rattle.trio_desk.specs.Ready.{ArePossible}
-use Rattle.trio_laws.specs.session.FileCalls.{file_path, gives, refusal}
-use Rattle.trio_laws.proofs.session.FileCalls.{refused_by_check}
-use Rattle.trio_edit_laws.specs.Calls.{MayCall}
-use Rattle.trio_edit_laws.proofs.Shown.{shown_by}
-use Rattle.trio_laws.proofs.session.Sees.{sees_root}
-use Rattle.trio_session.specs.Seen.{in_hand, SessionSeen, serves}
-use Rattle.trio_walk.specs.declared.met.Met.{Met}
 use Rattle.trio_walk.specs.declared.met.Rights as shown_rights
-use Rattle.trio_walk.specs.Needs.{Needed, asked, path_of}
-use Rattle.trio_walk.specs.Walks.{IsMet, served_by, HasMet, gives_met}
-use Rattle.trio_calls_file.specs.Asks.{IsFileCall, wanted_pages, walked_growth}
-use Rattle.trio_walk.specs.Asks.{grant_ask}
-use Rattle.trio_calls_file.specs.inner.Goes.{ComesHere, MayBeDone, asks_at, bytes_refusal, checked, grant_for, need_for, one_ask, refusal_at}
 use Rattle.trio_calls_file.proofs.KnownRights.{gives_known}
 use Rattle.trio_calls_file.proofs.Looked.{IsRefused}
-use Rattle.trio_session.specs.Asked.{allot_asks}
 
 -- ---- refusals
 

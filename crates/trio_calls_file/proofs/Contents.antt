@@ -1,17 +1,12 @@
 -- What is had of a file is true of its node.
-use Rattle.std.proofs.Common.{◌≡◌, ℕ, zero, suc, ◌+◌, true, cond, eqb, List, [], ◌∷◌, ◌++◌, length, map, take, Option, Some, None, Ok, length-append, sym, refl, ap, ◌∙◌, subst, arith}
-use Rattle.std.specs.Prelude.{is_some, ◌||◌}
+use Rattle.trio_calls_file.proofs.Words.{◌++◌, ◌+◌, ◌||◌, ◌∙◌, ◌∷◌, ◌≡◌, ArePossible, DeskSeen, Directory, HasRights, In, IsHad, Kind, List, MayCall, Node, Nodes, None, Ok, Option, Regular, Rights, Row, SessionSeen, Shown, Some, [], ap, arith, batch_nodes, body_had, body_had-open, body_in, bytes_had, bytes_in, chain_in, cond, entries_counted, eqb, eqb-true, false≢true, in_hand, is_some, length, node_at, open_kind, option_map, pages_shown, read_file, refl, rights_in, rights_of, sees_bytes, sees_directory, serves, shows_calls, size_in, subst, suc, sym, take, true, zero, ℕ}
+use Rattle.std.proofs.Common.{map, length-append}
 use Rattle.std.specs.List.{filter, flat_map}
-use Rattle.std.specs.Option.{option_map}
-use Rattle.std.proofs.lemmas.Bool.{eqb-true, false≢true}
 use Rattle.std.proofs.lemmas.List.{length-take-le}
 use Rattle.std.proofs.lemmas.List.Elements.{filter-append}
 use Rattle.std.proofs.lemmas.List.Folds.{flat_map-map}
 use Rattle.std.proofs.lemmas.List.Sums.{sum_by-cons}
-use Rattle.trio_rights.specs.Row.{Row}
-use Rattle.trio_rights.specs.declared.kind.Kind.{Kind}
-use Rattle.trio_rights.specs.declared.kind.Kind.TheVariants.{Directory, Regular}
-use Rattle.trio_lists.specs.Lists.{In, gathered, gathered_below, tabulated}
+use Rattle.trio_lists.specs.Lists.{gathered, gathered_below, tabulated}
 use Rattle.trio_lists.proofs.Filters.{find-In}
 use Rattle.trio_lists.proofs.Members.{In-right, both-Ok}
 use Rattle.trio_layout.specs.Entries.{Listed, body_in_slot, entries_on, listed_at, slot_bytes, slot_entries}
@@ -21,30 +16,22 @@ use Rattle.trio_layout.specs.declared.slot.SlotRead.TheVariants.{Empty, Entry, B
 use Rattle.trio_auxdir.specs.Slots.{name_in, slot_on, slots_of, slots_on}
 use Rattle.trio_session.proofs.Slots.{slot_wider}
 use Rattle.trio_laws.proofs.session.LentFiles.{lent_gathers}
-use Rattle.trio_lease.specs.Shown.{Shown}
 use Rattle.trio_lease.specs.declared.parts.LentPage.{LentPage}
-use Rattle.trio_nodes.specs.declared.node.Node.{Node}
-use Rattle.trio_nodes.specs.Nodes.{Nodes, count_in, node_at}
-use Rattle.trio_nodes.specs.After.{batch_nodes}
-use Rattle.trio_desk.specs.Agrees.{HasContent, HasFile, HasRights}
-use Rattle.trio_desk.specs.Call.{DeskSeen}
-use Rattle.trio_desk.specs.Contents.{Rights, bytes_shown, entries_shown, rights_in, rights_of}
-use Rattle.trio_desk.specs.Ready.{ArePossible, lent_files}
+use Rattle.trio_nodes.specs.Nodes.{count_in}
+use Rattle.trio_desk.specs.Agrees.{HasContent, HasFile}
+use Rattle.trio_desk.specs.Contents.{bytes_shown, entries_shown}
+use Rattle.trio_desk.specs.Ready.{lent_files}
 use Rattle.trio_laws.specs.session.Sees.{IsView}
 use Rattle.trio_laws.proofs.session.Sees.{sees_lease, sees_lent}
-use Rattle.trio_session.specs.Layout.{page_in, size_in}
-use Rattle.trio_session.specs.Seen.{SessionSeen, body_in, chain_in, entry_count, every_number, in_hand, open_kind, pages_shown, read_file, serves}
+use Rattle.trio_session.specs.Layout.{page_in}
+use Rattle.trio_session.specs.Seen.{entry_count, every_number}
 use Rattle.trio_nodes.specs.declared.grant.GrantKind.TheVariants.{Read}
-use Rattle.trio_edit_laws.specs.Calls.{MayCall}
-use Rattle.trio_edit_laws.specs.Written.{bytes_in}
-use Rattle.trio_edit_laws.proofs.Reading.{sees_bytes}
-use Rattle.trio_edit_laws.proofs.directories.Sees.{open_rights, sees_directory}
+use Rattle.trio_edit_laws.proofs.directories.Sees.{open_rights}
 use Rattle.trio_deeds.proofs.Reading.{length-joined}
-use Rattle.trio_edit_laws.proofs.Walkable.{shows_calls, view_calls}
-use Rattle.trio_session.proofs.Shows.{body_had-open, body_had-read, pages_shown-open}
+use Rattle.trio_edit_laws.proofs.Walkable.{view_calls}
+use Rattle.trio_session.proofs.Shows.{body_had-read, pages_shown-open}
 use Rattle.trio_edit_laws.proofs.Had.{pages_shown-lent}
-use Rattle.trio_session.specs.Deeds.{IsHad, body_had, bytes_had}
-use Rattle.trio_deeds.specs.Reads.{entries_counted, entries_within, is_entry}
+use Rattle.trio_deeds.specs.Reads.{entries_within, is_entry}
 
 -- as many bytes as the size says
 pub had_length : (s : SessionSeen) (ino : ℕ) → IsHad s ino → length (bytes_had s ino) ≡ size_in (body_had s ino)

@@ -1,62 +1,26 @@
 -- How a call that writes ends: with its edit and its note, or for want of room.
-use Rattle.std.proofs.Common.{◌≡◌, ℕ, ◌+◌, ◌<◌, ◌≤◌, max, arith, Bool, true, false, cond, eqb, List, [], ◌∷◌, ◌++◌, length, Some, None, Result, Ok, Err, sym, refl, ap, ◌∙◌, subst, inl, inr}
-use Rattle.std.specs.Prelude.{map}
-use Rattle.std.specs.Option.{option_map}
-use Rattle.std.proofs.lemmas.Bool.{eqb-true, true≢false}
-use Rattle.std.proofs.lemmas.List.{append-nil}
-use Rattle.trio_rights.specs.declared.kind.Kind.TheVariants.{Regular}
-use Rattle.trio_layout.specs.Body.{block_count}
+use Rattle.trio_calls_file.proofs.Words.{◌++◌, ◌+◌, ◌<◌, ◌∙◌, ◌∷◌, ◌≡◌, ◌≤◌, AfterTry, AllotFault, AreWithinLimits, Ask, AskedBy, Bool, Call, Count, DeskSeen, DoesCall, Done, Err, Goes, HasPlaces, HasRights, InAllShown, IsAlike, IsBytes, IsNotBusy, IsOpen, IsPlain, IsReplied, LeavesHere, List, MadeRoom, MayBeDone, MayCall, MayShow, NoMemory, NoSpace, Node, Nodes, None, NotGiven, Ok, Outcome, Path, Regular, Replied, Result, Rights, SessionSeen, Some, Told, Truncate, TryEnds, Unrefused, Write, [], alike_then, allot_asks, ap, append-nil, applied, arith, batch_nodes, block_count, body_in, both_then, bytes_in, chain_in, cond, done_by_bytes, edited, eqb, eqb-true, false, file_path, growth, growth_of, in_hand, inl, inr, is_done, largest_size, length, length-bytes_in, length-resized, map, mapped, max, new_length, node_at, noted, open_chain, option_map, path_of, put, put_at, refl, refusal, resized, rights_in, room_in, sees_bytes, shown_by, size_in, sized, spare_numbers, spare_pages, subst, sym, took, true, try_ends, walk, walked_growth, wanted_pages, wants_pages_for, with_content, ℕ}
+use Rattle.std.proofs.lemmas.Bool.{true≢false}
 use Rattle.trio_lease.specs.declared.parts.InoParts.{InoParts}
 use Rattle.trio_nodes.specs.declared.call.Answer.{Answer}
-use Rattle.trio_nodes.specs.declared.call.Answer.TheVariants.{Count, Done as IsDone}
-use Rattle.trio_nodes.specs.declared.call.Call.{Call}
-use Rattle.trio_nodes.specs.declared.call.Done.{Done}
-use Rattle.trio_nodes.specs.declared.answers.AllotFault.{AllotFault}
+use Rattle.trio_nodes.specs.declared.call.Answer.TheVariants.{Done as IsDone}
 use Rattle.trio_nodes.specs.declared.answers.AllotFault.TheVariants.{NoInodes as NoFreeInodes, NoPages, NoMemory as NoAllotMemory}
-use Rattle.trio_nodes.specs.declared.call.Call.TheVariants.{Truncate, Write}
-use Rattle.trio_nodes.specs.declared.call.Reply.TheVariants.{Ok as IsReplied, NoSpace}
-use Rattle.trio_nodes.specs.declared.node.Node.{Node}
-use Rattle.trio_nodes.specs.Apply.{applied, is_done, largest_size, put_at, resized, wants_pages}
-use Rattle.trio_nodes.specs.After.{batch_nodes}
-use Rattle.trio_nodes.specs.Nodes.{Nodes, node_at}
-use Rattle.trio_nodes.specs.Walk.{Path, walk}
-use Rattle.trio_desk.specs.Agrees.{HasRights}
-use Rattle.trio_desk.specs.Call.{Allot, Ask, DeskSeen, NotGiven, Told}
+use Rattle.trio_nodes.specs.Apply.{wants_pages}
+use Rattle.trio_desk.specs.Call.{Allot}
 use Rattle.trio_desk.specs.Calls as desk_calls
-use Rattle.trio_desk.specs.Contents.{AreWithinLimits, Rights, rights_in}
-use Rattle.trio_desk.specs.Edits.{DoesCall, MayShow, TakesMore}
+use Rattle.trio_desk.specs.Edits.{TakesMore}
 use Rattle.trio_desk.specs.Out.{ino_numbers}
-use Rattle.trio_laws.specs.session.FileCalls.{answer_of, changed_by, file_path, refusal}
-use Rattle.trio_laws.specs.session.FileEdits.{with_content}
-use Rattle.trio_laws.proofs.session.FileCalls.{done_by_bytes, refused_for_room}
-use Rattle.trio_laws.proofs.session.LentNodes.{mapped}
-use Rattle.trio_session.specs.Layout.{growth, size_in}
-use Rattle.trio_session.specs.Seen.{IsOpen, SessionSeen, body_in, chain_in, in_hand, put, room_in, spare_numbers, spare_pages}
-use Rattle.trio_edit_laws.specs.Written.{bytes_in}
-use Rattle.trio_edit_laws.proofs.OpenChain.{open_chain}
-use Rattle.trio_edit_laws.proofs.Reading.{length-bytes_in, sees_bytes}
-use Rattle.trio_edit_laws.proofs.Resized.{length-resized}
-use Rattle.trio_edit_laws.proofs.Shown.{shown_by}
-use Rattle.trio_walk.specs.Needs.{path_of}
-use Rattle.trio_walk.specs.Walks.{InAllShown}
-use Rattle.trio_walk.specs.Asks.{AskedBy, IsNotBusy, TryEnds, noted}
+use Rattle.trio_laws.specs.session.FileCalls.{answer_of, changed_by}
+use Rattle.trio_laws.proofs.session.FileCalls.{refused_for_room}
 use Rattle.trio_walk.specs.Tries.{allot_reply}
 use Rattle.trio_edit_laws.specs.Allotting.{AllotEnds, IsUngiven}
-use Rattle.trio_edit_laws.specs.Calls.{MayCall, MayGoOn}
+use Rattle.trio_edit_laws.specs.Calls.{MayGoOn}
 use Rattle.trio_edit_laws.proofs.Allotting.{asks_fault, asks_short, told_fault}
 use Rattle.trio_edit_laws.proofs.WithSlot.{no_length}
-use Rattle.trio_calls_file.specs.Asks.{edited, growth_of, new_length, walked_growth, wanted_pages}
-use Rattle.trio_walk.specs.declared.outcome.Outcome.{Outcome}
-use Rattle.trio_walk.specs.declared.outcome.Outcome.TheVariants.{NoMemory, Replied}
-use Rattle.trio_calls_file.specs.inner.Goes.{AfterTry, Goes, IsBytes, IsPlain, LeavesHere, MayBeDone, Unrefused, try_ends, wants_pages_for}
-use Rattle.trio_calls_file.specs.inner.Rooms.{HasPlaces, MadeRoom}
 use Rattle.trio_calls_file.proofs.AfterTaking.{edited_alike}
 use Rattle.trio_calls_file.proofs.Looked.{may_looked}
 use Rattle.trio_calls_file.proofs.Writes.{Edits, edits_none, edits_put, edits_sized}
-use Rattle.trio_session.specs.Asked.{IsAlike, allot_asks, took}
-use Rattle.trio_session.proofs.Alike.{alike_then}
-use Rattle.trio_session.specs.Deeds.{sized}
-use Rattle.trio_walk.proofs.Then.{both_then, short_ends}
+use Rattle.trio_walk.proofs.Then.{short_ends}
 use Rattle.trio_edit_laws.proofs.Noting.{may_noted as note_done}
 
 -- ---- a call that changes the bytes of a file

@@ -1,17 +1,10 @@
 -- What is known of a file that was met: its rights.
-use Rattle.std.proofs.Common.{◌≡◌, Bool, true, Some, sym, ap, ◌∙◌, subst}
+use Rattle.trio_calls_file.proofs.Words.{◌∙◌, ◌≡◌, Bool, Creds, IsMet, Met, Need, Nodes, SessionSeen, Some, ap, gives, gives_met, rights_of, subst, sym, true}
 use Rattle.std.specs.Option.{option_map_or}
 use Rattle.trio_rights.specs.Rights.{permits}
-use Rattle.trio_rights.specs.declared.rights.Creds.{Creds}
 use Rattle.trio_rights.specs.declared.rights.Mode.{Mode}
-use Rattle.trio_rights.specs.declared.rights.Need.{Need}
-use Rattle.trio_nodes.specs.Nodes.{Nodes}
-use Rattle.trio_desk.specs.Contents.{rights_of}
-use Rattle.trio_laws.specs.session.FileCalls.{gives}
-use Rattle.trio_session.specs.Seen.{SessionSeen}
-use Rattle.trio_walk.specs.declared.met.Met.{Met}
 use Rattle.trio_walk.specs.declared.met.Rights as shown_rights
-use Rattle.trio_walk.specs.Walks.{IsMet, RightsAre, gives_met}
+use Rattle.trio_walk.specs.Walks.{RightsAre}
 
 module _ (shown : Bool) (s : SessionSeen) (nodes now : Nodes) (creds : Creds) (m : Met) (t : IsMet shown s nodes now creds m) where
   -- they are the node's

@@ -16,3 +16,4 @@ pub mod AtTaken
 pub mod OwnReads
 pub mod WholeTries
 pub mod Ends
+mod Words

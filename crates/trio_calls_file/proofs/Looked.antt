@@ -1,29 +1,9 @@
 -- A call that looks or is refused, and its note.
-use Rattle.std.proofs.Common.{◌≡◌, ℕ, ◌<◌, false, List, [], ◌++◌, length, Result, Ok, Err, sym, refl, ap, ◌∙◌, subst, inl, inr}
-use Rattle.std.specs.Prelude.{map, MatchResult}
-use Rattle.std.proofs.lemmas.List.{append-nil}
-use Rattle.trio_nodes.specs.declared.call.Answer.TheVariants.{Bytes}
-use Rattle.trio_nodes.specs.declared.call.Call.{Call}
-use Rattle.trio_nodes.specs.declared.call.Call.TheVariants.{Read}
-use Rattle.trio_nodes.specs.declared.call.Reply.{Reply}
-use Rattle.trio_nodes.specs.declared.call.Reply.TheVariants.{Ok as IsReplied, NotFound, NotDir, IsDir, Denied, TooLarge, Exists, NotEmpty, IntoItself, NoSpace, NoInodes}
-use Rattle.trio_nodes.specs.Nodes.{Nodes}
-use Rattle.trio_nodes.specs.Apply.{Apply, applied, is_done}
+use Rattle.trio_calls_file.proofs.Words.{◌++◌, ◌<◌, ◌∙◌, ◌≡◌, Ask, Bytes, Call, Denied, DeskSeen, DoesCall, Err, Exists, Goes, InAllShown, IntoItself, IsAlike, IsBytes, IsDir, IsPlain, IsRead, IsReplied, LacksMemory, LeavesHere, List, MatchResult, MayCall, NoInodes, NoMemory, NoSpace, Nodes, NotDir, NotEmpty, NotFound, Ok, Read, Replied, Reply, Result, SessionSeen, Stop, Told, TooLarge, TryEnds, Went, [], alike_room, ap, append-nil, applied, false, inl, inr, is_done, length, map, noted, refl, subst, sym, took, try_ends, ℕ}
+use Rattle.trio_nodes.specs.Apply.{Apply}
 use Rattle.trio_nodes.specs.After.{call_nodes}
-use Rattle.trio_desk.specs.Call.{Ask, DeskSeen, Told}
 use Rattle.trio_desk.specs.Calls as desk_calls
-use Rattle.trio_desk.specs.Edits.{DoesCall}
-use Rattle.trio_session.specs.Seen.{SessionSeen}
-use Rattle.trio_walk.specs.Walks.{InAllShown}
-use Rattle.trio_walk.specs.declared.outcome.Outcome.TheVariants.{Replied, NoMemory}
-use Rattle.trio_walk.specs.declared.outcome.Stop.{Stop}
-use Rattle.trio_walk.specs.declared.outcome.Stop.TheVariants.{NoMemory as LacksMemory}
-use Rattle.trio_walk.specs.Asks.{TryEnds, noted}
-use Rattle.trio_edit_laws.specs.Calls.{MayCall}
-use Rattle.trio_calls_file.specs.inner.Goes.{Goes, IsBytes, IsPlain, IsRead, LeavesHere, Went, try_ends}
 use Rattle.trio_calls_file.proofs.Shown.{both_alike, went_alike}
-use Rattle.trio_session.specs.Asked.{IsAlike, took}
-use Rattle.trio_session.proofs.Alike.{alike_room}
 use Rattle.trio_edit_laws.proofs.Noting.{may_looked as note_look}
 
 -- ---- the note

@@ -1,29 +1,9 @@
 -- A try that is noted.
-use Rattle.std.proofs.Common.{◌≡◌, ℕ, List, [], ◌++◌, Option, sym, refl, ap, ◌∙◌, subst, inl}
-use Rattle.std.specs.Prelude.{map}
-use Rattle.std.proofs.lemmas.List.{append-nil}
-use Rattle.trio_rights.specs.Row.{Row}
-use Rattle.trio_nodes.specs.declared.call.Answer.TheVariants.{Bytes, Names}
-use Rattle.trio_nodes.specs.declared.call.Call.{Call}
-use Rattle.trio_nodes.specs.declared.call.Call.TheVariants.{Read}
-use Rattle.trio_nodes.specs.declared.call.Done.{Done}
-use Rattle.trio_nodes.specs.declared.call.Reply.{Reply}
-use Rattle.trio_nodes.specs.declared.call.Reply.TheVariants.{Ok as IsReplied}
-use Rattle.trio_nodes.specs.declared.grant.Holder.{Holder}
-use Rattle.trio_nodes.specs.Nodes.{Nodes}
-use Rattle.trio_nodes.specs.After.{batch_nodes}
-use Rattle.trio_desk.specs.Call.{Ask, DeskSeen, Told}
-use Rattle.trio_desk.specs.Ready.{ArePossible}
-use Rattle.trio_session.specs.Seen.{SessionSeen}
-use Rattle.trio_walk.specs.declared.outcome.Outcome.{Outcome}
-use Rattle.trio_walk.specs.declared.outcome.Outcome.TheVariants.{Replied, Busy, NoMemory}
+use Rattle.trio_calls_file.proofs.Words.{◌++◌, ◌∙◌, ◌≡◌, ArePossible, Ask, Busy, Bytes, Call, DeskSeen, Done, FileTried, Holder, IsAlike, IsBytes, IsPlain, IsRead, IsReplied, LeavesHere, List, MayCall, NoMemory, Nodes, Option, Outcome, Read, Replied, RepliesTo, Reply, Row, SessionSeen, Told, TryEnds, [], ap, append-nil, batch_nodes, edited, inl, map, noted, refl, subst, sym, took, ℕ}
+use Rattle.trio_nodes.specs.declared.call.Answer.TheVariants.{Names}
 use Rattle.trio_desk.specs.Calls as desk_calls
-use Rattle.trio_walk.specs.Asks.{TryEnds, noted}
 use Rattle.trio_walk.specs.Tries.{TakesMemory}
-use Rattle.trio_calls_file.specs.Asks.{Leaves, FileTried, TriedIn, edited}
-use Rattle.trio_edit_laws.specs.Calls.{MayCall}
-use Rattle.trio_calls_file.specs.inner.Goes.{IsBytes, IsPlain, IsRead, LeavesHere, RepliesTo}
-use Rattle.trio_session.specs.Asked.{IsAlike, took}
+use Rattle.trio_calls_file.specs.Asks.{Leaves, TriedIn}
 
 -- ---- what is left
 

@@ -1,43 +1,17 @@
 -- A walk takes directories alone, for reading, so none of its leases keeps a regular file busy.
-use Rattle.std.proofs.Common.{◌≡◌, ◌⊎◌, ℕ, Bool, true, false, cond, eqb, List, [], ◌∷◌, ◌++◌, Option, Some, None, Result, Ok, Err, sym, refl, ap, ◌∙◌, subst, inl, inr}
-use Rattle.std.specs.Prelude.{◌≢◌, map, not, ◌||◌}
-use Rattle.std.proofs.lemmas.List.{append-nil}
-use Rattle.std.proofs.lemmas.Bool.{false≢true}
-use Rattle.trio_rights.specs.Row.{Row}
-use Rattle.trio_rights.specs.declared.kind.Kind.TheVariants.{Regular}
-use Rattle.trio_rights.specs.declared.rights.Creds.{Creds}
-use Rattle.trio_rights.specs.declared.rights.Need.{Need}
+use Rattle.trio_calls_file.proofs.Words.{◌++◌, ◌||◌, ◌∙◌, ◌∷◌, ◌≡◌, ◌≢◌, ◌⊎◌, ArePossible, Ask, At, Bool, Busy, BusyAt, Call, Creds, Denied, DeskSeen, Err, Exists, GrantKind, HasNothing, HoldLease, In, In-cases, IntoItself, IsDir, IsMetIn, IsReplied, Lease, List, Met, Need, Needed, NoInodes, NoMemory, NoSpace, Node, Nodes, None, NotDir, NotEmpty, NotFound, Ok, Option, OthersHold, Outcome, Parcel, Path, ReadLease, Regular, Replied, Reply, Result, Row, SessionSeen, Shown, Some, Told, TooLarge, Walked, Walks, WriteLease, [], ap, append-nil, asked, batch_nodes, cond, eqb, false, false≢true, grant_for, inl, inr, is_directory, map, need_of, node_at, not, path_of, refl, served_by, shows_root, subst, sym, true, walk_needs, with_lease, with_leases, ℕ}
 use Rattle.trio_rights.specs.declared.rights.Need.TheVariants.{Read as NeedsRead, Write as NeedsWrite}
-use Rattle.trio_lists.specs.Lists.{In}
-use Rattle.trio_lists.proofs.Members.{In-cases, In-map, map-In}
-use Rattle.trio_lease.specs.Shown.{Shown}
-use Rattle.trio_lease.specs.declared.lease.Lease.{Lease}
-use Rattle.trio_lease.specs.declared.lease.Lease.TheVariants.{Write as WriteLease, Read as ReadLease, Hold as HoldLease}
+use Rattle.trio_lists.proofs.Members.{In-map, map-In}
 use Rattle.trio_lease.specs.declared.parts.HoldParts.{HoldParts}
-use Rattle.trio_nodes.specs.declared.node.Node.{Node}
-use Rattle.trio_nodes.specs.declared.grant.GrantKind.{GrantKind}
 use Rattle.trio_nodes.specs.declared.grant.GrantKind.TheVariants.{Read, Hold}
-use Rattle.trio_nodes.specs.declared.call.Reply.{Reply}
-use Rattle.trio_nodes.specs.declared.call.Reply.TheVariants.{Ok as IsReplied, NotFound, Exists, NotDir, IsDir, NotEmpty, Denied, IntoItself, NoSpace, NoInodes, TooLarge}
-use Rattle.trio_nodes.specs.Nodes.{Nodes, find_named, node_at}
-use Rattle.trio_nodes.specs.Walk.{Path, enter, enter_node, is_directory, lacks, need_at}
-use Rattle.trio_nodes.specs.After.{batch_nodes}
-use Rattle.trio_desk.specs.Call.{Ask, DeskSeen, Told}
-use Rattle.trio_desk.specs.Out.{Parcel, file_numbers, hold_numbers}
-use Rattle.trio_desk.specs.Ready.{ArePossible}
-use Rattle.trio_session.specs.Asked.{with_lease}
-use Rattle.trio_session.specs.Seen.{SessionSeen}
-use Rattle.trio_walk.specs.declared.met.Met.{Met}
-use Rattle.trio_walk.specs.declared.walks.WalkEnd.TheVariants.{At}
-use Rattle.trio_walk.specs.declared.outcome.Outcome.{Outcome}
-use Rattle.trio_walk.specs.declared.outcome.Outcome.TheVariants.{Replied, Busy, NoMemory}
-use Rattle.trio_walk.specs.Needs.{Needed, asked, entered_needs, found_needs, kind_for, needs_from, path_of, walk_needs}
-use Rattle.trio_walk.specs.Walks.{IsMetIn, IsOwnBusy, Walked, Walks, need_of, served_by, shows_root, with_leases}
+use Rattle.trio_nodes.specs.Nodes.{find_named}
+use Rattle.trio_nodes.specs.Walk.{enter, enter_node, lacks, need_at}
+use Rattle.trio_desk.specs.Out.{file_numbers, hold_numbers}
+use Rattle.trio_walk.specs.Needs.{entered_needs, found_needs, kind_for, needs_from}
+use Rattle.trio_walk.specs.Walks.{IsOwnBusy}
 use Rattle.trio_walk.proofs.Agreeing.{asked_beside-In, in_order, walk_need}
 use Rattle.trio_walk.proofs.Possible.{lib_same}
-use Rattle.trio_nodes.specs.declared.call.Call.{Call}
-use Rattle.trio_calls_file.specs.inner.Goes.{BusyAt, IsOwnGrant, grant_for}
-use Rattle.trio_walk.specs.Tries.{OthersHold, HasNothing}
+use Rattle.trio_calls_file.specs.inner.Goes.{IsOwnGrant}
 use Rattle.trio_calls_file.proofs.AtFile.{not_held}
 
 -- a directory stands there

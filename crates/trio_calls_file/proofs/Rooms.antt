@@ -1,19 +1,10 @@
 -- Room for an edit of a file: places, and pages.
-use Rattle.std.proofs.Common.{◌≡◌, ℕ, ◌<◌, ◌≤◌, List, length, Err, [], Result, sym, refl, subst, inr}
-use Rattle.trio_layout.specs.Body.{block_count}
-use Rattle.trio_nodes.specs.declared.answers.AllotFault.{AllotFault}
+use Rattle.trio_calls_file.proofs.Words.{◌<◌, ◌≡◌, ◌≤◌, AllotFault, Allots, Ask, DeskSeen, Done, Err, HasPlaces, IsOn, List, MadeRoom, MayCall, Result, SessionSeen, Told, [], alike_room, block_count, growth, inr, length, may_alike, refl, subst, sym, ℕ}
 use Rattle.trio_nodes.specs.declared.answers.AllotFault.TheVariants.{NoMemory}
-use Rattle.trio_nodes.specs.declared.call.Done.{Done}
-use Rattle.trio_desk.specs.Call.{Ask, DeskSeen, Told}
-use Rattle.trio_session.specs.Asked.{Allots, IsSame}
-use Rattle.trio_session.specs.Layout.{growth}
-use Rattle.trio_session.specs.Seen.{IsOn, Room, SessionSeen}
-use Rattle.trio_session.proofs.Alike.{alike_room}
+use Rattle.trio_session.specs.Asked.{IsSame}
+use Rattle.trio_session.specs.Seen.{Room}
 use Rattle.trio_edit_laws.specs.Allotting.{Allotted}
-use Rattle.trio_edit_laws.specs.Calls.{MayCall}
-use Rattle.trio_edit_laws.proofs.Alike.{may_alike}
 use Rattle.trio_edit_laws.proofs.Allotting.{allotted, allotted_before, files_room, numbers_still, room_files, spent_still, stood}
-use Rattle.trio_calls_file.specs.inner.Rooms.{HasPlaces, MadeRoom}
 
 module _ {D : Type 0} (called : D → Ask → Told → D → Type 0) (seen : D → DeskSeen) (d : D) (s : SessionSeen) (ino old size : ℕ) (s1 : SessionSeen) (may : MayCall (seen d) s) (e : IsSame s s1) where
   abbrev pages : ℕ

@@ -1,23 +1,11 @@
 -- What is known of all nodes that are shown passes to later moments of a try.
-use Rattle.std.proofs.Common.{◌≡◌, ◌⊎◌, Bool, true, eqb, List, [], ◌∷◌, sym, refl, ap, ◌∙◌, subst}
+use Rattle.trio_calls_file.proofs.Words.{◌∙◌, ◌∷◌, ◌≡◌, ◌⊎◌, ArePossible, Ask, Bool, Creds, DeskSeen, HasMet, HoldLease, InBoth, IsAlike, IsMet, List, MayCall, Met, Nodes, NotGiven, NotLent, ReadLease, SessionSeen, Told, Went, WriteLease, [], alike_then, ap, batch_nodes, both_then, eqb, is_some, map, may_alike, refl, subst, sym, took, true, with_lease}
 use Rattle.std.specs.List.{find}
-use Rattle.trio_rights.specs.declared.rights.Creds.{Creds}
-use Rattle.trio_nodes.specs.Nodes.{Nodes}
-use Rattle.trio_nodes.specs.After.{batch_nodes}
-use Rattle.trio_desk.specs.Call.{Ask, DeskSeen, Told, Lent, NotLent, Given, NotGiven, Done, Judged, NotJudged, Settled, NotSettled, ModeSet, NotModeSet}
+use Rattle.trio_desk.specs.Call.{Lent, Given, Done, Judged, NotJudged, Settled, NotSettled, ModeSet, NotModeSet}
 use Rattle.trio_desk.specs.Calls as desk_calls
-use Rattle.trio_desk.specs.Ready.{ArePossible}
-use Rattle.trio_lease.specs.declared.lease.Lease.TheVariants.{Write as WriteLease, Read as ReadLease, Hold as HoldLease}
-use Rattle.trio_session.specs.Asked.{with_allotted, with_lease, IsAlike, took}
-use Rattle.trio_session.specs.Seen.{MadeFile, SessionSeen}
-use Rattle.trio_walk.specs.declared.met.Met.{Met}
-use Rattle.trio_walk.specs.Walks.{InBoth, IsLive, IsMet, HasMet}
-use Rattle.std.specs.Prelude.{is_some, map}
-use Rattle.trio_edit_laws.specs.Calls.{MayCall}
-use Rattle.trio_calls_file.specs.inner.Goes.{Went}
-use Rattle.trio_session.proofs.Alike.{alike_then}
-use Rattle.trio_walk.proofs.Then.{both_then}
-use Rattle.trio_edit_laws.proofs.Alike.{may_alike}
+use Rattle.trio_session.specs.Asked.{with_allotted}
+use Rattle.trio_session.specs.Seen.{MadeFile}
+use Rattle.trio_walk.specs.Walks.{IsLive}
 
 -- ---- sessions that are alike
 

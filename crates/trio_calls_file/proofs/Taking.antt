@@ -1,27 +1,11 @@
 -- The file that is taken, as a walk takes it.
-use Rattle.std.proofs.Common.{◌≡◌, ℕ, Bool, true, false, cond, List, [], ◌∷◌, ◌++◌, Ok, Err, sym, refl, ap, ◌∙◌, subst, inl, inr}
-use Rattle.std.specs.Prelude.{map}
-use Rattle.std.proofs.lemmas.List.{map-append}
-use Rattle.trio_lists.specs.Lists.{In}
-use Rattle.trio_nodes.specs.declared.answers.GrantFault.TheVariants.{Busy as BusyGrant, NoMemory as NoGrantMemory}
-use Rattle.trio_nodes.specs.declared.call.Reply.{Reply}
-use Rattle.trio_nodes.specs.declared.grant.GrantKind.{GrantKind}
-use Rattle.trio_nodes.specs.declared.grant.Holder.{Holder}
-use Rattle.trio_desk.specs.Call.{Ask, DeskSeen, Grant, NotLent, Told}
+use Rattle.trio_calls_file.proofs.Words.{◌++◌, ◌∙◌, ◌∷◌, ◌≡◌, Ask, At, Bool, BusyGrant, DeskSeen, EndsBy, Err, Grant, GrantKind, HasNoMemory, Holder, In, IsBusy, IsReply, LacksMemory, List, MayCall, Met, Needed, NoMemory, NotLent, Ok, Reply, SessionSeen, Told, TookFile, TryEnds, [], ap, asks_lent, cond, false, grant_ask, inl, inr, lent_call, map, map-append, need_of, one_ask, refl, serves, subst, sym, true, ℕ}
+use Rattle.trio_nodes.specs.declared.answers.GrantFault.TheVariants.{NoMemory as NoGrantMemory}
 use Rattle.trio_desk.specs.Calls as desk_calls
-use Rattle.trio_session.specs.Seen.{SessionSeen, serves}
-use Rattle.trio_edit_laws.specs.Calls.{MayCall}
-use Rattle.trio_walk.specs.declared.met.Met.{Met}
-use Rattle.trio_walk.specs.declared.outcome.Outcome.TheVariants.{NoMemory}
-use Rattle.trio_walk.specs.declared.walks.WalkEnd.TheVariants.{At, Reply as IsReply, Busy as IsBusyWalk, NoMemory as HasNoMemory}
-use Rattle.trio_walk.specs.Asks.{TryEnds, grant_ask}
-use Rattle.trio_walk.specs.Needs.{Needed}
-use Rattle.trio_walk.specs.Walks.{EndsBy, Took, lent_call, need_of, one_need}
+use Rattle.trio_walk.specs.declared.walks.WalkEnd.TheVariants.{Busy as IsBusyWalk}
+use Rattle.trio_walk.specs.Walks.{Took, one_need}
 use Rattle.trio_walk.proofs.Possible.{moment_possible}
-use Rattle.trio_walk.specs.declared.outcome.Stop.TheVariants.{Busy as IsBusy, NoMemory as LacksMemory}
-use Rattle.trio_calls_file.specs.inner.Goes.{TookFile, one_ask}
 use Rattle.trio_calls_file.proofs.Walked.{walked_went}
-use Rattle.trio_walk.proofs.Then.{asks_lent}
 
 -- what is asked of one file
 one_asked : (s : SessionSeen) (ino : ℕ) (kind : GrantKind) → map grant_ask (one_need s ino kind) ≡ one_ask s ino kind

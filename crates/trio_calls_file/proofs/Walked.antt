@@ -1,43 +1,17 @@
 -- A try after its walk.
-use Rattle.std.proofs.Common.{◌≡◌, ℕ, ◌+◌, Bool, true, false, cond, eqb, ltb, leb, List, [], ◌∷◌, length, Option, Some, None, sym, refl, ap, ◌∙◌, subst}
-use Rattle.std.specs.Prelude.{map, not, is_some, ◌||◌, ◌&&◌}
-use Rattle.std.proofs.Math.Bool.{or-false}
-use Rattle.trio_rights.specs.declared.kind.Kind.{Kind}
-use Rattle.trio_rights.specs.declared.kind.Kind.TheVariants.{Directory, Regular}
-use Rattle.trio_rights.specs.declared.rights.Creds.{Creds}
-use Rattle.trio_rights.specs.declared.rights.Need.TheVariants.{Read as ToRead}
-use Rattle.trio_lists.specs.Lists.{In}
-use Rattle.trio_lease.specs.Shown.{Shown, LentFile}
-use Rattle.trio_lease.specs.declared.lease.Lease.{Lease}
-use Rattle.trio_lease.specs.declared.lease.Lease.TheVariants.{Write as WriteLease}
-use Rattle.trio_nodes.specs.declared.call.Call.{Call}
-use Rattle.trio_nodes.specs.declared.call.Call.TheVariants.{Mkdir, Create, Write, Read, Truncate, Unlink, Rmdir, Rename, List as ListNames, Stat, Chmod}
-use Rattle.trio_nodes.specs.declared.call.Reply.TheVariants.{Denied}
-use Rattle.trio_nodes.specs.declared.grant.GrantKind.TheVariants.{Read as ReadGrant, Write as WriteGrant}
-use Rattle.trio_nodes.specs.Nodes.{Nodes}
-use Rattle.trio_nodes.specs.Walk.{Path, is_directory}
-use Rattle.trio_nodes.specs.Apply.{largest_size}
-use Rattle.trio_desk.specs.Call.{Ask, DeskSeen, Told}
+use Rattle.trio_calls_file.proofs.Words.{◌+◌, ◌||◌, ◌∙◌, ◌∷◌, ◌≡◌, Ask, Bool, Call, Chmod, Create, Creds, Denied, DeskSeen, Directory, In, IsAlike, IsFileCall, IsMet, Kind, Lease, List, ListNames, MayCall, MayWalk, Met, Mkdir, Needed, Nodes, None, Option, Path, Read, ReadGrant, Regular, Rename, Rmdir, SessionSeen, Shown, Some, Stat, ToRead, Told, Truncate, Unlink, Went, Write, WriteGrant, WriteLease, [], ap, asked, asked_beside, bytes_refusal, checked, cond, eqb, false, gives, gives_met, grant_for, is_directory, is_some, largest_size, leb, length, lent_call, ltb, map, may_alike, met_needs, need_for, need_of, not, on_alike, or-false, own_needs, refl, rights_of, served_by, serves, subst, sym, took, true, with_leases, ℕ}
+use Rattle.std.specs.Prelude.{◌&&◌}
+use Rattle.trio_lease.specs.Shown.{LentFile}
 use Rattle.trio_desk.specs.Calls as desk_calls
-use Rattle.trio_desk.specs.Contents.{rights_of}
-use Rattle.trio_laws.specs.session.FileCalls.{gives}
-use Rattle.trio_session.specs.Asked.{IsAlike, took}
-use Rattle.trio_session.specs.Seen.{SessionSeen, serves}
-use Rattle.trio_edit_laws.specs.Calls.{MayCall}
-use Rattle.trio_walk.specs.declared.met.Met.{Met}
 use Rattle.trio_walk.specs.declared.met.Rights as shown_rights
-use Rattle.trio_walk.specs.Needs.{Needed, asked, asked_beside, own_needs}
-use Rattle.trio_walk.specs.Walks.{IsMet, MayWalk, TookLeases, Way, gives_met, lent_call, need_of, served_by, with_leases}
+use Rattle.trio_walk.specs.Walks.{TookLeases, Way}
 use Rattle.trio_walk.proofs.Possible.{calls_same, possible_before}
 use Rattle.trio_walk.proofs.Stepping.{served_more}
-use Rattle.trio_calls_file.specs.Asks.{IsFileCall}
-use Rattle.trio_calls_file.specs.inner.Goes.{Went, bytes_refusal, checked, grant_for, met_needs, need_for}
 use Rattle.trio_calls_file.proofs.KnownRights.{gives_known}
 use Rattle.trio_calls_file.proofs.Checking.{not-leb}
 use Rattle.trio_calls_file.proofs.Walkable.{lends_may}
-use Rattle.trio_session.proofs.Alike.{on_alike, alike_back}
+use Rattle.trio_session.proofs.Alike.{alike_back}
 use Rattle.trio_walk.proofs.Then.{given_all, took_leases}
-use Rattle.trio_edit_laws.proofs.Alike.{may_alike}
 
 -- ---- what a walk takes
 

@@ -1,39 +1,13 @@
 -- A whole try, but for its note: the walk, and what is done at the file to which it comes.
-use Rattle.std.proofs.Common.{◌≡◌, ℕ, ◌<◌, Bool, true, false, cond, List, [], ◌++◌, length, Some, Result, Ok, Err, sym, refl, ap, ◌∙◌, subst, inl, inr, append_assoc}
-use Rattle.std.specs.Prelude.{◌≢◌, map, MatchResult}
-use Rattle.std.proofs.lemmas.List.{append-nil, map-append}
-use Rattle.trio_rights.specs.declared.rights.Creds.{Creds}
-use Rattle.trio_lists.specs.Lists.{In}
-use Rattle.trio_nodes.specs.declared.answers.GrantFault.TheVariants.{Denied as DeniedGrant, Busy as BusyGrant}
-use Rattle.trio_nodes.specs.declared.call.Call.{Call}
-use Rattle.trio_nodes.specs.declared.call.Reply.{Reply}
-use Rattle.trio_nodes.specs.declared.call.Reply.TheVariants.{Ok as IsReplied, NotFound, Exists, NotDir, IsDir, NotEmpty, Denied, IntoItself, NoSpace, NoInodes, TooLarge}
-use Rattle.trio_nodes.specs.declared.grant.Holder.{Holder}
-use Rattle.trio_nodes.specs.declared.node.Node.{Node}
-use Rattle.trio_nodes.specs.Nodes.{Nodes, node_at}
-use Rattle.trio_nodes.specs.Walk.{walk}
-use Rattle.trio_nodes.specs.Apply.{applied, is_done}
-use Rattle.trio_nodes.specs.After.{batch_nodes}
-use Rattle.trio_desk.specs.Call.{Ask, DeskSeen, Grant, NotLent, Told}
+use Rattle.trio_calls_file.proofs.Words.{◌++◌, ◌<◌, ◌∙◌, ◌≡◌, ◌≢◌, AfterTry, Ask, AskedBy, At, Bool, Busy, BusyGrant, Call, ComesHere, Creds, Denied, DeniedGrant, DeskSeen, DoesCall, EndsBy, Err, Exists, Goes, Grant, HasNoMemory, HasNothing, Holder, In, InAllShown, IntoItself, IsAlike, IsDir, IsFileCall, IsMetIn, IsReplied, IsReply, LacksMemory, LeavesHere, List, MatchResult, MayCall, MayWalk, Met, Needed, NoInodes, NoMemory, NoSpace, Node, Nodes, NotDir, NotEmpty, NotFound, NotLent, Ok, Outcome, Replied, RepliesTo, Reply, Result, SessionSeen, Some, Stop, Told, TooLarge, TryEnds, Walked, Walks, Went, [], alike_room, allot_asks, ap, append-nil, append_assoc, applied, asked, asked_beside, asks_at, asks_lent, batch_nodes, both_then, cond, false, grant_ask, inl, inr, is_done, length, lent_call, map, map-append, met_needs, need_of, node_at, own_needs, path_of, refl, served_by, shows_root, subst, sym, took, true, try_ends, walk, walk_needs, walked_growth, wanted_pages, ℕ}
 use Rattle.trio_desk.specs.Calls as desk_calls
-use Rattle.trio_desk.specs.Edits.{DoesCall}
 use Rattle.trio_laws.proofs.session.FileCalls.{refused_by_walk}
-use Rattle.trio_session.specs.Seen.{SessionSeen}
-use Rattle.trio_edit_laws.specs.Calls.{MayCall}
-use Rattle.trio_walk.specs.declared.met.Met.{Met}
-use Rattle.trio_walk.specs.declared.outcome.Outcome.{Outcome}
-use Rattle.trio_walk.specs.declared.outcome.Outcome.TheVariants.{Replied, Busy, NoMemory}
 use Rattle.trio_walk.specs.declared.walks.WalkEnd.{WalkEnd}
-use Rattle.trio_walk.specs.declared.walks.WalkEnd.TheVariants.{At, Reply as IsReply, Busy as IsBusy, NoMemory as HasNoMemory}
-use Rattle.trio_walk.specs.Asks.{AskedBy, TryEnds, grant_ask}
-use Rattle.trio_walk.specs.Needs.{Needed, asked, asked_beside, own_needs, node_needs, path_of, reached_needs, walk_needs}
-use Rattle.trio_walk.specs.Walks.{EndsBy, InAllShown, IsMetIn, IsStopped, MayWalk, Walked, Walks, lent_call, need_of, served_by, shows_root}
+use Rattle.trio_walk.specs.declared.walks.WalkEnd.TheVariants.{Busy as IsBusy}
+use Rattle.trio_walk.specs.Needs.{node_needs, reached_needs}
+use Rattle.trio_walk.specs.Walks.{IsStopped}
 use Rattle.trio_walk.proofs.Agreeing.{asked_beside-append}
-use Rattle.trio_calls_file.specs.Asks.{ComesTo, walked_growth, IsFileCall, asks_of, wanted_pages}
-use Rattle.trio_walk.specs.declared.outcome.Stop.{Stop}
-use Rattle.trio_walk.specs.declared.outcome.Stop.TheVariants.{NoMemory as LacksMemory}
-use Rattle.trio_calls_file.specs.inner.Goes.{AfterTry, ComesHere, LeavesHere, Goes, RepliesTo, Went, try_ends, asks_at, met_needs}
-use Rattle.trio_walk.specs.Tries.{HasNothing}
+use Rattle.trio_calls_file.specs.Asks.{ComesTo, asks_of}
 use Rattle.trio_calls_file.proofs.AfterTaking.{goes_on}
 use Rattle.trio_calls_file.proofs.Checking.{file_path_of, root_kind}
 use Rattle.trio_calls_file.proofs.Looked.{IsLook, IsRefused, may_looked, refused_look}
@@ -41,9 +15,6 @@ use Rattle.trio_calls_file.proofs.OwnReads.{none_busy}
 use Rattle.trio_calls_file.proofs.Shown.{both_alike, went_alike}
 use Rattle.trio_calls_file.proofs.Taking.{short_asks, short_ends}
 use Rattle.trio_calls_file.proofs.Walked.{own_asked, own_is, walked_went}
-use Rattle.trio_session.specs.Asked.{IsAlike, took, allot_asks}
-use Rattle.trio_session.proofs.Alike.{alike_room}
-use Rattle.trio_walk.proofs.Then.{both_then, asks_lent}
 
 module _ {D : Type 0} (called : D → Ask → Told → D → Type 0) (seen : D → DeskSeen) (d : D) (s : SessionSeen) (call : Call) (may : MayCall (seen d) s) (file : IsFileCall call) (m : Met) (d1 : D) (s1 : SessionSeen) (walks : MayWalk (seen d1) s1)
     (w : Walked called seen d s (Walks (seen d1) s [] (path_of call) (At m.ino)) (At m.ino) d1 s1) (met : IsMetIn (shows_root s) (seen d1) s1 m) where

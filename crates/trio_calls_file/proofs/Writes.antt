@@ -1,46 +1,33 @@
 -- What an edit of a file shows: bytes that are put, and another size.
-use Rattle.std.proofs.Common.{◌≡◌, ℕ, zero, suc, Bool, true, false, cond, ◌+◌, ◌-◌, ◌/◌, ◌≤◌, max, List, [], ◌∷◌, ◌++◌, length, take, drop, replicate, Option, Some, None, sym, refl, ap, ◌∙◌, subst, inl, inr, arith, append_assoc}
+use Rattle.trio_calls_file.proofs.Words.{◌++◌, ◌+◌, ◌-◌, ◌/◌, ◌∙◌, ◌∷◌, ◌≡◌, ◌≤◌, AreWithinLimits, Bool, DeskSeen, IsAlike, IsOpen, List, MayShow, Node, Nodes, None, Option, Parcel, Regular, Row, SessionSeen, Some, [], alike_by, ap, append_assoc, arith, block_count, body_in, bytes_in, chain_in, cond, drop, false, growth, in_hand, inl, inr, largest_size, length, length-bytes_in, length-resized, mapped, max, node_at, open_chain, option_map, put_at, refl, resized, sees_bytes, size_in, sized, spare_numbers, spare_pages, subst, suc, sym, take, true, with_content, zero, ℕ}
+use Rattle.std.proofs.Common.{replicate}
 use Rattle.std.specs.Prelude.{nat_lt, slice_index}
-use Rattle.std.specs.Option.{option_map}
 use Rattle.std.proofs.lemmas.Bool.{cases_lt, ltb-false, ltb-true}
 use Rattle.std.proofs.lemmas.List.{length-append, length-drop, length-replicate, replicate-append-replicate, take-append-le, take_all, take_at}
 use Rattle.std.proofs.Math.ListN.{drop_of_length-le}
 use Rattle.trio_page.specs.Field.{zeros}
-use Rattle.trio_rights.specs.Row.{Row}
-use Rattle.trio_rights.specs.declared.kind.Kind.TheVariants.{Regular}
-use Rattle.trio_layout.specs.Body.{block_count}
 use Rattle.trio_layout.specs.Chain.{Chain, index_count}
-use Rattle.trio_nodes.specs.declared.node.Node.{Node}
-use Rattle.trio_nodes.specs.Apply.{largest_size, put_at, resized}
-use Rattle.trio_nodes.specs.Nodes.{Nodes, node_at, with_node}
+use Rattle.trio_nodes.specs.Nodes.{with_node}
 use Rattle.trio_nodes.specs.Tree.{IsTree}
 use Rattle.trio_nodes.proofs.NodeFacts.{with_node-same}
-use Rattle.trio_desk.specs.Call.{DeskSeen}
-use Rattle.trio_desk.specs.Contents.{AreWithinLimits}
-use Rattle.trio_desk.specs.Edits.{InHand, MayShow}
-use Rattle.trio_desk.specs.Out.{Parcel, page_numbers}
+use Rattle.trio_desk.specs.Edits.{InHand}
+use Rattle.trio_desk.specs.Out.{page_numbers}
 use Rattle.trio_desk.specs.Ready.{parcel_case}
 use Rattle.trio_desk.specs.Shows.{Shows}
-use Rattle.trio_laws.specs.session.FileEdits.{node_with, with_content}
+use Rattle.trio_laws.specs.session.FileEdits.{node_with}
 use Rattle.trio_laws.specs.session.Takes.{Becomes}
-use Rattle.trio_laws.proofs.session.LentNodes.{mapped}
 use Rattle.trio_laws.proofs.session.TakenMore.{becomes_through}
-use Rattle.trio_session.specs.Layout.{Home, InSlot, Leased, blocks_under, body_sized, chain_cut, chain_grown, gap, growth, linked, new_index, numbered, put_block, put_blocks, put_bytes, size_in, unlinked, unnamed, with_block_number, with_body, with_body_at, with_number_in, with_page}
-use Rattle.trio_session.specs.Seen.{IsOpen, SessionSeen, body_in, chain_in, cut, grown, home_in, in_hand, put, spare_numbers, spare_pages}
+use Rattle.trio_session.specs.Layout.{Home, InSlot, Leased, blocks_under, body_sized, chain_cut, chain_grown, gap, linked, new_index, numbered, put_block, put_blocks, put_bytes, unlinked, unnamed, with_block_number, with_body, with_body_at, with_number_in, with_page}
+use Rattle.trio_session.specs.Seen.{cut, grown, home_in, put}
 use Rattle.trio_session.proofs.Stays.{fresh_numbers}
 use Rattle.trio_edit_laws.specs.EditLaws.{AreSpare, GetsBytes}
-use Rattle.trio_edit_laws.specs.Written.{MayEdit, bytes_in}
+use Rattle.trio_edit_laws.specs.Written.{MayEdit}
 use Rattle.trio_edit_laws.proofs.Cutting.{cut_gets}
 use Rattle.trio_edit_laws.proofs.Growing.{grow_gets}
-use Rattle.trio_edit_laws.proofs.OpenChain.{open_chain}
 use Rattle.trio_edit_laws.proofs.Opens.{with_chain-beside}
 use Rattle.trio_edit_laws.proofs.Puts.{put_shows}
-use Rattle.trio_edit_laws.proofs.Reading.{length-bytes_in, sees_bytes}
-use Rattle.trio_edit_laws.proofs.Resized.{length-resized}
 use Rattle.trio_calls_file.proofs.Alike.{open_alike}
-use Rattle.trio_session.specs.Asked.{IsAlike}
-use Rattle.trio_session.proofs.Alike.{alike_by, calls-with_chain, calls-grown, placed-grown}
-use Rattle.trio_session.specs.Deeds.{sized}
+use Rattle.trio_session.proofs.Alike.{calls-with_chain, calls-grown, placed-grown}
 use Rattle.trio_edit_laws.proofs.Alike.{edit_alike}
 
 -- ---- nodes

@@ -1,15 +1,8 @@
 -- A set of numbers that is kept in order.
-use Rattle.std.proofs.Common.{◌≡◌, ℕ, ◌<◌, ◌≤◌, eqb, true, false, ◌||◌, List, ◌∷◌, length, get_or, insert, Result, Ok, Err, is_ok, refl, sym, ap, ◌∙◌, subst, inl, inr, arith}
-use Rattle.std.specs.Prelude.{is_some, MatchResult}
-use Rattle.std.specs.Ordering.{nat_cmp}
-use Rattle.std.specs.List.Sorted.{IsBinarySearchResult, IsNonDecreasing}
-use Rattle.std.proofs.lemmas.Bool.{cases_eq}
-use Rattle.std.proofs.lemmas.Bool.Decides.{nat_tests}
-use Rattle.std.proofs.lemmas.List.{get_or_default}
-use Rattle.std.proofs.lemmas.List.Sorted.{IsNonDecreasingBy-insert, IsPermutation-insert, list_any-IsPermutation, searched}
-use Rattle.trio_lists.specs.Lists.{In, is_among}
+use Rattle.trio_case.proofs.Words.{◌<◌, ◌||◌, ◌∙◌, ◌∷◌, ◌≡◌, ◌≤◌, Err, In, In-is_among, IsBinarySearchResult, List, MatchResult, Ok, Result, ap, arith, cases_eq, eqb, false, get_or, get_or_default, inl, inr, insert, is_among, is_ok, is_some, length, nat_cmp, nat_tests, refl, searched, subst, sym, true, ℕ}
+use Rattle.std.specs.List.Sorted.{IsNonDecreasing}
+use Rattle.std.proofs.lemmas.List.Sorted.{IsNonDecreasingBy-insert, IsPermutation-insert, list_any-IsPermutation}
 use Rattle.trio_lists.proofs.Filters.{get_or-In}
-use Rattle.trio_lists.proofs.Members.{In-is_among}
 use Rattle.trio_case.proofs.Counted.{place_some}
 use Rattle.trio_case.proofs.Ordered.{place_none}
 

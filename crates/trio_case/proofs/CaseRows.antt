@@ -1,37 +1,18 @@
 -- What a bundle has under a number, and the rows that are copied for it.
-use Rattle.std.proofs.Common.{◌≡◌, ℕ, suc, zero, ◌+◌, ◌<◌, ◌≤◌, eqb, Bool, true, false, ◌&&◌, ◌||◌, cond, List, [], ◌∷◌, ◌++◌, length, get_or, map, Option, Some, None, Bor, nat_le, nat_lt, IsTrue, IsSome, IfSome, sym, refl, ap, ◌∙◌, subst, inl, inr, arith}
-use Rattle.std.specs.Prelude.{is_some, is_none, slice_get}
-use Rattle.std.specs.List.{find, list_all, list_any}
-use Rattle.std.specs.Option.{option_and_then, option_copied, option_map, option_map_or}
-use Rattle.std.proofs.lemmas.Bool.{and_parts, and_from, cases_eq, cases_lt, le-leb}
-use Rattle.std.proofs.lemmas.Bool.Decides.{nat_tests}
+use Rattle.trio_case.proofs.Words.{◌&&◌, ◌++◌, ◌+◌, ◌<◌, ◌||◌, ◌∙◌, ◌∷◌, ◌≡◌, ◌≤◌, Bool, Bundled, CaseShown, CoreRange, Directory, HoldParts, InoParts, IsCase, LentFile, List, None, Numbers, Option, Regular, Row, RowData, Some, Tells, Written, [], and_from, and_parts, ap, are_new, arith, as_row, body_lent, bundle_in, case_in, cases_eq, cases_lt, cond, copied_row, eqb, false, find, get_or, inl, inr, is_among, is_directory, is_some, is_written, length, list_all, list_all-append, list_any, map, nat_le, nat_lt, nat_tests, option_and_then, option_copied, option_map, option_map_or, place_of, refl, row_in, slice_get, subst, suc, sym, tabulated-get, tabulated-length, true, written_in, zero, ℕ}
+use Rattle.std.proofs.Common.{Bor, IsTrue, IsSome, IfSome}
+use Rattle.std.specs.Prelude.{is_none}
+use Rattle.std.proofs.lemmas.Bool.{le-leb}
 use Rattle.std.proofs.lemmas.List.{ext_get_or}
-use Rattle.std.proofs.lemmas.List.Folds.{list_all-append, list_any-append}
-use Rattle.trio_rights.specs.Row.{Row, row_in}
-use Rattle.trio_rights.specs.Bundle.{Written, is_written}
+use Rattle.std.proofs.lemmas.List.Folds.{list_any-append}
 use Rattle.trio_rights.specs.declared.kind.Kind.{Kind}
-use Rattle.trio_rights.specs.declared.kind.Kind.TheVariants.{Regular, Directory}
-use Rattle.trio_lists.specs.Lists.{are_new, is_among, tabulated}
+use Rattle.trio_lists.specs.Lists.{tabulated}
 use Rattle.trio_lists.proofs.Marked.{are_new-append}
 use Rattle.trio_lists.proofs.New.{are_new-fewer}
-use Rattle.trio_lists.proofs.Tabulated.{tabulated-get, tabulated-length}
-use Rattle.trio_lease.specs.Bundles.{Bundled}
-use Rattle.trio_lease.specs.Shown.{LentFile}
-use Rattle.trio_lease.specs.Views.{bundle_in, written_in}
-use Rattle.trio_lease.specs.declared.parts.HoldParts.{HoldParts}
-use Rattle.trio_lease.specs.declared.parts.InoParts.{InoParts}
-use Rattle.trio_layout.specs.declared.range.CoreRange.{CoreRange}
 use Rattle.trio_layout.specs.Allowed.{has_kind}
-use Rattle.trio_layout.specs.Copied.{copied_row}
 use Rattle.trio_layout.specs.Case.{Held}
-use Rattle.trio_tables.specs.Row.{as_row}
-use Rattle.trio_tables.specs.declared.row.Row.{Row as RowData}
-use Rattle.trio_case.specs.Cases.{CaseShown, case_in, held_in, is_free_number, lent_numbers, HasDirectoryParents, IsCase, IsJudgeable}
-use Rattle.trio_case.specs.declared.numbers.Numbers.{Numbers}
-use Rattle.trio_case.specs.Order.{place_of}
+use Rattle.trio_case.specs.Cases.{held_in, is_free_number, lent_numbers, HasDirectoryParents, IsJudgeable}
 use Rattle.trio_case.specs.inner.Memory.{NumbersDiffer}
-use Rattle.trio_case.specs.inner.Maps.{body_lent, Tells}
-use Rattle.trio_case.specs.Memory.{is_directory}
 
 -- ---- numbers
 

@@ -1,11 +1,9 @@
 -- One index page more of a chain, as far as it is there.
-use Rattle.std.proofs.Common.{◌≡◌, ℕ, suc, ◌-◌, ◌<◌, min, leb, eqb, List, [], ◌∷◌, ◌++◌, Some, None, Result, Ok, Err, sym, refl, ◌∙◌, append_assoc, arith}
-use Rattle.std.proofs.lemmas.List.{append-nil}
-use Rattle.std.proofs.lemmas.Bool.Decides.{nat_tests}
-use Rattle.trio_layout.specs.Core.{Core, Location, at_page, page_of}
-use Rattle.trio_layout.specs.Index.{Index, index_of}
-use Rattle.trio_lists.specs.Lists.{result_map}
-use Rattle.trio_layout.specs.Chain.{Chain, index_count, with_index}
+use Rattle.trio_case.proofs.Words.{◌++◌, ◌-◌, ◌<◌, ◌∙◌, ◌∷◌, ◌≡◌, Chain, Core, Err, Index, List, Location, None, Ok, Result, Some, [], append-nil, append_assoc, arith, eqb, index_count, leb, nat_tests, page_of, refl, result_map, suc, sym, ℕ}
+use Rattle.std.proofs.Common.{min}
+use Rattle.trio_layout.specs.Core.{at_page}
+use Rattle.trio_layout.specs.Index.{index_of}
+use Rattle.trio_layout.specs.Chain.{with_index}
 use Rattle.trio_layout.specs.Within.{chain_within, index_within}
 
 -- a chain that goes on after these pages and blocks

@@ -1,19 +1,8 @@
 -- How many rows are copied for a bundle at most.
-use Rattle.std.proofs.Common.{◌≡◌, ℕ, zero, suc, ◌+◌, ◌<◌, ◌≤◌, eqb, Bool, true, false, ◌||◌, cond, List, [], ◌∷◌, length, take, Option, Some, None, refl, ap, sym, ◌∙◌, arith}
-use Rattle.std.specs.Prelude.{count_by}
-use Rattle.std.proofs.lemmas.Bool.Decides.{nat_tests}
-use Rattle.std.proofs.lemmas.List.{length-map}
+use Rattle.trio_case.proofs.Words.{◌+◌, ◌<◌, ◌||◌, ◌∙◌, ◌∷◌, ◌≡◌, ◌≤◌, Bool, Bundled, HoldParts, LentFile, List, None, Numbers, Option, Row, Some, Tells, [], ap, arith, bundle_in, cond, count_by, eqb, false, is_among, is_written, length, length-map, most_copied, nat_tests, refl, row_in, suc, sym, take, true, zero, ℕ}
 use Rattle.std.proofs.lemmas.List.Sums.{sum_by-le-sum_by, sum_by-take-le, sum_by_more}
-use Rattle.trio_rights.specs.Row.{Row, row_in}
-use Rattle.trio_rights.specs.Bundle.{is_written}
-use Rattle.trio_lists.specs.Lists.{is_among}
-use Rattle.trio_lease.specs.Bundles.{Bundled}
-use Rattle.trio_lease.specs.Shown.{LentFile}
-use Rattle.trio_lease.specs.Views.{bundle_in}
-use Rattle.trio_lease.specs.declared.parts.HoldParts.{HoldParts}
 use Rattle.trio_case.specs.Cases.{is_child}
-use Rattle.trio_case.specs.declared.numbers.Numbers.{Numbers}
-use Rattle.trio_case.specs.inner.Maps.{most_copied, stands_in, Tells}
+use Rattle.trio_case.specs.inner.Maps.{stands_in}
 use Rattle.trio_case.proofs.CaseRows.{written_is}
 
 -- ---- numbers that pass a test

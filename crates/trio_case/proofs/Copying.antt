@@ -1,22 +1,7 @@
 -- The copied rows in a list, in rising order of their numbers.
-use Rattle.std.proofs.Common.{◌≡◌, ℕ, ◌+◌, ◌<◌, ◌≤◌, eqb, true, false, ◌||◌, List, [], ◌∷◌, ◌++◌, length, get_or, Option, Some, None, refl, ap, sym, ◌∙◌, subst, inl, inr, arith}
-use Rattle.std.specs.Prelude.{slice_get}
-use Rattle.std.specs.Option.{option_and_then, option_map}
-use Rattle.std.proofs.lemmas.Bool.{cases_eq, cases_lt}
-use Rattle.std.proofs.lemmas.List.{get_or_append_left, get_or_past, length-append}
-use Rattle.std.proofs.lemmas.Option.{slice_get-get_or}
+use Rattle.trio_case.proofs.Words.{◌++◌, ◌+◌, ◌<◌, ◌||◌, ◌∙◌, ◌∷◌, ◌≡◌, ◌≤◌, AreRising, Bundled, List, None, Numbers, Option, Row, RowData, Some, Tells, [], ap, arith, as_row, bundle_in, cases_eq, cases_lt, copied_row, eqb, false, get_or, get_or_append_left, inl, inr, is_among, length, length-append, most_copied, option_and_then, option_map, place_of, refl, row_in, row_listed, slice_get, slice_get-get_or, subst, sym, true, ℕ}
+use Rattle.std.proofs.lemmas.List.{get_or_past}
 use Rattle.std.proofs.Math.Seq.{get_or-append_seam}
-use Rattle.trio_rights.specs.Row.{Row, row_in}
-use Rattle.trio_lists.specs.Lists.{is_among}
-use Rattle.trio_lease.specs.Bundles.{Bundled}
-use Rattle.trio_lease.specs.Views.{bundle_in}
-use Rattle.trio_layout.specs.Copied.{copied_row}
-use Rattle.trio_tables.specs.Row.{as_row}
-use Rattle.trio_tables.specs.declared.row.Row.{Row as RowData}
-use Rattle.trio_case.specs.Order.{place_of, AreRising}
-use Rattle.trio_case.specs.declared.numbers.Numbers.{Numbers}
-use Rattle.trio_case.specs.inner.Maps.{most_copied, Tells}
-use Rattle.trio_case.specs.inner.RowLists.{row_listed}
 use Rattle.trio_case.proofs.CaseRows.{copied_if}
 use Rattle.trio_case.proofs.CopiedCount.{copied_below, copied_few, copied_later, copied_next}
 use Rattle.trio_case.proofs.Counted.{place_left, place_right, place_within}

@@ -1,19 +1,8 @@
 -- Numbers that differ, by their places.
-use Rattle.std.proofs.Common.{◌≡◌, ℕ, zero, suc, ◌+◌, ◌<◌, ◌||◌, eqb, Bool, true, false, cond, List, [], ◌∷◌, ◌++◌, length, map, take, Option, None, Some, Result, Ok, Err, sym, refl, ap, ◌∙◌, subst, inl, inr, arith}
-use Rattle.std.specs.Prelude.{is_some, slice_get}
-use Rattle.std.specs.List.Sorted.{IsBinarySearchResult, IsSearchInRange}
-use Rattle.std.specs.Option.{option_and_then, option_map}
-use Rattle.std.specs.Ordering.{nat_cmp}
-use Rattle.std.specs.Result.{result_ok}
-use Rattle.std.proofs.lemmas.Bool.Decides.{nat_tests}
-use Rattle.std.proofs.lemmas.List.{get_or-map, length-map, map-append, take_more}
-use Rattle.std.proofs.lemmas.Option.{get_or_from_slice_get, slice_get-get_or, slice_get-map, slice_get_within}
-use Rattle.trio_lists.specs.Lists.{In, is_among, are_new}
-use Rattle.trio_lists.proofs.Members.{In-cases}
-use Rattle.trio_lists.proofs.New.{are_new-first}
-use Rattle.trio_case.specs.Order.{in_order, place_of, AreRising}
-use Rattle.trio_case.specs.declared.numbered.NumberPlace.{NumberPlace}
-use Rattle.trio_case.specs.inner.Numbered.{AreCounted, ArePlaced, counted_numbers}
+use Rattle.trio_case.proofs.Words.{◌++◌, ◌+◌, ◌<◌, ◌||◌, ◌∙◌, ◌∷◌, ◌≡◌, AreCounted, AreRising, Bool, Err, In, In-cases, IsBinarySearchResult, List, None, NumberPlace, Ok, Option, Result, Some, [], ap, are_new, are_new-first, arith, cond, counted_numbers, eqb, false, get_or_from_slice_get, in_order, inl, inr, is_among, is_some, length, length-map, map, map-append, nat_cmp, nat_tests, option_and_then, option_map, place_of, refl, result_ok, slice_get, slice_get-get_or, slice_get-map, slice_get_within, subst, suc, sym, take, take_more, true, zero, ℕ}
+use Rattle.std.specs.List.Sorted.{IsSearchInRange}
+use Rattle.std.proofs.lemmas.List.{get_or-map}
+use Rattle.trio_case.specs.inner.Numbered.{ArePlaced}
 use Rattle.trio_case.proofs.Opening.{In-slice_get}
 use Rattle.trio_case.proofs.Keeping.{none_there}
 use Rattle.trio_case.proofs.Ordered.{found_place, not_ordered, place_has}

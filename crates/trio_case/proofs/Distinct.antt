@@ -1,9 +1,5 @@
 -- How many distinct members a list may have.
-use Rattle.std.proofs.Common.{◌≡◌, ℕ, suc, ◌≤◌, ◌⊎◌, Bool, true, false, cond, eqb, List, [], ◌∷◌, length, refl, sym, ap, ◌∙◌, subst, inl, inr, arith}
-use Rattle.std.proofs.lemmas.Bool.{false≢true}
-use Rattle.std.proofs.lemmas.Bool.Decides.{nat_tests}
-use Rattle.trio_lists.specs.Lists.{In, are_new}
-use Rattle.trio_lists.proofs.New.{are_new-first}
+use Rattle.trio_case.proofs.Words.{◌∙◌, ◌∷◌, ◌≡◌, ◌≤◌, ◌⊎◌, Bool, In, List, [], ap, are_new, are_new-first, arith, cond, eqb, false, false≢true, inl, inr, length, nat_tests, refl, subst, suc, sym, true, ℕ}
 
 -- distinct members of a list are no more than it has
 abbrev without : ℕ → List ℕ → List ℕ

@@ -1,13 +1,9 @@
 -- What is gathered of a list, a part at a time, up to the first fault.
-use Rattle.std.proofs.Common.{◌≡◌, ℕ, suc, zero, ◌+◌, ◌-◌, ◌*◌, ◌<◌, ◌≤◌, List, [], ◌∷◌, ◌++◌, length, get_or, take, drop, Result, Ok, Err, sym, refl, ap, ◌∙◌, append_assoc, arith, inl, inr}
-use Rattle.std.proofs.lemmas.List.{append-nil, take_more, take-append-drop, drop-take, drop-drop}
-use Rattle.std.proofs.lemmas.Bool.{cases_eq}
-use Rattle.std.specs.List.{flat_map}
-use Rattle.std.proofs.lemmas.List.{take_rest, take-take}
-use Rattle.trio_lists.specs.Lists.{In, both, gathered, gathered_below}
-use Rattle.trio_layout.specs.Core.{Location}
+use Rattle.trio_case.proofs.Words.{◌*◌, ◌++◌, ◌+◌, ◌-◌, ◌<◌, ◌∙◌, ◌∷◌, ◌≡◌, ◌≤◌, Err, In, List, Listed, Location, Ok, Result, [], ap, append-nil, append_assoc, arith, both, cases_eq, drop, flat_map, gathered, gathered_below, get_or, inl, inr, length, refl, slot_bytes, slot_entries, suc, sym, take, take-append-drop, take_more, take_rest, zero, ℕ}
+use Rattle.std.proofs.lemmas.List.{drop-take, drop-drop}
+use Rattle.std.proofs.lemmas.List.{take-take}
 use Rattle.trio_layout.specs.Slot.{slot_of}
-use Rattle.trio_layout.specs.Entries.{Listed, listed_at, slot_bytes, body_in_slot, slot_entries, entries_on}
+use Rattle.trio_layout.specs.Entries.{listed_at, body_in_slot, entries_on}
 
 both_assoc : {X E : Type 0} (p q r : Result (List X) E) → both (both p q) r ≡ both p (both q r)
 both_assoc (Err e) q r = refl

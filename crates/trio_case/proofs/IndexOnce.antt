@@ -1,12 +1,9 @@
 -- Of given bytes at most one count of numbers in use is in the grammar, and that for one place in the chain.
-use Rattle.std.proofs.Common.{◌≡◌, ℕ, ◌^◌, ◌<◌, ◌≤◌, Bool, true, false, ◌&&◌, ◌==◌, nat_lt, nat_le, cond, Option, Some, None, List, [], ◌∷◌, refl, sym, ap, ◌∙◌, inl, inr, length, arith}
+use Rattle.trio_case.proofs.Words.{◌&&◌, ◌<◌, ◌^◌, ◌∙◌, ◌∷◌, ◌≡◌, ◌≤◌, Bool, CoreRange, Index, List, None, Option, Some, [], and_from, and_parts, ap, arith, bytes_eq, cases_lt, cond, false, inl, inr, is_core, length, list_all, ltb-true, nat_le, nat_lt, refl, sym, true, ℕ}
+use Rattle.std.proofs.Common.{◌==◌}
 use Rattle.std.specs.Bool.{beq}
-use Rattle.std.specs.List.{list_all}
-use Rattle.std.specs.Str.{bytes_eq}
-use Rattle.std.proofs.lemmas.Bool.{and_parts, and_from, ltb-true, leb-true, lt-ltb, eqb-true, cases_lt}
-use Rattle.trio_layout.specs.declared.range.CoreRange.{CoreRange}
-use Rattle.trio_layout.specs.Range.{is_core}
-use Rattle.trio_layout.specs.Index.{Index, index_at, index_bytes, index_fits, index_of, link_fits, IsIndexPage}
+use Rattle.std.proofs.lemmas.Bool.{leb-true, lt-ltb, eqb-true}
+use Rattle.trio_layout.specs.Index.{index_at, index_bytes, index_fits, index_of, link_fits, IsIndexPage}
 use Rattle.trio_layout.proofs.IndexPages.{Meets, only}
 use Rattle.trio_layout.proofs.Reading.{bytes_eq-true}
 

@@ -1,29 +1,11 @@
 -- What is kept of one page more.
-use Rattle.std.proofs.Common.{◌≡◌, ℕ, suc, zero, ◌+◌, ◌≤◌, Bool, true, false, not, List, [], ◌∷◌, ◌++◌, length, set, take, drop, map, get_or, Option, None, Some, Result, Ok, Err, cond, sym, refl, ap, ◌∙◌, append_assoc, arith, inl, inr}
-use Rattle.std.specs.Prelude.{⊤, count_by, is_some, slice_get, MatchOption}
-use Rattle.std.specs.Option.{option_and_then, option_map_or}
-use Rattle.std.proofs.lemmas.Bool.{cases_eq}
-use Rattle.std.proofs.lemmas.List.Sums.{sum_by-cons, sum_by-set}
-use Rattle.std.proofs.lemmas.Option.{get_or_from_slice_get, slice_get_within}
-use Rattle.std.proofs.lemmas.List.{get_or_append_left, map-append, take_all, take-append-le, take-append-drop, drop-append-le, length-drop, length-append}
-use Rattle.std.proofs.Math.Seq.{drop-append_seam}
-use Rattle.trio_layout.specs.declared.range.CoreRange.{CoreRange}
-use Rattle.trio_lists.specs.Lists.{In}
-use Rattle.trio_lists.proofs.Members.{In-cases}
-use Rattle.trio_layout.specs.Core.{page_of, Location}
-use Rattle.trio_layout.specs.Entries.{Listed, entries_on}
-use Rattle.trio_layout.specs.Case.{bundle_core}
-use Rattle.trio_case.specs.Cases.{CaseShown, case_in}
-use Rattle.trio_case.specs.Places.{bytes_at}
-use Rattle.trio_case.specs.Order.{place_of}
-use Rattle.trio_case.specs.Reading.{listed_seen, AreNamed}
-use Rattle.trio_case.specs.declared.entries.DirEntry.{DirEntry}
-use Rattle.trio_case.specs.declared.kept.KeptPages.{KeptPages}
-use Rattle.trio_case.specs.declared.kept.KeptPage.{KeptPage}
+use Rattle.trio_case.proofs.Words.{◌++◌, ◌+◌, ◌∙◌, ◌∷◌, ◌≡◌, ◌≤◌, AreNamed, Bool, CaseShown, CoreRange, DirEntry, Err, In, In-cases, IsDone, IsFront, IsKept, KeepsPages, KeptPage, KeptPages, List, Listed, Location, MatchOption, None, Ok, Option, Result, Some, StandsAt, [], ap, append_assoc, arith, bundle_core, bytes_at, case_in, cases_eq, cond, count_by, drop, drop-append-le, drop-append_seam, false, get_or, get_or_append_left, get_or_from_slice_get, inl, inr, is_some, length, length-append, length-drop, listed_seen, map, map-append, not, option_and_then, option_map_or, page_of, part, place_of, refl, set, slice_get, slice_get_within, suc, sum_by-cons, sym, take, take-append-drop, take-append-le, take_all, true, unread_blocks, unread_index, zero, ℕ, ⊤}
+use Rattle.std.proofs.lemmas.List.Sums.{sum_by-set}
+use Rattle.trio_layout.specs.Entries.{entries_on}
 use Rattle.trio_case.specs.declared.kept.KeptIndex.{KeptIndex}
 use Rattle.trio_case.specs.declared.kept.Span.{Span}
-use Rattle.trio_case.specs.Rooms.{entries_said, part, unread_blocks, unread_index, IsKept, KeepsPages, SaysBlock, SaysEntries, SaysIndex}
-use Rattle.trio_case.specs.inner.Steps.{BlockAnswer, IsDone, IsFront, StandsAt}
+use Rattle.trio_case.specs.Rooms.{entries_said, SaysBlock, SaysEntries, SaysIndex}
+use Rattle.trio_case.specs.inner.Steps.{BlockAnswer}
 
 -- ---- lists
 

@@ -1,20 +1,12 @@
 -- The table and the sets after one number more, and the words of a listing over the lists that keep it.
-use Rattle.std.proofs.Common.{◌≡◌, ◌+◌, ◌<◌, ◌≤◌, ℕ, zero, suc, eqb, cond, Bool, true, false, ◌&&◌, ◌||◌, List, [], ◌∷◌, ◌++◌, length, map, get_or, replicate, slice_get, slice_set, Option, Some, None, inl, inr, refl, sym, ap, ◌∙◌, subst, arith}
-use Rattle.std.specs.List.{find, list_any}
-use Rattle.std.specs.Option.{option_map, option_or}
-use Rattle.std.proofs.lemmas.List.{get_or_append_left, get_or-set_same, get_or-set_other, length-append, length-set}
+use Rattle.trio_case.proofs.Words.{◌&&◌, ◌++◌, ◌+◌, ◌<◌, ◌||◌, ◌∙◌, ◌∷◌, ◌≡◌, ◌≤◌, Bool, FileData, List, ListedFile, None, Option, Some, [], ap, arith, as_row, cases_eq, cond, entry_seen, eqb, false, file_seen, find, get_or, get_or-set_other, get_or-set_same, get_or_append_left, inl, inr, is_among, last_of, length, length-append, length-set, list_any, map, nat_tests, noted, option_map, refl, replicate, slice_get-get_or, slice_set, subst, suc, sym, true, zero, ℕ}
+use Rattle.std.proofs.Common.{slice_get}
+use Rattle.std.specs.Option.{option_or}
 use Rattle.std.proofs.lemmas.List.Folds.{find-append}
-use Rattle.std.proofs.lemmas.Option.{slice_get-get_or}
-use Rattle.std.proofs.lemmas.Bool.{cases_eq}
-use Rattle.std.proofs.lemmas.Bool.Decides.{nat_tests}
-use Rattle.trio_lists.specs.Lists.{is_among}
 use Rattle.trio_lists.proofs.Marked.{is_among-push}
-use Rattle.trio_layout.specs.Listing.{ListedFile, ListedEntry as EntryData}
+use Rattle.trio_layout.specs.Listing.{ListedEntry as EntryData}
 use Rattle.trio_case.specs.declared.listing.ListedEntry.{ListedEntry}
-use Rattle.trio_tables.specs.Row.{as_row}
-use Rattle.trio_case.specs.declared.listing.ListedFile.{ListedFile as FileData}
-use Rattle.trio_case.specs.Listed.{entry_seen}
-use Rattle.trio_case.specs.inner.Known.{file_seen, last_of, noted, IsFirst, KnowsFirst}
+use Rattle.trio_case.specs.inner.Known.{IsFirst, KnowsFirst}
 use Rattle.trio_case.specs.inner.NumberSets.{HasJust, NumbersShown}
 
 -- ---- one entry more

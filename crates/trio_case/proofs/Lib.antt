@@ -20,3 +20,4 @@ pub mod Making
 pub mod CaseRows
 pub mod CopiedCount
 pub mod Copying
+mod Words

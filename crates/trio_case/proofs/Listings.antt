@@ -1,13 +1,9 @@
 -- The pages that files list, within a bundle.
-use Rattle.std.proofs.Common.{◌≡◌, ℕ, ◌+◌, List, [], ◌∷◌, length, Result, Ok, Err, ap, arith}
-use Rattle.std.specs.List.{flat_map}
-use Rattle.std.proofs.lemmas.List.{append-nil, length-append}
-use Rattle.std.proofs.lemmas.List.Concat.{flat_map-append}
-use Rattle.trio_layout.specs.Core.{Location}
-use Rattle.trio_layout.specs.Survey.{Met, FileRead, pages_in}
-use Rattle.trio_layout.specs.Case.{Case, file_in}
+use Rattle.trio_case.proofs.Words.{◌+◌, ◌∷◌, ◌≡◌, Case, Err, List, ListedFile, Location, Met, Ok, Result, [], ap, append-nil, arith, flat_map, flat_map-append, length, length-append, ℕ}
+use Rattle.trio_layout.specs.Survey.{FileRead, pages_in}
+use Rattle.trio_layout.specs.Case.{file_in}
 use Rattle.trio_layout.specs.JudgedFiles.{pages_within}
-use Rattle.trio_layout.specs.Listing.{ListedFile, file_listed}
+use Rattle.trio_layout.specs.Listing.{file_listed}
 
 -- the lists of the files passed have just these pages
 listed_step : (m : Met) (r : Result FileRead Location) → length (flat_map (λ (f : ListedFile). f.index) (file_listed m r)) + length (flat_map (λ (f : ListedFile). f.blocks) (file_listed m r)) ≡ length (pages_in r)

@@ -1,29 +1,7 @@
 -- The pages of a bundle, one after another.
-use Rattle.std.proofs.Common.{◌≡◌, ℕ, zero, suc, ◌+◌, ◌<◌, ◌≤◌, Bool, true, not, cond, List, [], ◌∷◌, ◌++◌, length, get_or, map, take, drop, Option, Some, None, nat_le, nat_lt, sym, refl, ap, ◌∙◌, subst, append_assoc, inl, inr, arith}
-use Rattle.std.specs.Prelude.{count_by, is_some, slice_get}
-use Rattle.std.specs.List.{list_all, flat_map}
-use Rattle.std.specs.Option.{option_map}
-use Rattle.std.proofs.lemmas.Bool.{and_parts, ltb-true}
-use Rattle.std.proofs.lemmas.List.{append-nil, length-append, length-map, map-append, take_more, take-append-drop}
-use Rattle.std.proofs.lemmas.List.Concat.{flat_map-append}
-use Rattle.std.proofs.lemmas.List.Sums.{sum_by-cons}
-use Rattle.std.proofs.lemmas.Option.{get_or_from_slice_get, slice_get_within}
+use Rattle.trio_case.proofs.Words.{◌++◌, ◌+◌, ◌<◌, ◌∙◌, ◌∷◌, ◌≡◌, ◌≤◌, AreUnread, Bool, Bundled, CoreRange, CountsItself, FreshParts, In, In-cases, IsUnread, KeptPage, LentFile, LentPage, List, None, Option, Sheet, Some, [], and_parts, ap, append-nil, append_assoc, are_new, arith, bundle_in, bundle_pages, cond, count_by, drop, flat_map, flat_map-append, fresh_sheet, get_or, get_or_from_slice_get, inl, inr, is_core, is_some, length, length-append, length-map, lent_sheet, list_all, list_all-In, ltb-true, map, map-append, nat_le, nat_lt, not, numbers_of, option_map, refl, slice_get, slice_get_within, subst, suc, sum_by-cons, sym, take, take-append-drop, take_more, true, written_in, zero, ℕ}
 use Rattle.std.proofs.lemmas.Simd.{map-map}
-use Rattle.trio_rights.specs.Sheets.{Sheet}
-use Rattle.trio_rights.specs.Bundle.{bundle_pages}
-use Rattle.trio_lists.specs.Lists.{In, are_new}
-use Rattle.trio_layout.specs.declared.range.CoreRange.{CoreRange}
-use Rattle.trio_layout.specs.Range.{is_core}
 use Rattle.trio_layout.proofs.Walks.{pigeons}
-use Rattle.trio_lists.proofs.Members.{In-cases, list_all-In}
-use Rattle.trio_lease.specs.Bundles.{Bundled}
-use Rattle.trio_lease.specs.Shown.{LentFile}
-use Rattle.trio_lease.specs.Views.{bundle_in, fresh_sheet, lent_sheet, written_in}
-use Rattle.trio_lease.specs.declared.parts.LentPage.{LentPage}
-use Rattle.trio_lease.specs.declared.parts.FreshParts.{FreshParts}
-use Rattle.trio_case.specs.Rooms.{IsUnread}
-use Rattle.trio_case.specs.inner.Unread.{numbers_of, AreUnread, CountsItself}
-use Rattle.trio_case.specs.declared.kept.KeptPage.{KeptPage}
 
 pub numbers_of-append : (xs ys : List KeptPage) → numbers_of (xs ++ ys) ≡ numbers_of xs ++ numbers_of ys
 numbers_of-append xs ys = map-append (λ (p : KeptPage). p.no) xs ys

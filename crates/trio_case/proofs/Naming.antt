@@ -1,21 +1,9 @@
 -- Names one after another, up to the first that comes again.
-use Rattle.std.proofs.Common.{◌≡◌, ℕ, suc, zero, ◌+◌, ◌<◌, ◌≤◌, Bool, true, false, not, ◌||◌, cond, List, [], ◌∷◌, ◌++◌, map, length, get_or, set, replicate, take, drop, Option, Some, None, sym, refl, ap, ◌∙◌, append_assoc, inl, inr, arith}
-use Rattle.std.specs.List.{flat_map}
-use Rattle.std.specs.Str.{bytes_eq}
-use Rattle.std.proofs.lemmas.Bool.{cases_eq}
-use Rattle.std.proofs.lemmas.List.{append-nil, get_or_default, map-append, take_more, get_or-set_same, get_or-set_other, length-set, length-replicate}
-use Rattle.std.proofs.lemmas.Option.{slice_get_read}
+use Rattle.trio_case.proofs.Words.{◌++◌, ◌+◌, ◌<◌, ◌||◌, ◌∙◌, ◌∷◌, ◌≡◌, ◌≤◌, AreNamed, Bool, DirEntry, In, List, Listed, Location, MarksNames, None, Option, Regular, Some, [], ap, append-nil, append_assoc, arith, bytes_eq, cases_eq, cond, drop, false, flat_map, flat_map-append, get_or, get_or-set_other, get_or-set_same, get_or_default, inl, inr, length, length-replicate, length-set, listed_seen, map, map-append, not, refl, repeated_name, replicate, set, slice_get_read, suc, sym, take, take_more, true, zero, ℕ}
 use Rattle.std.proofs.lemmas.Slice.Eq.{bytes_eq-Decides}
 use Rattle.std.proofs.Math.Seq.{drop-cons}
-use Rattle.std.proofs.lemmas.List.Concat.{flat_map-append}
-use Rattle.trio_lists.specs.Lists.{In}
-use Rattle.trio_rights.specs.declared.kind.Kind.TheVariants.{Regular}
-use Rattle.trio_layout.specs.Core.{Location}
-use Rattle.trio_layout.specs.Entries.{Listed, has_name, place_of, repeated_name}
+use Rattle.trio_layout.specs.Entries.{has_name, place_of}
 use Rattle.trio_nameset.specs.Names.{AreApart}
-use Rattle.trio_case.specs.declared.entries.DirEntry.{DirEntry}
-use Rattle.trio_case.specs.Reading.{listed_seen, AreNamed}
-use Rattle.trio_case.specs.inner.Named.{MarksNames}
 use Rattle.trio_case.proofs.Opening.{In-slice_get}
 
 -- ---- entries one after another

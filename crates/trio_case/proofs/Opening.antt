@@ -1,32 +1,10 @@
 -- A room that was just made keeps nothing but what is true of its case.
-use Rattle.std.proofs.Common.{◌≡◌, ℕ, suc, zero, ◌*◌, ◌<◌, ◌≤◌, Bool, true, false, not, ◌||◌, cond, List, [], ◌∷◌, ◌++◌, length, set, get_or, map, replicate, Option, Some, None, nat_lt, nat_le, sym, refl, ap, ◌∙◌, inl, inr, arith}
-use Rattle.std.specs.Prelude.{⊤, is_some, slice_get, MatchOption}
-use Rattle.std.specs.List.{flat_map}
-use Rattle.std.specs.Option.{option_and_then, option_map}
-use Rattle.std.proofs.lemmas.Bool.{and_parts, ltb-true}
-use Rattle.std.proofs.lemmas.List.{get_or-set_same, get_or-set_other, length-map, length-set, length-replicate}
+use Rattle.trio_case.proofs.Words.{◌*◌, ◌++◌, ◌<◌, ◌||◌, ◌∙◌, ◌∷◌, ◌≡◌, ◌≤◌, Block, Bool, Bundled, CaseShown, Fresh, FreshParts, In, In-is_among, In-map, IsCase, IsKept, IsRoomFor, IsUnread, KeepsPages, KeptPage, KeptPages, LentFile, LentPage, List, MatchOption, None, Option, PagePlace, PageRoom, Sheet, Some, [], and_parts, ap, are_new, are_new-first, arith, bundle_core, bundle_in, bundle_pages, bundle_sheets, bytes_at, case_in, cond, false, flat_map, fresh_sheet, get_or, get_or-set_other, get_or-set_same, inl, inr, is_among, is_among-not, is_core, is_some, kept_page, length, length-map, length-replicate, length-set, lent_sheet, list_all-In, looks_left, ltb-true, map, nat_le, nat_lt, no_at, not, number_at, option_and_then, option_map, page_of, refl, replicate, set, sheet_numbers, slice_get, suc, sym, true, with_pages, written_in, zero, ℕ, ⊤}
 use Rattle.std.proofs.lemmas.List.Sums.{count_by-le-length}
-use Rattle.trio_rights.specs.Sheets.{Sheet, sheet_numbers, with_pages}
-use Rattle.trio_rights.specs.Bundle.{bundle_pages, bundle_sheets}
-use Rattle.trio_lists.specs.Lists.{In, is_among, are_new}
-use Rattle.trio_lists.proofs.Members.{In-flat, In-is_among, In-left, In-map, In-right, list_all-In, option_and_then-Some}
-use Rattle.trio_lists.proofs.New.{are_new-first, is_among-not}
-use Rattle.trio_lease.specs.Bundles.{Bundled}
-use Rattle.trio_lease.specs.Shown.{LentFile, page_at, no_at}
-use Rattle.trio_lease.specs.Views.{bundle_in, fresh_sheet, lent_sheet, written_in}
-use Rattle.trio_lease.specs.declared.parts.LentPage.{LentPage}
-use Rattle.trio_lease.specs.declared.parts.FreshParts.{FreshParts}
-use Rattle.trio_layout.specs.Core.{page_of}
-use Rattle.trio_layout.specs.Case.{bundle_core}
-use Rattle.trio_layout.specs.Range.{is_core}
-use Rattle.trio_case.specs.Cases.{CaseShown, IsCase, case_in}
-use Rattle.trio_case.specs.Places.{bytes_at, number_at}
-use Rattle.trio_case.specs.Rooms.{kept_page, looks_left, IsKept, IsRoomFor, IsUnread, Keeps, KeepsPages}
-use Rattle.trio_case.specs.declared.kept.KeptPages.{KeptPages}
-use Rattle.trio_case.specs.declared.kept.KeptPage.{KeptPage}
-use Rattle.trio_case.specs.declared.places.PagePlace.{PagePlace}
-use Rattle.trio_case.specs.declared.places.PagePlace.TheVariants.{Index, Block, Fresh}
-use Rattle.trio_case.specs.declared.room.PageRoom.{PageRoom}
+use Rattle.trio_lists.proofs.Members.{In-flat, In-left, In-right, option_and_then-Some}
+use Rattle.trio_lease.specs.Shown.{page_at}
+use Rattle.trio_case.specs.Rooms.{Keeps}
+use Rattle.trio_case.specs.declared.places.PagePlace.TheVariants.{Index}
 use Rattle.trio_case.specs.inner.Unread.{IsUnreadOf}
 use Rattle.trio_case.proofs.Ordered.{not_ordered, order_length, order_rises, placed}
 

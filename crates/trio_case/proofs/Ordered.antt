@@ -1,22 +1,7 @@
 -- The places of pages in rising order, and marks over them.
-use Rattle.std.proofs.Common.{◌≡◌, ℕ, suc, zero, ◌<◌, ◌≤◌, ◌⊎◌, ◌||◌, eqb, Bool, true, false, cond, List, [], ◌∷◌, length, set, get_or, replicate, Option, None, Some, Result, Ok, Err, nat_le, sym, refl, ap, ◌∙◌, subst, inl, inr, arith}
-use Rattle.std.specs.Prelude.{⊤, slice_get, MatchOption, MatchResult}
-use Rattle.std.specs.List.Sorted.{IsBinarySearchResult}
-use Rattle.std.specs.Option.{option_and_then, option_map, option_map_or}
-use Rattle.std.specs.Ordering.{nat_cmp}
-use Rattle.std.specs.Result.{result_ok}
-use Rattle.std.proofs.lemmas.Bool.{cases_eq, false≢true}
-use Rattle.std.proofs.lemmas.Bool.Decides.{nat_tests}
-use Rattle.std.proofs.lemmas.List.{get_or-set_same, get_or-set_other}
-use Rattle.std.proofs.lemmas.List.Sorted.{searched}
-use Rattle.trio_lists.specs.Lists.{In, is_among, are_new}
-use Rattle.trio_lists.specs.Sorting.{inserted_by}
-use Rattle.trio_lists.proofs.Members.{In-is_among}
-use Rattle.trio_lists.proofs.New.{are_new-first, is_among-not}
-use Rattle.trio_lists.proofs.Sorting.{in_sorted, sorted_in}
-use Rattle.trio_case.specs.Order.{in_order, is_marked, place_of, AreMarked, AreRising}
-use Rattle.trio_case.specs.inner.Unread.{numbers_of}
-use Rattle.trio_case.specs.declared.kept.KeptPage.{KeptPage}
+use Rattle.trio_case.proofs.Words.{◌<◌, ◌||◌, ◌∙◌, ◌∷◌, ◌≡◌, ◌≤◌, ◌⊎◌, AreRising, Bool, Err, In, In-is_among, IsBinarySearchResult, KeptPage, List, MatchOption, MatchResult, None, Ok, Option, Result, Some, [], ap, are_new, are_new-first, arith, cases_eq, cond, eqb, false, false≢true, get_or, get_or-set_other, get_or-set_same, in_order, inl, inr, inserted_by, is_among, is_among-not, length, nat_cmp, nat_le, nat_tests, numbers_of, option_and_then, option_map, option_map_or, place_of, refl, replicate, result_ok, searched, set, slice_get, sorted_in, subst, suc, sym, true, zero, ℕ, ⊤}
+use Rattle.trio_lists.proofs.Sorting.{in_sorted}
+use Rattle.trio_case.specs.Order.{is_marked, AreMarked}
 
 -- ---- places
 

@@ -1,34 +1,12 @@
 -- A case with other bytes in one of its pages, or with touched blocks: its files, numbers and pages are the same.
-use Rattle.std.proofs.Common.{◌≡◌, ℕ, zero, suc, ◌++◌, ◌||◌, List, [], ◌∷◌, map, Option, None, Some, refl, sym, ap, ◌∙◌}
-use Rattle.std.specs.Prelude.{slice_get}
-use Rattle.std.specs.List.{flat_map, list_any}
-use Rattle.std.specs.Option.{option_and_then, option_map}
-use Rattle.std.proofs.lemmas.List.{map-append}
-use Rattle.std.proofs.lemmas.Option.{slice_get-map}
+use Rattle.trio_case.proofs.Words.{◌++◌, ◌||◌, ◌∙◌, ◌∷◌, ◌≡◌, Block, Bundled, CaseShown, CoreRange, Fresh, FreshParts, HoldParts, InoParts, IsCase, IsRoomFor, IsUnread, LentFile, LentPage, List, None, Numbers, Option, PagePlace, PageRoom, Row, Sheet, Some, Tells, Written, [], ap, bundle_in, bundle_pages, flat_map, fresh_sheet, is_directory, lent_sheet, list_any, map, map-append, no_at, number_at, option_and_then, option_map, refl, row_in, sheet_numbers, slice_get, slice_get-map, suc, sym, writes_directory, written_in, zero, ℕ}
 use Rattle.trio_page.specs.declared.page.PageNo.{PageNo}
-use Rattle.trio_rights.specs.Row.{Row, row_in}
-use Rattle.trio_rights.specs.Sheets.{Sheet, sheet_numbers}
-use Rattle.trio_rights.specs.Bundle.{Written, bundle_pages}
-use Rattle.trio_lease.specs.Bundles.{Bundled}
 use Rattle.trio_lease.specs.Places.{with_block, with_bytes, with_index}
-use Rattle.trio_lease.specs.Shown.{LentFile, all_touched, as_touched, no_at, with_page, with_touched}
-use Rattle.trio_lease.specs.Views.{bundle_in, fresh_sheet, lent_sheet, written_in}
-use Rattle.trio_lease.specs.declared.parts.FreshParts.{FreshParts}
-use Rattle.trio_lease.specs.declared.parts.HoldParts.{HoldParts}
-use Rattle.trio_lease.specs.declared.parts.InoParts.{InoParts}
-use Rattle.trio_lease.specs.declared.parts.LentPage.{LentPage}
+use Rattle.trio_lease.specs.Shown.{all_touched, as_touched, with_page, with_touched}
 use Rattle.trio_lease.proofs.OtherBytes.{page_map, pages_same, rest_same, touched_map, writes_same}
 use Rattle.trio_layout.specs.JudgedFiles.{written_at}
-use Rattle.trio_layout.specs.declared.range.CoreRange.{CoreRange}
-use Rattle.trio_case.specs.Cases.{CaseShown, IsCase}
-use Rattle.trio_case.specs.Places.{number_at}
-use Rattle.trio_case.specs.Memory.{is_directory, writes_directory}
-use Rattle.trio_case.specs.Rooms.{HasSpace, IsRoomFor, IsUnread}
-use Rattle.trio_case.specs.declared.numbers.Numbers.{Numbers}
-use Rattle.trio_case.specs.declared.places.PagePlace.{PagePlace}
-use Rattle.trio_case.specs.declared.places.PagePlace.TheVariants.{Index, Block, Fresh}
-use Rattle.trio_case.specs.declared.room.PageRoom.{PageRoom}
-use Rattle.trio_case.specs.inner.Maps.{Tells}
+use Rattle.trio_case.specs.Rooms.{HasSpace}
+use Rattle.trio_case.specs.declared.places.PagePlace.TheVariants.{Index}
 
 -- ---- the numbers of pages
 

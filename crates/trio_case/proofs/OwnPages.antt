@@ -1,25 +1,8 @@
 -- The pages of a bundle, by its core.
-use Rattle.std.proofs.Common.{◌≡◌, ℕ, zero, suc, ◌<◌, Bool, true, false, ◌||◌, cond, eqb, leb, ltb, List, [], ◌∷◌, length, get_or, set, Option, None, Some, is_some, replicate, refl, sym, ap, ◌∙◌, subst, inl, inr, arith}
-use Rattle.std.specs.List.{list_all}
-use Rattle.std.proofs.lemmas.List.{get_or-set_same, get_or-set_other, length-set}
-use Rattle.std.proofs.lemmas.Bool.{and_parts, cases_Bool, or_cases, false≢true}
-use Rattle.std.proofs.lemmas.Bool.Decides.{nat_tests}
-use Rattle.trio_rights.specs.Sheets.{Sheet, sheet_numbers, with_pages}
-use Rattle.trio_rights.specs.Bundle.{bundle_pages, bundle_sheets}
-use Rattle.trio_lists.specs.Lists.{are_new, is_among}
-use Rattle.trio_lists.proofs.Members.{is_among-In, list_all-In}
-use Rattle.trio_layout.specs.Range.{is_core}
-use Rattle.trio_layout.specs.Core.{page_of}
-use Rattle.std.specs.Prelude.{slice_get, MatchOption, ⊤}
-use Rattle.std.specs.Option.{option_and_then}
-use Rattle.trio_lease.specs.Views.{bundle_in}
-use Rattle.trio_layout.specs.Case.{Case, bundle_core}
-use Rattle.trio_case.specs.Cases.{CaseShown, case_in}
-use Rattle.trio_case.specs.Order.{in_order, place_of}
-use Rattle.trio_case.specs.Rooms.{AreCountedIn, IsKept, KeepsPages, kept_page}
-use Rattle.trio_case.specs.declared.kept.KeptPages.{KeptPages}
-use Rattle.trio_case.specs.declared.kept.KeptPage.{KeptPage}
-use Rattle.trio_case.specs.inner.Steps.{StandsAt}
+use Rattle.trio_case.proofs.Words.{◌<◌, ◌||◌, ◌∙◌, ◌∷◌, ◌≡◌, AreCountedIn, Bool, Case, CaseShown, IsKept, KeepsPages, KeptPage, KeptPages, List, MatchOption, None, Option, Sheet, Some, StandsAt, [], and_parts, ap, are_new, arith, bundle_core, bundle_in, bundle_pages, bundle_sheets, case_in, cond, eqb, false, false≢true, get_or, get_or-set_other, get_or-set_same, in_order, inl, inr, is_among, is_core, kept_page, leb, length, length-set, list_all, list_all-In, nat_tests, option_and_then, page_of, place_of, refl, replicate, set, sheet_numbers, slice_get, subst, suc, sym, true, with_pages, zero, ℕ, ⊤}
+use Rattle.std.proofs.Common.{ltb, is_some}
+use Rattle.std.proofs.lemmas.Bool.{cases_Bool, or_cases}
+use Rattle.trio_lists.proofs.Members.{is_among-In}
 use Rattle.trio_case.proofs.Ordered.{order_length, place_has}
 use Rattle.trio_case.proofs.Counted.{place_at, place_some}
 use Rattle.trio_case.proofs.Keeping.{none_there, number_is}

@@ -1,18 +1,8 @@
 -- The parts of the files after one file more.
-use Rattle.std.proofs.Common.{◌≡◌, ℕ, ◌+◌, ◌-◌, ◌≤◌, Bool, true, ◌&&◌, List, [], ◌∷◌, ◌++◌, length, map, take, drop, refl, ap, ◌∙◌, arith}
-use Rattle.std.specs.List.{list_all, flat_map}
+use Rattle.trio_case.proofs.Words.{◌&&◌, ◌++◌, ◌+◌, ◌-◌, ◌∙◌, ◌∷◌, ◌≡◌, ◌≤◌, Bool, FileData, List, ListedFile, [], and_from, and_parts, ap, append-nil, arith, as_row, drop, drop-append-le, drop-append_seam, file_seen, flat_map, flat_map-append, is_within, length, length-append, length-drop, list_all, list_all-append, map, map_push, nat_tests, refl, take, take-append-le, take_all, true, ℕ}
 use Rattle.std.specs.Prelude.{nat_le}
-use Rattle.std.proofs.lemmas.List.{append-nil, length-append, length-drop, take-append-le, drop-append-le, take_all, map_push}
-use Rattle.std.proofs.Math.Seq.{drop-append_seam}
-use Rattle.std.proofs.lemmas.List.Concat.{flat_map-append}
-use Rattle.std.proofs.lemmas.List.Folds.{list_all-append}
-use Rattle.std.proofs.lemmas.Bool.{and_from, and_parts}
-use Rattle.std.proofs.lemmas.Bool.Decides.{nat_tests}
-use Rattle.trio_layout.specs.Listing.{ListedFile}
-use Rattle.trio_case.specs.declared.listing.ListedFile.{ListedFile as FileData}
-use Rattle.trio_tables.specs.Row.{as_row}
 use Rattle.trio_case.specs.declared.listing.Span.{Span}
-use Rattle.trio_case.specs.inner.Known.{file_seen, is_within, part_of}
+use Rattle.trio_case.specs.inner.Known.{part_of}
 
 within-ends : (n : ℕ) (s : Span) → is_within n s ≡ true → (s.start ≤ s.end) × (s.end ≤ n)
 within-ends n s h =

@@ -1,7 +1,6 @@
 -- A list in rising order of numbers, and what is made of each of its elements, with the same numbers.
-use Rattle.std.proofs.Common.{◌≡◌, ℕ, Bool, true, false, cond, List, [], ◌∷◌, map, refl, sym, ap, ◌∙◌}
+use Rattle.trio_case.proofs.Words.{◌∙◌, ◌∷◌, ◌≡◌, Bool, List, [], ap, cond, false, inserted_by, map, refl, sorted_by, sym, true, ℕ}
 use Rattle.std.specs.Prelude.{nat_le}
-use Rattle.trio_lists.specs.Sorting.{inserted_by, sorted_by}
 
 module _ {X Y : Type 0} (f : X → Y) (kx : X → ℕ) (ky : Y → ℕ) (same : (x : X) → ky (f x) ≡ kx x) where
   map-cond : (b : Bool) (xs ys : List X) → map f (cond b xs ys) ≡ cond b (map f xs) (map f ys)

@@ -1,20 +1,12 @@
 -- Sorts that may change the order of ties: a sorted list has the same elements, and its numbers are those in rising order.
-use Rattle.std.proofs.Common.{◌≡◌, ℕ, suc, ◌+◌, ◌<◌, ◌≤◌, Bool, true, false, cond, eqb, nat_le, List, [], ◌∷◌, length, get_or, map, inl, inr, refl, sym, ap, ◌∙◌, subst, arith}
-use Rattle.std.specs.Prelude.{⊤}
+use Rattle.trio_case.proofs.Words.{◌+◌, ◌<◌, ◌∙◌, ◌∷◌, ◌≡◌, ◌≤◌, Bool, In, In-map, List, [], ap, are_new, are_new-first, arith, cond, eqb, false, get_or, in_order, inl, inr, inserted_by, length, map, nat_le, nat_tests, refl, sorted_by, sorted_in, subst, suc, sum_by-cons, sym, true, ℕ, ⊤}
 use Rattle.std.specs.List.{AllByRecursion, sum_by}
 use Rattle.std.specs.List.Sorted.{IsNonDecreasingBy, IsPermutation}
-use Rattle.std.proofs.lemmas.Bool.Decides.{nat_tests}
 use Rattle.std.proofs.lemmas.List.Elements.{All-from_recursion, recursion_from_All}
 use Rattle.std.proofs.lemmas.List.Sorted.{All-permutation, sum_by-IsPermutation}
-use Rattle.std.proofs.lemmas.List.Sums.{sum_by-cons}
-use Rattle.trio_lists.specs.Lists.{In, are_new}
-use Rattle.trio_lists.specs.Sorting.{inserted_by, sorted_by}
 use Rattle.trio_lists.proofs.Filters.{In-get_or}
-use Rattle.trio_lists.proofs.Members.{In-map, map-In}
-use Rattle.trio_lists.proofs.New.{are_new-first}
-use Rattle.trio_lists.proofs.Sorting.{sorted_in}
+use Rattle.trio_lists.proofs.Members.{map-In}
 use Rattle.trio_case.proofs.Sorted.{sorted-map}
-use Rattle.trio_case.specs.Order.{in_order}
 use Rattle.trio_case.proofs.Ordered.{from_inserted}
 
 -- ---- the same elements

@@ -1,12 +1,10 @@
 -- Bodies in covered pages.
-use Rattle.std.proofs.Common.{◌≡◌, ℕ, Bool, true, false, eqb, List, [], ◌∷◌, ◌++◌, length, set, Option, Some, None, is_some, IsTrue, inl, inr, refl, sym, ap, ◌∙◌}
+use Rattle.trio_checkpoint.proofs.Words.{◌++◌, ◌∙◌, ◌∷◌, ◌≡◌, Bool, IsTrue, List, None, Option, Sheet, Some, [], ap, cases_lt, eqb, false, false≢true, inl, inr, is_some, length, refl, set, sheet_numbers, sym, true, with_body, with_pages, ℕ}
 use Rattle.std.specs.List.{find}
-use Rattle.std.proofs.lemmas.Bool.{false≢true, cases_lt, eqb-true, eqb-false}
+use Rattle.std.proofs.lemmas.Bool.{eqb-true, eqb-false}
 use Rattle.std.proofs.lemmas.List.{set-set, set_comm, set_past, get_or-set_same}
 use Rattle.trio_lists.specs.Lists.{is_among}
-use Rattle.trio_rights.specs.Sheets.{Sheet, sheet_numbers, with_pages}
 use Rattle.trio_layout.specs.Accept.{with_body_in, with_body_at}
-use Rattle.trio_checkpoint.specs.Covered.{with_body}
 
 -- a page is found just where it is one of these
 pub is_found : (page : ℕ) (xs : List Sheet) → is_some (find (λ x. eqb x.page page) xs) ≡ is_among page (sheet_numbers xs)

@@ -1,11 +1,10 @@
 -- One index page more of a chain that is in the grammar.
-use Rattle.std.proofs.Common.{◌≡◌, ℕ, suc, ◌-◌, ◌<◌, min, leb, eqb, List, [], ◌∷◌, ◌++◌, Option, Some, None, IsSome, IfSome, Result, Ok, Err, IsOk, sym, refl, ◌∙◌, append_assoc, arith}
-use Rattle.std.proofs.lemmas.List.{append-nil}
-use Rattle.std.proofs.lemmas.Bool.{false≢true}
+use Rattle.trio_checkpoint.proofs.Words.{◌++◌, ◌-◌, ◌∙◌, ◌∷◌, ◌≡◌, Core, IsSome, List, None, Ok, Option, Some, [], append-nil, arith, eqb, false≢true, page_of, refl, result_map, sym, ℕ}
+use Rattle.std.proofs.Common.{suc, ◌<◌, min, leb, IfSome, Result, Err, IsOk, append_assoc}
 use Rattle.std.proofs.lemmas.Bool.Decides.{nat_tests}
-use Rattle.trio_layout.specs.Core.{Core, Location, page_of}
+use Rattle.trio_layout.specs.Core.{Location}
 use Rattle.trio_layout.specs.Index.{Index, index_of}
-use Rattle.trio_lists.specs.Lists.{result_map, result_then}
+use Rattle.trio_lists.specs.Lists.{result_then}
 use Rattle.trio_layout.specs.Chain.{Chain, chain_from, index_count, index_page, with_index}
 use Rattle.trio_checkpoint.specs.inner.Steps.{Appends}
 

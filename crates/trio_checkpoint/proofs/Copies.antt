@@ -1,17 +1,9 @@
 -- Copies of pages, in the words of what is covered.
-use Rattle.std.proofs.Common.{◌≡◌, ℕ, Bool, true, false, ◌&&◌, cond, List, [], ◌∷◌, ◌++◌, All, get_or, Option, Some, None, IsSome, IsTrue, is_some, sym, refl, ap, ◌∙◌}
-use Rattle.std.proofs.lemmas.Bool.{false≢true, and_parts, and_from}
-use Rattle.std.proofs.lemmas.List.Elements.{All-nil, All-cons, All-head, All-tail, All-push}
-use Rattle.std.proofs.lemmas.List.{append-nil, map-append}
-use Rattle.std.proofs.lemmas.List.Folds.{list_all-append}
-use Rattle.trio_rights.specs.declared.kind.Kind.{Kind}
-use Rattle.trio_rights.specs.declared.kind.Kind.TheVariants.{Regular, Directory}
+use Rattle.trio_checkpoint.proofs.Words.{◌&&◌, ◌++◌, ◌∙◌, ◌∷◌, ◌≡◌, All, All-head, All-tail, AreCopies, Bool, Core, Directory, IsCopy, IsSome, IsTrue, Kind, List, None, Option, Regular, Sheet, Some, [], and_from, and_parts, ap, append-nil, are_there, covered_numbers, covered_of, false, false≢true, get_or, is_some, list_all-append, map-append, page_of, refl, sheet_numbers, sheets_of, sym, true, ℕ}
+use Rattle.std.proofs.Common.{cond}
+use Rattle.std.proofs.lemmas.List.Elements.{All-nil, All-cons, All-push}
 use Rattle.trio_layout.specs.Range.{is_core}
-use Rattle.trio_layout.specs.Core.{Core, page_of}
-use Rattle.trio_rights.specs.Sheets.{Sheet, sheet_numbers}
-use Rattle.trio_layout.specs.Pages.{covered_of, sheets_of}
-use Rattle.trio_checkpoint.specs.Covered.{are_there, covered_numbers}
-use Rattle.trio_checkpoint.specs.inner.Steps.{AllStand, AreCopies, IsCopy}
+use Rattle.trio_checkpoint.specs.inner.Steps.{AllStand}
 
 -- a core page that is there stands at its number
 pub at_its_number : (core : Core) (n : ℕ) → IsSome (page_of core n) → page_of core n ≡ get_or core.pages n None

@@ -1,18 +1,10 @@
 -- Pages that are put back.
-use Rattle.std.proofs.Common.{◌≡◌, ℕ, true, ltb, List, [], ◌∷◌, ◌++◌, All, length, set, get_or, Option, Some, None, IsTrue, inl, inr, ◌&&◌, refl, sym, ap, subst, ◌∙◌}
+use Rattle.trio_checkpoint.proofs.Words.{◌&&◌, ◌++◌, ◌∙◌, ◌∷◌, ◌≡◌, All, All-head, All-tail, Core, Directory, IsCopy, IsTrue, Kind, List, None, Option, Regular, Sheet, Some, [], all_below, and_from, and_parts, ap, cases_lt, covered_of, get_or, inl, inr, length, list_all-append, map-append, page_of, refl, set, sheet_numbers, sheets_of, sym, true, with_pages, ℕ}
+use Rattle.std.proofs.Common.{ltb, subst}
 use Rattle.std.proofs.Math.ListN.{length-set}
-use Rattle.std.proofs.lemmas.Bool.{and_parts, and_from, cases_lt, lt-ltb}
-use Rattle.std.proofs.lemmas.List.{map-append, set-get_or, get_or_past}
-use Rattle.std.proofs.lemmas.List.Folds.{list_all-append}
-use Rattle.std.proofs.lemmas.List.Elements.{All-head, All-tail}
-use Rattle.trio_rights.specs.declared.kind.Kind.{Kind}
-use Rattle.trio_rights.specs.declared.kind.Kind.TheVariants.{Regular, Directory}
+use Rattle.std.proofs.lemmas.Bool.{lt-ltb}
+use Rattle.std.proofs.lemmas.List.{set-get_or, get_or_past}
 use Rattle.trio_page.specs.Home.{Pages}
-use Rattle.trio_lists.specs.Marked.{all_below}
-use Rattle.trio_layout.specs.Core.{Core, page_of}
-use Rattle.trio_rights.specs.Sheets.{Sheet, sheet_numbers, with_pages}
-use Rattle.trio_layout.specs.Pages.{covered_of, sheets_of}
-use Rattle.trio_checkpoint.specs.inner.Steps.{IsCopy}
 use Rattle.trio_checkpoint.proofs.Copies.{at_its_number}
 
 pub with_pages-append : (xs ys : List Sheet) (pages : List (Option (List ℕ))) → with_pages (xs ++ ys) pages ≡ with_pages ys (with_pages xs pages)

@@ -1,30 +1,16 @@
 -- Pages that are brought home one list after another.
-use Rattle.std.proofs.Common.{◌≡◌, ℕ, ◌<◌, List, [], ◌∷◌, ◌++◌, length, map, reverse, IsTrue, refl, sym, ap, subst, ◌∙◌}
-use Rattle.std.specs.Prelude.{All}
+use Rattle.trio_commit.proofs.Words.{◌++◌, ◌<◌, ◌∙◌, ◌∷◌, ◌≡◌, All, IsTrue, IsWithinImage, LentFile, LentPage, List, OutByNumber, Pages, Regular, Sheet, Written, [], all_below, ap, below_at, below_parts, bundle_in, bundle_sheets, file_sheets, flat_map, fresh_sheet, length, length-with_all, length-with_pages, lent_sheets, lent_uncovered, map, map-append, page_numbers, refl, reverse, sheet_numbers, subst, sym, uncovered_sheets, with_all, with_pages, written_in, written_pages, ℕ}
 use Rattle.std.proofs.lemmas.List.Elements.{All-from_get_or}
-use Rattle.trio_lists.proofs.Marked.{below_at}
-use Rattle.std.specs.List.{flat_map}
-use Rattle.std.proofs.lemmas.List.{map-append, reverse-append}
+use Rattle.std.proofs.lemmas.List.{reverse-append}
 use Rattle.std.proofs.lemmas.List.Folds.{flat_map-map}
-use Rattle.trio_page.specs.Home.{Pages}
-use Rattle.trio_lists.specs.Marked.{all_below}
 use Rattle.trio_rights.specs.declared.kind.Kind.{Kind}
-use Rattle.trio_rights.specs.declared.kind.Kind.TheVariants.{Regular, Directory}
+use Rattle.trio_rights.specs.declared.kind.Kind.TheVariants.{Directory}
 use Rattle.trio_lease.specs.Bundles.{Bundled, bundled}
-use Rattle.trio_lease.specs.Shown.{LentFile}
 use Rattle.trio_lease.specs.declared.bundle.BundleParts.{BundleParts}
-use Rattle.trio_allot.specs.Out.{inode_numbers, page_numbers, OutByNumber, outs_after}
+use Rattle.trio_allot.specs.Out.{inode_numbers, outs_after}
 use Rattle.trio_state.specs.Bundles.{uncovered_of}
-use Rattle.trio_lease.specs.Views.{bundle_in, fresh_sheet, lent_sheet, written_in}
-use Rattle.trio_rights.specs.Bundle.{Written, bundle_sheets}
-use Rattle.trio_rights.specs.Sheets.{Sheet, sheet_numbers, with_pages}
-use Rattle.trio_checkpoint.proofs.Restoring.{below_joined, below_parts, length-with_pages, with_pages-append}
-use Rattle.trio_commit.specs.inner.Files.{file_sheets, lent_sheets, uncovered_sheets, IsWithinImage}
-use Rattle.trio_commit.specs.Handed.{lent_uncovered}
-use Rattle.trio_tables.specs.Out.{with_all}
-use Rattle.trio_tables.proofs.OutLemmas.{length-with_all}
-use Rattle.trio_lease.specs.declared.parts.LentPage.{LentPage}
-use Rattle.trio_commit.specs.Listed.{written_pages}
+use Rattle.trio_lease.specs.Views.{lent_sheet}
+use Rattle.trio_checkpoint.proofs.Restoring.{below_joined, with_pages-append}
 use Rattle.trio_commit.proofs.Cells.{with_all-append}
 use Rattle.trio_commit.proofs.Outs.{fresh_numbers}
 

@@ -1,34 +1,16 @@
 -- Rows and owners that are put in place one after another.
-use Rattle.std.proofs.Common.{◌≡◌, ◌≢◌, ℕ, zero, suc, ◌+◌, ◌-◌, ◌<◌, ◌≤◌, Bool, true, false, ◌==◌, ◌&&◌, ◌||◌, List, [], ◌∷◌, ◌++◌, length, map, take, drop, get_or, set, Option, Some, None, IsTrue, refl, sym, ap, subst, ◌∙◌, ◌⊎◌, inl, inr, arith, length-set, get_or-set_same, get_or-set_other}
-use Rattle.std.specs.Prelude.{if◌then◌else◌, not, nat_lt, is_some, slice_get, slice_index}
-use Rattle.std.specs.List.{find, list_any}
-use Rattle.std.specs.Option.{option_map, option_map_or}
-use Rattle.std.proofs.Math.Seq.{take-suc, drop-cons}
-use Rattle.std.proofs.lemmas.Bool.{cases_eq, cases_lt, cases_Bool, eq-eqb, ne_eqb, lt-ltb, ltb-true, false≢true}
-use Rattle.std.proofs.lemmas.List.{get_or_past, get_or-map, length-map}
-use Rattle.trio_lists.specs.Lists.{In, is_among}
-use Rattle.trio_lists.specs.Marked.{all_below}
-use Rattle.trio_lists.proofs.Marked.{below_at, is_among-push}
-use Rattle.trio_lists.proofs.Filters.{get_or-In}
-use Rattle.trio_lists.proofs.Members.{In-map, is_among-In, list_all-In, list_all-each, map-In}
+use Rattle.trio_commit.proofs.Words.{if◌then◌else◌, ◌&&◌, ◌++◌, ◌+◌, ◌-◌, ◌<◌, ◌==◌, ◌∙◌, ◌∷◌, ◌≡◌, ◌≢◌, ◌≤◌, ◌⊎◌, Bool, EntryData, HasNumbersBelow, HasPagesBelow, In, In-map, IsTrue, LentPage, List, ListedEntry, ListedFile, Listing, None, Option, Regular, Row, Some, [], all_below, ap, arith, as_row, below_at, cases_eq, cases_lt, drop, drop-cons, entry_seen, false, false≢true, find, get_or, get_or-In, get_or-map, get_or_past, inl, inr, is_among, is_listed, is_some, length, length-map, length-set, length-with_all, lent_sheets, map, map-In, ne_eqb, not, option_map, option_map_or, owner_listed, owner_staying, refl, row_in, row_judged, row_moved, set, sheet_numbers, slice_index, subst, suc, sym, take, take-suc, true, with_all, with_all-push, with_all-read, zero, ℕ}
+use Rattle.std.proofs.Common.{◌||◌, get_or-set_same, get_or-set_other}
+use Rattle.std.specs.Prelude.{nat_lt, slice_get}
+use Rattle.std.specs.List.{list_any}
+use Rattle.std.proofs.lemmas.Bool.{cases_Bool, eq-eqb, lt-ltb, ltb-true}
+use Rattle.trio_lists.proofs.Marked.{is_among-push}
+use Rattle.trio_lists.proofs.Members.{is_among-In, list_all-In, list_all-each}
 use Rattle.trio_lists.proofs.New.{is_among-not}
-use Rattle.trio_rights.specs.declared.kind.Kind.TheVariants.{Regular}
-use Rattle.trio_rights.specs.Row.{Row, row_in}
-use Rattle.trio_tables.specs.Out.{with_all}
-use Rattle.trio_tables.specs.Row.{as_row}
-use Rattle.trio_tables.proofs.OutLemmas.{length-with_all, with_all-read}
-use Rattle.trio_allot.proofs.OutLemmas.{with_all-push}
-use Rattle.trio_layout.specs.Listing.{Listing, ListedEntry, ListedFile}
-use Rattle.trio_layout.specs.Edges.{has_file, is_listed}
+use Rattle.trio_layout.specs.Edges.{has_file}
 use Rattle.trio_layout.specs.Tables.{gives_up, owner_after, placed_row, row_after}
 use Rattle.trio_case.specs.declared.listing.ListedFile.{ListedFile as FileData}
-use Rattle.trio_case.specs.declared.listing.ListedEntry.{ListedEntry as EntryData}
-use Rattle.trio_case.specs.Listed.{entry_seen}
-use Rattle.trio_rights.specs.Sheets.{sheet_numbers}
-use Rattle.trio_lease.specs.declared.parts.LentPage.{LentPage}
-use Rattle.trio_commit.specs.inner.Files.{lent_sheets}
-use Rattle.trio_commit.specs.Listed.{HasNumbersBelow, HasPagesBelow}
-use Rattle.trio_commit.specs.inner.Tables.{is_gone, owner_listed, owner_staying, row_judged, row_moved}
+use Rattle.trio_commit.specs.inner.Tables.{is_gone}
 
 -- ---- many places that are set
 

@@ -5,3 +5,4 @@ pub mod Bringing
 pub mod PutBack
 pub mod Rolling
 pub mod Placing
+mod Words

@@ -1,10 +1,5 @@
 -- Whether an entry names a number, by the directory of the first that does.
-use Rattle.std.proofs.Common.{◌≡◌, ℕ, Option, Some, None, refl, sym, ◌∙◌, ◌==◌}
-use Rattle.std.specs.Prelude.{is_some}
-use Rattle.std.specs.List.{find}
-use Rattle.std.specs.Option.{option_map}
-use Rattle.trio_layout.specs.Listing.{Listing, ListedEntry}
-use Rattle.trio_layout.specs.Edges.{is_listed}
+use Rattle.trio_commit.proofs.Words.{◌==◌, ◌∙◌, ◌≡◌, ListedEntry, Listing, None, Option, Some, find, is_listed, is_some, option_map, refl, sym, ℕ}
 use Rattle.trio_commit.proofs.Cells.{is_listed-find}
 
 still_some : (o : Option ListedEntry) → is_some (option_map (λ (e : ListedEntry). e.dir) o) ≡ is_some o

@@ -1,9 +1,7 @@
 -- What is out by allotment, in the words of a bundle and in those of the table.
-use Rattle.std.proofs.Common.{◌≡◌, ℕ, List, [], ◌∷◌, map, Option, Some, refl, ap, set}
+use Rattle.trio_commit.proofs.Words.{◌∷◌, ◌≡◌, List, Option, Some, [], ap, fresh_sheet, map, page_numbers, refl, set, sheet_numbers, with_pages, ℕ}
 use Rattle.trio_lease.specs.declared.parts.FreshParts.{FreshParts}
-use Rattle.trio_allot.specs.Out.{page_numbers, with_pages as with_fresh}
-use Rattle.trio_lease.specs.Views.{fresh_sheet}
-use Rattle.trio_rights.specs.Sheets.{sheet_numbers, with_pages}
+use Rattle.trio_allot.specs.Out.{with_pages as with_fresh}
 
 pub fresh_is : (fs : List FreshParts) (pages : List (Option (List ℕ))) → with_pages (map fresh_sheet fs) pages ≡ with_fresh fs pages
 fresh_is [] pages = refl

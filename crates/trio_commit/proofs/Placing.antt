@@ -1,34 +1,18 @@
 -- Bodies that are put in place one after another.
-use Rattle.std.proofs.Common.{◌≡◌, ◌≢◌, ℕ, zero, suc, ◌+◌, ◌<◌, ◌≤◌, Bool, true, false, ◌==◌, ◌&&◌, List, [], ◌∷◌, ◌++◌, length, map, take, drop, get_or, set, Option, Some, None, IsTrue, refl, sym, ap, subst, ◌∙◌, ◌⊎◌, inl, inr, arith}
-use Rattle.std.specs.Prelude.{if◌then◌else◌, not, is_some, slice_index_or}
-use Rattle.std.specs.List.{cons_option, filter, find}
-use Rattle.std.specs.Option.{option_map, option_map_or}
-use Rattle.std.proofs.Math.Seq.{take-suc, drop-cons}
-use Rattle.std.proofs.lemmas.Bool.{cases_eq, ne_eqb}
-use Rattle.std.proofs.lemmas.List.{map-append, set-get_or, set-set, get_or-set_same, get_or-set_other, length-set}
+use Rattle.trio_commit.proofs.Words.{if◌then◌else◌, ◌&&◌, ◌++◌, ◌+◌, ◌<◌, ◌==◌, ◌∙◌, ◌∷◌, ◌≡◌, ◌≢◌, ◌≤◌, ◌⊎◌, Bool, Checkpointed, EntryData, In, In-map, IsTrue, LentFile, List, ListedEntry, None, Option, Row, Some, Written, [], ap, arith, bodies_home, cases_eq, checkpoint_at, drop, drop-cons, entry_seen, false, find, get_or, get_or-In, inl, inr, is_among, is_some, kept_body, kept_children, leases_in, length, looks_for, map, map-In, map-append, ne_eqb, not, option_map, option_map_or, page_changes, placed_files, refl, row_in, set, sheet_numbers, subst, suc, sym, take, take-suc, true, with_bodies, with_children, written_in, zero, ℕ}
+use Rattle.std.specs.Prelude.{slice_index_or}
+use Rattle.std.specs.List.{cons_option, filter}
+use Rattle.std.proofs.lemmas.List.{set-get_or, set-set, get_or-set_same, get_or-set_other, length-set}
 use Rattle.std.proofs.lemmas.List.Elements.{filter-append, filter_map-append}
-use Rattle.trio_lists.specs.Lists.{In, is_among}
-use Rattle.trio_lists.proofs.Filters.{filter-In, filter-same, get_or-In, In-filter}
-use Rattle.trio_lists.proofs.Members.{In-map, map-In}
+use Rattle.trio_lists.proofs.Filters.{filter-In, filter-same, In-filter}
 use Rattle.trio_page.specs.Home.{raised}
-use Rattle.trio_rights.specs.Bundle.{Written}
-use Rattle.trio_rights.specs.Row.{Row, row_in}
-use Rattle.trio_rights.specs.Sheets.{sheet_numbers}
-use Rattle.trio_lease.specs.Shown.{LentFile}
-use Rattle.trio_lease.specs.Views.{written_in}
-use Rattle.trio_layout.specs.Accept.{with_bodies, with_body_at, with_body_in}
+use Rattle.trio_layout.specs.Accept.{with_body_at, with_body_in}
 use Rattle.trio_layout.specs.JudgedFiles.{written_at}
-use Rattle.trio_layout.specs.Listing.{ListedEntry}
 use Rattle.trio_layout.specs.Survey.{Met}
-use Rattle.trio_case.specs.declared.listing.ListedEntry.{ListedEntry as EntryData}
-use Rattle.trio_case.specs.Listed.{entry_seen}
-use Rattle.trio_checkpoint.specs.Covered.{Checkpointed}
 use Rattle.trio_checkpoint.proofs.Bodies.{numbers_stay}
-use Rattle.trio_commit.specs.Store.{checkpoint_at}
-use Rattle.trio_commit.specs.Bodies.{IsPlaced, bodies_home, child_of, has_place, is_parent_lent, kept_body, kept_children, page_changes, placed_files, root_after, with_child, with_children}
+use Rattle.trio_commit.specs.Bodies.{IsPlaced, child_of, has_place, is_parent_lent, root_after, with_child}
 use Rattle.trio_commit.specs.declared.taken_page.TakenPage.{TakenPage}
-use Rattle.trio_commit.specs.inner.Files.{leases_in}
-use Rattle.trio_commit.specs.inner.Putting.{ArePlaced, looks_for}
+use Rattle.trio_commit.specs.inner.Putting.{ArePlaced}
 
 abbrev pub Checkpoints : Type 0
 Checkpoints = List (Option Checkpointed)

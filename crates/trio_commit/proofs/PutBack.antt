@@ -1,28 +1,15 @@
 -- Checkpoints that are put back one after another.
-use Rattle.std.proofs.Common.{◌≡◌, ℕ, zero, suc, ◌+◌, ◌<◌, Bool, true, false, not, List, [], ◌∷◌, ◌++◌, length, take, get_or, set, Option, None, IsTrue, refl, sym, ap, subst, ◌∙◌, arith}
-use Rattle.std.proofs.Math.Seq.{take-suc}
+use Rattle.trio_commit.proofs.Words.{◌++◌, ◌+◌, ◌<◌, ◌∙◌, ◌∷◌, ◌≡◌, ◌≤◌, ◌⊎◌, Bool, Checkpointed, IsTrue, LentFile, List, None, Option, Pages, Sheet, [], all_below, ap, arith, below_parts, cases_lt, checkpoint_at, false, false≢true, flat_map, get_or, get_or-map, get_or_past, inl, inr, is_among, lease_numbers, length, length-with_all, length-with_pages, option_map_or, put_both, refl, set, sheet_numbers, subst, suc, sym, take, take-suc, true, with_all, with_all-push, with_all-read, with_pages, zero, ℕ}
+use Rattle.std.proofs.Common.{not}
 use Rattle.std.proofs.lemmas.Bool.{and_parts}
 use Rattle.std.proofs.lemmas.Grind.{flat_map-append}
-use Rattle.std.proofs.lemmas.List.{append-nil, get_or-map}
-use Rattle.std.specs.List.{flat_map}
-use Rattle.std.specs.Option.{option_map_or}
-use Rattle.trio_page.specs.Home.{Pages}
-use Rattle.trio_lists.specs.Lists.{are_new, is_among}
-use Rattle.trio_lists.specs.Marked.{all_below}
+use Rattle.std.proofs.lemmas.List.{append-nil}
+use Rattle.trio_lists.specs.Lists.{are_new}
 use Rattle.trio_lists.proofs.Marked.{are_new-more}
 use Rattle.trio_lists.proofs.New.{are_new-take}
-use Rattle.trio_rights.specs.Sheets.{Sheet, sheet_numbers, with_pages}
-use Rattle.trio_tables.specs.Out.{with_all}
-use Rattle.trio_tables.proofs.OutLemmas.{length-with_all, with_all-read}
-use Rattle.trio_allot.proofs.OutLemmas.{with_all-push}
-use Rattle.trio_lease.specs.Shown.{LentFile}
-use Rattle.trio_checkpoint.specs.Covered.{Checkpointed, covered_pages}
-use Rattle.trio_checkpoint.proofs.Restoring.{below_parts, length-with_pages, put_both}
-use Rattle.trio_commit.specs.Store.{checkpoint_at, covered_at}
-use Rattle.trio_commit.specs.inner.Files.{lease_numbers}
-use Rattle.std.proofs.lemmas.List.{get_or_past}
-use Rattle.std.proofs.lemmas.Bool.{cases_lt, false≢true}
-use Rattle.std.proofs.Common.{◌⊎◌, ◌≤◌, inl, inr, if◌then◌else◌}
+use Rattle.trio_checkpoint.specs.Covered.{covered_pages}
+use Rattle.trio_commit.specs.Store.{covered_at}
+use Rattle.std.proofs.Common.{if◌then◌else◌}
 
 abbrev pub Checkpoints : Type 0
 Checkpoints = List (Option Checkpointed)

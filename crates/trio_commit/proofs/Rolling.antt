@@ -1,17 +1,9 @@
 -- A bundle in the words of its leases, and what of it has its place.
-use Rattle.std.proofs.Common.{◌≡◌, ℕ, List, [], ◌∷◌, length, map, is_some, IsTrue, refl, sym, ap, subst, ◌∙◌}
+use Rattle.trio_commit.proofs.Words.{◌∙◌, ◌∷◌, ◌≡◌, Bundle, IsTrue, IsWithinImage, LentFile, List, OutByNumber, Pages, Sheet, Written, [], all_below, ap, lease_numbers, length, length-with_pages, map, refl, sheet_numbers, subst, sym, with_pages, written_in, ℕ}
+use Rattle.std.proofs.Common.{is_some}
 use Rattle.trio_rights.specs.declared.rights.LibNo.{LibNo}
-use Rattle.trio_page.specs.Home.{Pages}
-use Rattle.trio_lists.specs.Marked.{all_below}
-use Rattle.trio_lease.specs.Shown.{LentFile}
-use Rattle.trio_lease.specs.Views.{written_in}
-use Rattle.trio_rights.specs.Bundle.{Bundle, Written}
-use Rattle.trio_rights.specs.Sheets.{Sheet, sheet_numbers, with_pages}
 use Rattle.trio_tables.proofs.OutLemmas.{within_some}
-use Rattle.trio_allot.specs.Out.{OutByNumber}
-use Rattle.trio_checkpoint.proofs.Restoring.{length-with_pages}
 use Rattle.trio_commit.specs.Handed.{AreOutTo}
-use Rattle.trio_commit.specs.inner.Files.{IsWithinImage, lease_numbers}
 use Rattle.trio_commit.proofs.Cells.{below_from}
 
 -- the numbers of the written files, by the bundle and by its leases

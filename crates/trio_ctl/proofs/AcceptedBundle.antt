@@ -1,58 +1,14 @@
 -- An accepted bundle whose library's state is kept in a store: all that `commit` requires holds.
-use Rattle.std.proofs.Common.{◌≡◌, ℕ, ◌+◌, ◌-◌, ◌<◌, ◌≤◌, ◌==◌, Bool, true, false, cond, leb, ltb, not, List, [], ◌++◌, length, Ok, Some, is_some, IsTrue, refl, sym, ap, subst, ◌∙◌, inl, inr, arith}
-use Rattle.std.specs.Prelude.{slice_index}
-use Rattle.std.specs.List.{filter, flat_map}
-use Rattle.std.proofs.lemmas.Bool.{and_from, and_parts, both_ways, cases_lt, eq-eqb, le-leb, lt-ltb, ne_eqb, not-true}
-use Rattle.std.proofs.lemmas.List.{map-append}
-use Rattle.trio_rights.specs.Row.{Row, row_in}
-use Rattle.trio_rights.specs.declared.kind.Kind.{Kind}
-use Rattle.trio_rights.specs.declared.kind.Kind.TheVariants.{Directory}
-use Rattle.trio_rights.specs.declared.rights.LibNo.{LibNo}
-use Rattle.trio_rights.specs.ByKind.{covers_blocks}
-use Rattle.trio_rights.specs.Bundle.{Bundle, Written, bundle_pages}
-use Rattle.trio_rights.specs.Sheets.{Sheet, sheet_numbers}
-use Rattle.trio_nodes.specs.declared.grant.GrantKind.TheVariants.{Write}
-use Rattle.trio_lists.specs.Lists.{In, is_among}
-use Rattle.trio_lists.specs.Marked.{all_below}
-use Rattle.trio_lists.proofs.Filters.{filter-In, In-filter, In-list_any, Ok-one, some_one}
-use Rattle.trio_lists.proofs.Members.{flat_map-In, In-flat, In-is_among, In-map, is_among-In, map-In}
-use Rattle.trio_lists.proofs.Tabulated.{tabulated-length}
-use Rattle.trio_layout.specs.Accept.{is_accepted}
-use Rattle.trio_layout.specs.Case.{Case, bundle_core}
-use Rattle.trio_layout.specs.Core.{Core}
-use Rattle.trio_layout.specs.Edges.{has_file}
-use Rattle.trio_layout.specs.Image.{IsFit, row_at}
-use Rattle.trio_layout.specs.JudgedFiles.{judged_files, written_at, written_met}
-use Rattle.trio_layout.specs.Listing.{ListedEntry, ListedFile, Listing, file_listed, listing}
-use Rattle.trio_layout.specs.Proposed.{proposed, proposed_pick}
-use Rattle.trio_layout.specs.Range.{is_core}
-use Rattle.trio_layout.specs.Sound.{is_sound}
-use Rattle.trio_layout.specs.Survey.{FileRead, Met, Pick, children, file_of, owner_of, pages_of, plain, row_of, survey}
+use Rattle.trio_ctl.proofs.Words.{◌++◌, ◌+◌, ◌-◌, ◌<◌, ◌==◌, ◌∙◌, ◌≡◌, ◌≤◌, AreOutTo, Bool, Bundle, Case, Checkpointed, Core, Directory, FileRead, In, In-filter, In-flat, In-is_among, In-list_any, In-map, IsFit, IsJudgeable, IsTrue, Kind, LibNo, List, ListedEntry, ListedFile, Listing, Met, Ok, Ok-one, OpenGrant, Pick, Row, Sheet, Some, State, Store, Write, Written, [], all_below, all_listed, and_from, and_parts, ap, arith, both_ways, bundle_pages, case_in, cases_lt, checkpoint_at, children, cond, covers_blocks, creds_of, entry_met, eq-eqb, false, file_listed, file_of, filter, filter-In, flat_map, flat_map-In, has_file, has_file_at, has_file_by, has_parent, inl, inr, is_accepted, is_among, is_among-In, is_core, is_some, is_sound, judged_files, judged_from, judged_met, le-leb, leb, length, lent_met, listed_from, listed_is_core, listed_no_root, listed_placed, listing, lt-ltb, ltb, map-In, map-append, met_numbered, ne_eqb, new_from, new_not_live, not, not-true, one_met, owner_at, owner_listed, owner_of, pages_are, pages_of, placed_files, plain, proposed, proposed_pick, read_met, reads, refl, row_at, row_in, row_of, row_of_met, settled, sheet_numbers, slice_index, some_one, state_of, subst, superblock_at_home, superblock_facts, survey, sym, tables, tabulated-length, true, with_checkpoint, written_at, written_ino, written_judged, written_met, written_row, written_same, ℕ}
+use Rattle.trio_layout.specs.Case.{bundle_core}
 use Rattle.trio_layout.specs.Within.{file_within}
-use Rattle.trio_layout.proofs.Superblocks.{superblock_facts}
-use Rattle.trio_surveys.proofs.Cores.{listed_is_core}
-use Rattle.trio_surveys.proofs.Images.{met_numbered, one_met, owner_at, owner_listed, read_met}
-use Rattle.trio_surveys.proofs.Owned.{pages_are}
-use Rattle.trio_surveys.proofs.Picked.{all_listed, listed_no_root, listed_placed}
 use Rattle.trio_surveys.proofs.Trees.{image_is_tree}
-use Rattle.trio_checkpoint.specs.Covered.{Checkpointed}
-use Rattle.trio_state.specs.State.{OpenGrant, State, creds_of, settled}
-use Rattle.trio_state.specs.Tells.{case_in}
-use Rattle.trio_laws.specs.RuleLaws.{IsJudgeable}
-use Rattle.trio_laws.proofs.Bundles.{written_same}
-use Rattle.trio_laws.proofs.Standing.{HasParent, has_parent}
-use Rattle.trio_laws.proofs.StateFacts.{lent_met, tables}
-use Rattle.trio_laws.proofs.judgement.CaseFacts.{held_row, live_bounds, new_not_live, row_of_met, written_row}
-use Rattle.trio_laws.proofs.judgement.JudgedFacts.{judged_from, new_from, written_ino, written_judged}
-use Rattle.trio_laws.proofs.judgement.ListingFacts.{has_file_at, has_file_by, held_from, listed_from}
-use Rattle.trio_laws.proofs.judgement.Meeting.{entry_met}
-use Rattle.trio_laws.proofs.judgement.Taking.{fit, judged_met, reads, sound}
-use Rattle.trio_commit.specs.declared.store.Store.{Store}
-use Rattle.trio_commit.specs.Bodies.{IsPlaced, has_place, placed_files}
-use Rattle.trio_commit.specs.Handed.{AreOutTo}
+use Rattle.trio_laws.proofs.Standing.{HasParent}
+use Rattle.trio_laws.proofs.judgement.CaseFacts.{held_row, live_bounds}
+use Rattle.trio_laws.proofs.judgement.ListingFacts.{held_from}
+use Rattle.trio_laws.proofs.judgement.Taking.{fit, sound}
+use Rattle.trio_commit.specs.Bodies.{IsPlaced, has_place}
 use Rattle.trio_commit.specs.Listed.{HasNumbersBelow, HasPagesBelow, OwnersAreHanded, StandsInSlots, written_pages}
-use Rattle.trio_commit.specs.Store.{checkpoint_at, state_of, with_checkpoint}
-use Rattle.trio_ctl.specs.Stored.{superblock_at_home}
 use Rattle.trio_ctl.proofs.StoredFacts.{Checkpoints, HandedBundle, handed_within, open_grant, out_to, page_within}
 
 -- such a bundle that is accepted

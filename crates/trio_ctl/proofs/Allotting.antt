@@ -1,51 +1,11 @@
 -- What an allotment gives, by what the controller keeps.
-use Rattle.std.proofs.Common.{◌≡◌, ℕ, zero, suc, ◌+◌, ◌-◌, ◌*◌, ◌<◌, ◌≤◌, true, false, ◌==◌, ◌&&◌, List, ◌++◌, length, map, take, drop, Option, Some, None, IsSome, refl, sym, ap, subst, ◌∙◌, ◌⊎◌, inl, inr, arith}
-use Rattle.std.specs.Prelude.{IsTrue, not, slice_get, slice_index, slice_index_or}
-use Rattle.std.proofs.lemmas.Bool.{and_parts, eqb-true, false≢true, le-leb, le-ltb, lt-ltb, not-true}
-use Rattle.std.proofs.lemmas.List.{take-append-drop}
-use Rattle.std.proofs.lemmas.Option.{slice_get-get_or}
-use Rattle.trio_page.specs.Home.{Pages}
-use Rattle.trio_rights.specs.Row.{Row}
-use Rattle.trio_rights.specs.declared.rights.Creds.{Creds}
-use Rattle.trio_rights.specs.declared.rights.LibNo.{LibNo}
-use Rattle.trio_nodes.specs.declared.grant.GrantKind.TheVariants.{Write}
-use Rattle.trio_nodes.specs.declared.answers.AllotFault.{AllotFault}
-use Rattle.trio_nodes.specs.declared.answers.AllotFault.TheVariants.{NoPages as NoFreePages, NoInodes as NoFreeInodes}
-use Rattle.trio_grants.specs.Grants.{Keyed}
-use Rattle.trio_layout.specs.declared.superblock.Superblock.{Superblock}
-use Rattle.trio_lists.specs.Lists.{In, is_among}
-use Rattle.trio_layout.specs.Range.{is_core}
-use Rattle.trio_layout.specs.Superblock.{page_count, superblock_fits}
-use Rattle.trio_layout.specs.Survey.{plain, row_of, survey}
-use Rattle.trio_tables.specs.Free.{count_up, free_numbers, free_pages, is_free_number}
-use Rattle.trio_tables.specs.Out.{is_out, lib_at}
-use Rattle.trio_tables.proofs.OutLemmas.{lib_at-others}
+use Rattle.trio_ctl.proofs.Words.{◌&&◌, ◌*◌, ◌++◌, ◌+◌, ◌-◌, ◌<◌, ◌==◌, ◌∙◌, ◌≡◌, ◌≤◌, ◌⊎◌, Allot, AllotFault, Creds, CtlAnswer, Entries, HaveKinds, HoldsAreTold, In, In-left, IsControlled, IsStored, Kept, Keyed, LibNo, List, NoFreeInodes, NoFreePages, None, Opened, Option, OutByNumber, Outcome, Outline, Pages, Row, Some, State, Step, Store, Superblock, Write, allot_fault_answer, allots, and_parts, ap, arith, checkpoint_at, count_from, count_up, drop, eqb-true, false, false≢true, filter-In, free_is_low, free_pages, free_unlisted, grants_in, inl, inr, is_among, is_among-In, is_among-not, is_core, is_free_number, is_lent, is_out, is_write, le-leb, le-ltb, length, length-without, lent_met, lib_at, lib_at-others, list_any-In, logged, logged_kept, lt-ltb, map, not-true, page_count, plain, refl, row_of, settled, sheet_numbers, slice_get, slice_get-get_or, slice_index, slice_index_or, state_of, step_kept, subst, suc, superblock_at_home, superblock_fits, survey, sym, tables_of, tabulated-length, take, take-append-drop, true, with_checkpoint, without_pages, write_is, zero, ℕ}
+use Rattle.std.proofs.Common.{IsSome}
+use Rattle.std.specs.Prelude.{IsTrue, not}
+use Rattle.trio_tables.specs.Free.{free_numbers}
 use Rattle.trio_allot.specs.Free.{FreeAreHome, RefusesBoth}
-use Rattle.trio_state.specs.Allotments.{allots}
-use Rattle.trio_state.specs.Kept.{Kept, is_lent}
-use Rattle.trio_rights.specs.Sheets.{sheet_numbers, without_pages}
-use Rattle.trio_state.specs.State.{State, logged, settled}
-use Rattle.trio_nodes.specs.GrantKinds.{is_write}
-use Rattle.trio_state.specs.Step.{Allot, CtlAnswer, Given, NoInodes, NoPages, Outcome, Step, allot_outcome}
-use Rattle.trio_lists.proofs.Counting.{count_from}
-use Rattle.trio_lists.proofs.New.{is_among-not}
-use Rattle.trio_lists.proofs.Filters.{filter-In, list_any-In}
-use Rattle.trio_laws.proofs.Grants.{logged_kept}
-use Rattle.trio_surveys.proofs.Images.{free_is_low, free_unlisted}
-use Rattle.trio_lists.proofs.Tabulated.{tabulated-length}
-use Rattle.trio_lists.proofs.Members.{In-left, is_among-In}
-use Rattle.trio_laws.proofs.Runs.{step_kept}
-use Rattle.trio_surveys.proofs.Sheets.{length-without}
-use Rattle.trio_laws.proofs.StateFacts.{lent_met, tables as tables_of, write_is}
-use Rattle.trio_ctl.specs.Answers.{allot_fault_answer}
-use Rattle.trio_commit.specs.declared.store.Store.{Store}
-use Rattle.trio_commit.specs.Store.{checkpoint_at, state_of, with_checkpoint}
-use Rattle.trio_state.specs.Moves.{Outline}
-use Rattle.trio_ctl.specs.Ctl.{HaveKinds, HoldsAreTold, IsControlled}
-use Rattle.trio_open.specs.Entries.{Entries}
-use Rattle.trio_open.specs.Open.{Opened, grants_in}
-use Rattle.trio_ctl.specs.Stored.{IsStored, superblock_at_home}
-use Rattle.trio_allot.specs.Out.{OutByNumber, outs_with, raised_by}
+use Rattle.trio_state.specs.Step.{Given, NoInodes, NoPages, allot_outcome}
+use Rattle.trio_allot.specs.Out.{outs_with, raised_by}
 
 module _ (s : Store) (first : ℕ) (table : List Keyed) (files : List Opened) (creds : List Creds) (entries : Entries) (begun : List (Option Outline)) (k : IsControlled s first table files creds entries begun) where
   abbrev now : State

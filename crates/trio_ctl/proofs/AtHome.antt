@@ -1,42 +1,12 @@
 -- A controller of which nothing is lent: its settled image is the one at home.
-use Rattle.std.proofs.Common.{◌≡◌, ℕ, Bool, true, false, ◌&&◌, List, [], ◌∷◌, ◌++◌, length, map, Option, Some, None, IsTrue, inl, inr, refl, sym, ap, subst, ◌∙◌, arith}
-use Rattle.std.specs.Prelude.{if◌then◌else◌}
-use Rattle.std.proofs.lemmas.Bool.{and_parts, false≢true}
-use Rattle.std.specs.List.{find, flat_map}
-use Rattle.std.specs.Option.{option_map}
-use Rattle.trio_rights.specs.Row.{Row}
-use Rattle.trio_rights.specs.declared.rights.Creds.{Creds}
-use Rattle.trio_nodes.specs.declared.grant.GrantKind.{GrantKind}
-use Rattle.trio_nodes.specs.declared.grant.GrantKind.TheVariants.{Read, Write, Hold}
-use Rattle.trio_grants.specs.Grants.{Keyed, first_with, holder, is_write as writes_in_table}
-use Rattle.trio_layout.specs.declared.superblock.Superblock.{Superblock}
-use Rattle.trio_layout.specs.Superblock.{superblock_fits}
-use Rattle.trio_layout.specs.Core.{Core}
-use Rattle.trio_layout.specs.Image.{Image, IsFit, with_core_pages}
-use Rattle.trio_layout.specs.Verifies.{Verifies}
-use Rattle.trio_layout.specs.Sound.{is_sound}
-use Rattle.trio_layout.specs.Survey.{plain, root_of}
-use Rattle.trio_surveys.proofs.Images.{read_met, root_is_met}
-use Rattle.trio_surveys.proofs.Local.{reads_from}
+use Rattle.trio_ctl.proofs.Words.{if◌then◌else◌, ◌&&◌, ◌++◌, ◌∙◌, ◌∷◌, ◌≡◌, Bool, Checkpointed, Core, Creds, Entries, GrantKind, Hold, Image, In, IsControlled, IsFit, IsTrue, Kept, Keyed, List, None, OpenGrant, Opened, Option, OutByNumber, Outline, Read, Row, Some, State, Store, Superblock, Verifies, Write, [], and_parts, ap, arith, core_in, covered_at, false, false≢true, find, first_with, flat_map, grants_in, holder, holder_of, inl, inr, is_among, is_lent, is_sound, is_write, keyed, length, list_any-In, map, map-In, option_map, plain, read_met, reads_from, refl, settled, sheet_numbers, state_of, subst, superblock_at_home, superblock_fits, sym, true, with_checkpoint, with_core_pages, with_pages, ℕ}
+use Rattle.trio_grants.specs.Grants.{is_write as writes_in_table}
+use Rattle.trio_layout.specs.Survey.{root_of}
+use Rattle.trio_surveys.proofs.Images.{root_is_met}
 use Rattle.trio_surveys.proofs.Owned.{body_sized}
-use Rattle.trio_lists.specs.Lists.{In, is_among}
-use Rattle.trio_lists.proofs.Filters.{list_any-In}
-use Rattle.trio_lists.proofs.Members.{map-In}
-use Rattle.trio_rights.specs.Sheets.{sheet_numbers, with_pages}
-use Rattle.trio_state.specs.Grants.{holder_of}
-use Rattle.trio_state.specs.Kept.{Kept, is_lent}
-use Rattle.trio_state.specs.State.{OpenGrant, State, settled}
-use Rattle.trio_nodes.specs.GrantKinds.{is_write, same_kind}
-use Rattle.trio_survey.specs.Stored.{core_in}
-use Rattle.trio_checkpoint.specs.Covered.{Checkpointed}
-use Rattle.trio_commit.specs.declared.store.Store.{Store}
-use Rattle.trio_commit.specs.Store.{covered_at, image_at_home, state_of, with_checkpoint}
-use Rattle.trio_state.specs.Moves.{Outline}
-use Rattle.trio_ctl.specs.Ctl.{writer_of, IsControlled}
-use Rattle.trio_open.specs.Entries.{Entries}
-use Rattle.trio_open.specs.Open.{Opened, grants_in, keyed}
-use Rattle.trio_ctl.specs.Stored.{superblock_at_home}
-use Rattle.trio_allot.specs.Out.{OutByNumber}
+use Rattle.trio_nodes.specs.GrantKinds.{same_kind}
+use Rattle.trio_commit.specs.Store.{image_at_home}
+use Rattle.trio_ctl.specs.Ctl.{writer_of}
 
 -- an image, by its superblock with the root's body, its pages and its tables
 abbrev pub home_image : Superblock → List (Option (List ℕ)) → List (Option Row) → List ℕ → Image

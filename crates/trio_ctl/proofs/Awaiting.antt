@@ -1,22 +1,8 @@
 -- When a case is the one that a release waits for.
-use Rattle.std.proofs.Common.{◌≡◌, ℕ, List, [], ◌∷◌, map, Option, inl, inr, refl, sym, ap, ◌∙◌}
-use Rattle.trio_rights.specs.declared.rights.Creds.{Creds}
-use Rattle.trio_rights.specs.declared.rights.LibNo.{LibNo}
-use Rattle.trio_rights.specs.Row.{Row}
-use Rattle.trio_layout.specs.Case.{Case, Held}
-use Rattle.trio_layout.specs.Copied.{with_copied}
-use Rattle.trio_layout.specs.Image.{settled_body}
-use Rattle.trio_layout.specs.declared.range.CoreRange.{CoreRange}
-use Rattle.trio_lease.specs.Bundles.{Bundled}
-use Rattle.trio_lease.specs.Views.{bundle_in}
-use Rattle.trio_lease.specs.declared.parts.HoldParts.{HoldParts}
-use Rattle.trio_case.specs.Cases.{CaseShown, held_in, case_in as case_shown}
-use Rattle.trio_state.specs.Kept.{Kept}
-use Rattle.trio_state.specs.State.{State, settled}
-use Rattle.trio_state.specs.Tells.{case_in}
-use Rattle.trio_ctl.specs.HandedIn.{WereHeld}
-use Rattle.trio_ctl.specs.Pending.{case_made}
-use Rattle.trio_ctl.specs.inner.Beginning.{HaveBodies, IsCopy}
+use Rattle.trio_ctl.proofs.Words.{◌∙◌, ◌∷◌, ◌≡◌, Bundled, Case, CaseShown, CoreRange, Creds, HaveBodies, HoldParts, Kept, LibNo, List, Option, Row, State, WereHeld, [], ap, bundle_in, case_in, case_made, case_shown, inl, inr, map, refl, settled, settled_body, sym, with_copied, ℕ}
+use Rattle.trio_layout.specs.Case.{Held}
+use Rattle.trio_case.specs.Cases.{held_in}
+use Rattle.trio_ctl.specs.inner.Beginning.{IsCopy}
 
 -- the body of the first, and the others
 abbrev first_body : List Held → List ℕ

@@ -1,17 +1,9 @@
 -- A release that begins is promised an entry, and one that is taken out gives its promise back.
-use Rattle.std.proofs.Common.{◌≡◌, ◌≢◌, ℕ, zero, suc, ◌+◌, ◌-◌, ◌<◌, ◌≤◌, List, [], ◌∷◌, get_or, length, length-set, set, Option, Some, None, is_some, inl, inr, refl, sym, ap, subst, ◌∙◌, arith}
-use Rattle.std.proofs.lemmas.Bool.{cases_lt}
+use Rattle.trio_ctl.proofs.Words.{◌+◌, ◌-◌, ◌<◌, ◌∙◌, ◌∷◌, ◌≡◌, ◌≢◌, ◌≤◌, Creds, Entries, IsControlled, IsStored, Keyed, List, None, Opened, Option, Outline, Some, Store, Underway, [], ap, arith, begun_among, begun_by, cases_lt, get_or, grants_in, inl, inr, is_some, length, reads_among, refl, set, slice_get_read, subst, suc, sym, zero, ℕ}
+use Rattle.std.proofs.Common.{length-set}
 use Rattle.std.proofs.lemmas.List.Sums.{sum_by-set}
-use Rattle.std.proofs.lemmas.Option.{get_or_from_slice_get, slice_get_read}
+use Rattle.std.proofs.lemmas.Option.{get_or_from_slice_get}
 use Rattle.std.specs.Prelude.{cond}
-use Rattle.trio_rights.specs.declared.rights.Creds.{Creds}
-use Rattle.trio_grants.specs.Grants.{Keyed}
-use Rattle.trio_commit.specs.declared.store.Store.{Store}
-use Rattle.trio_state.specs.Moves.{Outline, Underway, begun_by}
-use Rattle.trio_ctl.specs.Ctl.{IsControlled}
-use Rattle.trio_open.specs.Entries.{Entries, begun_among, reads_among}
-use Rattle.trio_open.specs.Open.{Opened, grants_in}
-use Rattle.trio_ctl.specs.Stored.{IsStored}
 
 -- ---- where what has begun of a library stands
 

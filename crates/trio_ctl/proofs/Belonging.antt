@@ -1,50 +1,12 @@
 -- What belongs to a library is what it was given.
-use Rattle.std.proofs.Common.{◌≡◌, ℕ, true, ◌&&◌, List, [], ◌∷◌, ◌++◌, length, map, Option, Some, None, IsTrue, inl, inr, refl, sym, ap, subst, ◌∙◌}
+use Rattle.trio_ctl.proofs.Words.{◌&&◌, ◌++◌, ◌∙◌, ◌∷◌, ◌≡◌, Bundled, Checkpointed, Creds, Entries, FreshParts, GivenTo, Hold, HoldParts, In, In-cases, In-find, In-list_any, In-map, InoParts, IsControlled, IsSomeAnd, IsTrue, Keyed, Kind, LentFile, LentPage, LibNo, List, None, OpenGrant, Opened, Option, Outline, Row, Sheet, Shown, Some, State, Store, TableGrant, WasLent, WereHeld, Write, Written, [], and_from, and_parts, ap, are_given_by, are_new, bundle_in, bytes_eq, bytes_eq-Decides, checkpoint_at, eq-eqb, eqb-true, false≢true, find-In, first_with, flat_map, flat_map-In, fresh_sheet, grants_in, has_kind, hold_kind, hold_of, holder, inl, inr, is_hold, is_write, keyed, length, lent_sheet, lib_at, list_all, list_all-In, list_all-each, list_any-In, map, map-In, option_map, refl, row_in, same_kind, sheet_numbers, state_of, subst, sym, true, with_checkpoint, write_alone, write_is, written_in, ℕ}
 use Rattle.std.specs.Prelude.{◌==◌}
-use Rattle.std.specs.List.{list_all, flat_map}
-use Rattle.std.specs.Option.{IsSomeAnd, option_map}
-use Rattle.std.specs.Str.{bytes_eq}
-use Rattle.std.proofs.lemmas.Bool.{and_from, and_parts, eq-eqb, eqb-true, false≢true}
-use Rattle.std.proofs.lemmas.Slice.Eq.{bytes_eq-Decides}
-use Rattle.trio_rights.specs.Bundle.{Written}
-use Rattle.trio_rights.specs.Kind.{same_kind}
-use Rattle.trio_rights.specs.Row.{Row, row_in}
-use Rattle.trio_rights.specs.Sheets.{Sheet, sheet_numbers}
-use Rattle.trio_rights.specs.declared.kind.Kind.{Kind}
-use Rattle.trio_rights.specs.declared.rights.Creds.{Creds}
-use Rattle.trio_rights.specs.declared.rights.LibNo.{LibNo}
-use Rattle.trio_nodes.specs.GrantKinds.{is_hold, is_write}
-use Rattle.trio_nodes.specs.declared.grant.GrantKind.TheVariants.{Write, Hold}
-use Rattle.trio_grants.specs.declared.grant.Grant.{Grant as TableGrant}
-use Rattle.trio_grants.specs.Grants.{Keyed, first_with, holder, is_on}
-use Rattle.trio_lease.specs.Bundles.{Bundled}
-use Rattle.trio_lease.specs.Shown.{Shown, LentFile}
-use Rattle.trio_lease.specs.Views.{bundle_in, fresh_sheet, lent_sheet, written_in}
-use Rattle.trio_lease.specs.declared.parts.FreshParts.{FreshParts}
-use Rattle.trio_lease.specs.declared.parts.HoldParts.{HoldParts}
-use Rattle.trio_lease.specs.declared.parts.InoParts.{InoParts}
-use Rattle.trio_lease.specs.declared.parts.LentPage.{LentPage}
-use Rattle.trio_layout.specs.Allowed.{has_kind}
-use Rattle.trio_lists.specs.Lists.{In, are_new}
-use Rattle.trio_lists.proofs.Filters.{In-find, In-list_any, find-In, list_any-In}
-use Rattle.trio_lists.proofs.Members.{In-cases, In-map, flat_map-In, list_all-In, list_all-each, map-In}
-use Rattle.trio_checkpoint.specs.Covered.{Checkpointed}
-use Rattle.trio_tables.specs.Out.{lib_at}
+use Rattle.trio_grants.specs.Grants.{is_on}
 use Rattle.trio_surveys.proofs.Alike.{same_kind_is}
-use Rattle.trio_laws.proofs.StateFacts.{write_alone, write_is}
 use Rattle.trio_laws.proofs.judgement.RuleParts.{same_kind_from}
-use Rattle.trio_state.specs.Given.{GivenTo, WasLent}
-use Rattle.trio_state.specs.State.{OpenGrant, State}
-use Rattle.trio_commit.specs.declared.store.Store.{Store}
-use Rattle.trio_commit.specs.Store.{checkpoint_at, state_of, with_checkpoint}
 use Rattle.trio_open.specs.Belonging.{Belongs, IsHoldOf, IsLeaseOf, IsNumberOf, IsPageOf, lent_numbers}
-use Rattle.trio_state.specs.Moves.{Outline}
-use Rattle.trio_ctl.specs.Ctl.{IsControlled}
-use Rattle.trio_open.specs.Entries.{Entries}
-use Rattle.trio_ctl.specs.HandedIn.{WereHeld}
-use Rattle.trio_open.specs.Open.{Opened, grants_in, hold_of, keyed}
-use Rattle.trio_ctl.specs.inner.Belonging.{are_given_by, is_lease_by}
-use Rattle.trio_open.proofs.Given.{hold_kind, numbered_back, numbered_from, whole_sheets}
+use Rattle.trio_ctl.specs.inner.Belonging.{is_lease_by}
+use Rattle.trio_open.proofs.Given.{numbered_back, numbered_from, whole_sheets}
 use Rattle.trio_open.specs.inner.Given.{are_numbered, has_pages_of, is_held_by, is_hold_by, is_number_by, is_out_to, is_page_by, stand_once, writes_since}
 
 -- ---- what is out

@@ -1,30 +1,6 @@
 -- Holds whose bodies are the settled ones, by the open grants.
-use Rattle.std.proofs.Common.{◌≡◌, ℕ, ◌==◌, ◌&&◌, true, List, Option, sym, ap, ◌∙◌}
-use Rattle.std.specs.List.{list_all}
-use Rattle.std.specs.Str.{bytes_eq}
-use Rattle.std.proofs.lemmas.Bool.{and_from, and_parts, eq-eqb, eqb-true}
-use Rattle.std.proofs.lemmas.Slice.Eq.{bytes_eq-Decides}
-use Rattle.trio_rights.specs.declared.rights.Creds.{Creds}
-use Rattle.trio_rights.specs.declared.rights.LibNo.{LibNo}
-use Rattle.trio_nodes.specs.GrantKinds.{is_hold}
-use Rattle.trio_nodes.specs.declared.grant.GrantKind.TheVariants.{Hold}
-use Rattle.trio_lists.specs.Lists.{In}
-use Rattle.trio_lists.proofs.Filters.{In-list_any, list_any-In}
-use Rattle.trio_lists.proofs.Members.{In-map, list_all-In, list_all-each, map-In}
-use Rattle.trio_layout.specs.Image.{settled_body}
-use Rattle.trio_lease.specs.Bundles.{Bundled}
-use Rattle.trio_lease.specs.Views.{bundle_in}
-use Rattle.trio_lease.specs.declared.parts.HoldParts.{HoldParts}
-use Rattle.trio_checkpoint.specs.Covered.{Checkpointed}
-use Rattle.trio_commit.specs.declared.store.Store.{Store}
-use Rattle.trio_commit.specs.Store.{state_of, with_checkpoint}
-use Rattle.trio_state.specs.Given.{GivenTo}
-use Rattle.trio_state.specs.Kept.{Kept}
-use Rattle.trio_state.specs.State.{OpenGrant, State, settled}
-use Rattle.trio_open.specs.Open.{Opened, grants_in}
-use Rattle.trio_ctl.specs.inner.Beginning.{HaveBodies}
-use Rattle.trio_open.specs.inner.Given.{is_body_of, is_held_so}
-use Rattle.trio_open.proofs.Given.{hold_kind}
+use Rattle.trio_ctl.proofs.Words.{◌&&◌, ◌==◌, ◌∙◌, ◌≡◌, Bundled, Checkpointed, Creds, GivenTo, HaveBodies, Hold, HoldParts, In, In-list_any, In-map, Kept, LibNo, List, OpenGrant, Opened, Option, State, Store, and_from, and_parts, ap, bundle_in, bytes_eq, bytes_eq-Decides, eq-eqb, eqb-true, grants_in, hold_kind, is_body_of, is_hold, list_all, list_all-In, list_all-each, list_any-In, map-In, settled, settled_body, state_of, sym, true, with_checkpoint, ℕ}
+use Rattle.trio_open.specs.inner.Given.{is_held_so}
 
 record IsHeldSo (lib : LibNo) (h : HoldParts) (g : OpenGrant) : Type 0 where
   lib_is : g.lib ≡ lib.0

@@ -1,47 +1,10 @@
 -- The case of a bundle that was given to a library of the controller.
-use Rattle.std.proofs.Common.{◌≡◌, ℕ, zero, suc, ◌+◌, ◌-◌, ◌<◌, ◌≤◌, true, ◌&&◌, leb, ltb, List, [], ◌∷◌, ◌++◌, length, map, Some, is_some, refl, sym, ap, subst, ◌∙◌, arith, Option}
+use Rattle.trio_ctl.proofs.Words.{◌&&◌, ◌++◌, ◌+◌, ◌-◌, ◌<◌, ◌∙◌, ◌∷◌, ◌≡◌, ◌≤◌, Bundle, Bundled, CaseShown, CoreRange, Creds, Directory, Entries, GivenTo, HoldParts, In, In-map, InoParts, IsControlled, Keyed, Kind, LentFile, LibNo, List, OpenGrant, Opened, Option, Outline, Regular, Some, State, Store, WereHeld, Written, [], and_from, ap, are_new, are_new-append, arith, bundle_in, bundle_pages, case_made, creds_of, grants_in, has_kind, is_core, is_some, le-leb, leb, length, lib_at, list_all, list_all-each, lt-ltb, ltb, map, map-In, new_beside, parted_hold, refl, row_in, same_kind, state_of, subst, suc, superblock_at_home, superblock_facts, sym, true, with_checkpoint, within_some, written_in, written_row, zero, ℕ}
 use Rattle.std.specs.Prelude.{None, is_none}
-use Rattle.std.specs.List.{list_all}
-use Rattle.std.proofs.lemmas.Bool.{and_from, le-leb, lt-ltb}
-use Rattle.trio_rights.specs.Kind.{same_kind}
-use Rattle.trio_rights.specs.Row.{row_in}
-use Rattle.trio_rights.specs.declared.kind.Kind.{Kind}
-use Rattle.trio_rights.specs.declared.kind.Kind.TheVariants.{Directory, Regular}
-use Rattle.trio_rights.specs.declared.rights.Creds.{Creds}
-use Rattle.trio_rights.specs.declared.rights.LibNo.{LibNo}
-use Rattle.trio_rights.specs.Bundle.{Bundle, Written, bundle_pages}
-use Rattle.trio_grants.specs.Grants.{Keyed}
-use Rattle.trio_lists.specs.Lists.{In, are_new}
-use Rattle.trio_lists.proofs.Gathered.{new_beside}
-use Rattle.trio_lists.proofs.Marked.{are_new-append}
-use Rattle.trio_lists.proofs.Members.{In-map, list_all-each, map-In}
-use Rattle.trio_tables.specs.Out.{lib_at}
-use Rattle.trio_tables.proofs.OutLemmas.{within_some}
-use Rattle.trio_lease.specs.Bundles.{Bundled}
-use Rattle.trio_lease.specs.Shown.{LentFile}
-use Rattle.trio_lease.specs.Views.{bundle_in, written_in}
-use Rattle.trio_lease.specs.declared.parts.HoldParts.{HoldParts}
-use Rattle.trio_lease.specs.declared.parts.InoParts.{InoParts}
-use Rattle.trio_layout.specs.Allowed.{has_kind}
 use Rattle.trio_layout.specs.Copied.{copied_rows}
-use Rattle.trio_layout.specs.Range.{is_core}
-use Rattle.trio_layout.specs.declared.range.CoreRange.{CoreRange}
-use Rattle.trio_layout.proofs.Superblocks.{superblock_facts}
-use Rattle.trio_state.specs.Bundles.{parted_hold}
-use Rattle.trio_state.specs.Given.{GivenTo}
-use Rattle.trio_state.specs.State.{OpenGrant, State, creds_of}
 use Rattle.trio_laws.proofs.Bundles.{held_unwritten}
-use Rattle.trio_laws.proofs.judgement.CaseFacts.{new_dead, written_row}
-use Rattle.trio_case.specs.Cases.{CaseShown, IsJudgeable, is_free_number}
-use Rattle.trio_commit.specs.declared.store.Store.{Store}
-use Rattle.trio_commit.specs.Store.{state_of, with_checkpoint}
-use Rattle.trio_state.specs.Moves.{Outline}
-use Rattle.trio_ctl.specs.Ctl.{IsControlled}
-use Rattle.trio_open.specs.Entries.{Entries}
-use Rattle.trio_ctl.specs.HandedIn.{WereHeld}
-use Rattle.trio_open.specs.Open.{Opened, grants_in}
-use Rattle.trio_ctl.specs.Pending.{case_made}
-use Rattle.trio_ctl.specs.Stored.{superblock_at_home}
+use Rattle.trio_laws.proofs.judgement.CaseFacts.{new_dead}
+use Rattle.trio_case.specs.Cases.{IsJudgeable, is_free_number}
 use Rattle.trio_ctl.proofs.ChildRows.{few_children}
 use Rattle.trio_ctl.proofs.Concluding.{judgeable, some_and}
 use Rattle.trio_ctl.proofs.Judging.{pages_core, pages_new, parents}

@@ -1,31 +1,11 @@
 -- How many files stand in the directories that a bundle writes: at most 16 for each page of the bundle.
-use Rattle.std.proofs.Common.{◌≡◌, ℕ, suc, ◌+◌, ◌*◌, ◌≤◌, Bool, true, false, cond, eqb, List, [], ◌∷◌, ◌++◌, length, map, get_or, Option, Some, None, Ok, IfOk, refl, sym, ap, subst, ◌∙◌, inl, inr, arith}
-use Rattle.std.specs.List.{count_by, find, flat_map}
-use Rattle.std.specs.Option.{option_map_or}
-use Rattle.std.proofs.lemmas.Bool.{eq-eqb, eqb-true, false≢true}
-use Rattle.std.proofs.lemmas.List.{length-append, length-map}
-use Rattle.std.proofs.lemmas.List.Sums.{sum_by-cons}
-use Rattle.trio_rights.specs.Bundle.{Bundle, Written, bundle_pages, bundle_sheets, is_written}
-use Rattle.trio_rights.specs.Row.{Row}
-use Rattle.trio_rights.specs.Sheets.{Sheet}
-use Rattle.trio_rights.specs.declared.kind.Kind.{Kind}
-use Rattle.trio_rights.specs.declared.kind.Kind.TheVariants.{Directory, Regular}
-use Rattle.trio_lists.specs.Lists.{In, are_new, gathered, there_or}
-use Rattle.trio_lists.proofs.Filters.{In-find, find-In}
-use Rattle.trio_lists.proofs.Gathered.{new_beside}
-use Rattle.trio_lists.proofs.Members.{In-flat, In-map, flat_map-In}
-use Rattle.trio_layout.specs.Core.{Core, at_page, page_of}
-use Rattle.trio_layout.specs.Entries.{Listed, entries_of_kind, entries_on, page_entries}
-use Rattle.trio_layout.specs.Image.{row_at}
-use Rattle.trio_layout.specs.Survey.{FileRead, Met, children, children_in, file_of, met_in, numbers, plain, survey}
+use Rattle.trio_ctl.proofs.Words.{◌*◌, ◌++◌, ◌+◌, ◌∙◌, ◌∷◌, ◌≡◌, ◌≤◌, Bool, Bundle, Core, Directory, FileRead, IfOk, In, In-find, In-flat, In-map, IsJudgeable, Kind, List, Listed, Met, None, Ok, Option, Regular, Row, Sheet, Some, State, Written, [], ap, are_new, arith, at_page, bundle_pages, bundle_sheets, child_from, children, children_in, cond, entries_of_kind, entries_on, eq-eqb, eqb-true, false, false≢true, file_of, find, find-In, flat_map, flat_map-In, gathered, gathers_directory, get_or, inl, inr, is_written, length, length-map, map, met_in, new_beside, one_met, option_map_or, page_entries, page_of, plain, reads_from, refl, root_or_listed, row_at, settled, subst, suc, sum_by-cons, survey, sym, there_or, true, written_find, ℕ}
+use Rattle.std.proofs.Common.{eqb}
+use Rattle.std.specs.List.{count_by}
+use Rattle.std.proofs.lemmas.List.{length-append}
+use Rattle.trio_layout.specs.Survey.{numbers}
 use Rattle.trio_layout.proofs.EntryNumbers.{AtMost, entries_on_most, gathered_most, if_ok_at, if_ok_then}
-use Rattle.trio_surveys.proofs.Images.{one_met, root_or_listed}
-use Rattle.trio_surveys.proofs.Local.{reads_from}
-use Rattle.trio_surveys.proofs.Places.{gathers_directory}
-use Rattle.trio_surveys.proofs.Tree.{child_from}
-use Rattle.trio_state.specs.State.{State, settled}
-use Rattle.trio_laws.specs.RuleLaws.{IsJudgeable}
-use Rattle.trio_laws.proofs.judgement.CaseFacts.{live, no_written_zero, written_find}
+use Rattle.trio_laws.proofs.judgement.CaseFacts.{live, no_written_zero}
 use Rattle.trio_case.proofs.Distinct.{no_more}
 
 -- ---- where a test passes in a list

@@ -1,20 +1,10 @@
 -- What the checkpoints of directories have once the bodies of children are in them.
-use Rattle.std.proofs.Common.{◌≡◌, ℕ, zero, suc, ◌==◌, Bool, true, false, cond, List, [], ◌∷◌, ◌++◌, length, map, Option, Some, None, refl, sym, ap, subst, ◌∙◌, inl, inr, arith}
-use Rattle.std.specs.Prelude.{if◌then◌else◌, slice_get, slice_set}
-use Rattle.std.specs.List.{cons_option, filter, filter_map}
-use Rattle.std.specs.Option.{option_map}
-use Rattle.std.proofs.lemmas.Bool.{cases_eq, eq-eqb, false≢true, ne_eqb}
-use Rattle.std.proofs.lemmas.List.{get_or-set_other}
-use Rattle.trio_rights.specs.Sheets.{Sheet, sheet_numbers, with_pages}
-use Rattle.trio_lists.specs.Lists.{In}
-use Rattle.trio_layout.specs.Accept.{with_body_in}
-use Rattle.trio_layout.specs.Survey.{Met}
-use Rattle.trio_surveys.proofs.Putting.{put_on}
+use Rattle.trio_ctl.proofs.Words.{if◌then◌else◌, ◌++◌, ◌==◌, ◌∙◌, ◌∷◌, ◌≡◌, Bool, Checkpointed, In, List, Met, None, Option, Sheet, Some, [], ap, arith, cases_eq, checkpoint_at, cond, eq-eqb, false, false≢true, filter, filter_map, get_or-set_other, inl, inr, length, map, ne_eqb, option_map, put_on, refl, sheet_numbers, slice_get, slice_set, subst, suc, sym, true, with_body_in, with_children, with_pages, zero, ℕ}
+use Rattle.std.specs.List.{cons_option}
 use Rattle.trio_surveys.proofs.SheetLaws.{get-set_same}
 use Rattle.trio_surveys.proofs.Sheets.{with_pages_cong}
-use Rattle.trio_checkpoint.specs.Covered.{Checkpointed, renewed}
-use Rattle.trio_commit.specs.Bodies.{with_child, with_children}
-use Rattle.trio_commit.specs.Store.{checkpoint_at}
+use Rattle.trio_checkpoint.specs.Covered.{renewed}
+use Rattle.trio_commit.specs.Bodies.{with_child}
 use Rattle.trio_ctl.proofs.StoredFacts.{Checkpoints}
 
 -- ---- the bodies of the files that one directory lists

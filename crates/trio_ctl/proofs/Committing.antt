@@ -1,61 +1,21 @@
 -- An accepted bundle that is put in place in the store: its end is that of an accepted one.
-use Rattle.std.proofs.Common.{◌≡◌, ℕ, zero, suc, ◌+◌, ◌-◌, ◌<◌, ◌==◌, ◌&&◌, Bool, true, false, cond, leb, ltb, not, List, [], ◌∷◌, ◌++◌, length, map, get_or, Option, Some, None, is_some, IsTrue, refl, sym, ap, subst, ◌∙◌, inl, inr, ◌⊎◌, arith}
-use Rattle.std.specs.Prelude.{if◌then◌else◌, slice_get, slice_index}
-use Rattle.std.specs.List.{filter, find}
-use Rattle.std.specs.Option.{option_map, option_map_or}
-use Rattle.std.proofs.lemmas.Bool.{and_from, and_parts, both_ways, cases_Bool, cases_lt, eq-eqb, eqb-true, false_from_ne_true, le-leb, leb-true, lt-ltb, not-true, or_cases}
-use Rattle.std.proofs.lemmas.List.{map-append}
-use Rattle.trio_rights.specs.Row.{Row, row_in}
-use Rattle.trio_rights.specs.declared.rights.Creds.{Creds}
-use Rattle.trio_rights.specs.ByKind.{covers_blocks}
-use Rattle.trio_rights.specs.Bundle.{Bundle, Written, bundle_pages, bundle_sheets, is_written}
-use Rattle.trio_rights.specs.Sheets.{Sheet, sheet_numbers, with_pages}
-use Rattle.trio_nodes.specs.GrantKinds.{is_write}
-use Rattle.trio_nodes.specs.declared.grant.GrantKind.TheVariants.{Write}
-use Rattle.trio_tables.specs.Out.{with_all}
-use Rattle.trio_tables.proofs.OutLemmas.{length-with_all, with_all-read, within_some}
-use Rattle.trio_lists.specs.Lists.{In, is_among}
-use Rattle.trio_lists.proofs.Filters.{filter-In, find-In, In-filter, In-list_any, list_any-In}
-use Rattle.trio_lists.proofs.Members.{flat_map-In, In-cases, In-flat, In-is_among, In-left, In-map, In-right, is_among-In, map-In}
-use Rattle.trio_lists.proofs.Tabulated.{tabulated-length}
-use Rattle.trio_layout.specs.Accept.{next, with_bodies}
-use Rattle.trio_layout.specs.Core.{Core}
-use Rattle.trio_layout.specs.Edges.{has_file, is_listed}
-use Rattle.trio_layout.specs.Image.{Image, row_at}
-use Rattle.trio_layout.specs.Listing.{ListedFile}
-use Rattle.trio_layout.specs.Superblock.{superblock_fits}
-use Rattle.trio_layout.specs.Survey.{Met, owner_of, pages_of, plain, row_of, survey}
+use Rattle.trio_ctl.proofs.Words.{if◌then◌else◌, ◌&&◌, ◌++◌, ◌+◌, ◌-◌, ◌<◌, ◌==◌, ◌∙◌, ◌∷◌, ◌≡◌, ◌⊎◌, Bool, Bundle, Checkpointed, Commits, Core, CoversLent, Creds, Ends, Image, In, In-cases, In-filter, In-flat, In-is_among, In-left, In-list_any, In-map, In-right, IsStored, IsTrue, List, ListedFile, Met, None, OpenGrant, Option, OutByNumber, Row, Sheet, Some, State, Store, Unwritten, Write, Written, [], among_cases, and_from, and_parts, ap, arith, both_ways, bundle_pages, bundle_sheets, cases_Bool, cases_lt, checkpoint_at, checkpoint_at-others, checkpoints_of, closed_unparted, cond, covered_at, covered_pages, covers_blocks, creds_of, eq-eqb, eqb-true, false, false_from_ne_true, filter, filter-In, find, find-In, flat_map-In, get_or, grants_after, grants_staying, has_file, has_file_at, has_file_by, in_numbers, inl, inr, is_among, is_among-In, is_in_bundle, is_some, is_write, is_written, judged_from, le-leb, leb, leb-true, length, length-with_all, length-with_pages, lent_file, lent_met, lent_part, list_any-In, lt-ltb, ltb, map, map-In, map-append, new_from, new_not_live, next, not, not-true, not_among, option_map, option_map_or, owner_at, owner_of, page_there, pages_are, pages_of, place_there, plain, put_on, reads, refl, row_at, row_in, row_of, settled, sheet_numbers, slice_get, slice_index, some_of, sound_parts, state_of, subst, suc, superblock_fits, survey, sym, tabulated-length, true, with_all, with_all-read, with_bodies, with_checkpoint, with_pages, with_pages_known, within_some, write_is, written_find, written_ino, written_judged, zero, ℕ}
+use Rattle.std.proofs.lemmas.Bool.{or_cases}
+use Rattle.trio_layout.specs.Edges.{is_listed}
 use Rattle.trio_layout.specs.Tables.{gives_up, owner_after}
 use Rattle.trio_surveys.proofs.Accepted.{length-bodies}
-use Rattle.trio_surveys.proofs.Images.{owner_at, some_of}
-use Rattle.trio_surveys.proofs.Owned.{index_apart, pages_are, sound_parts}
+use Rattle.trio_surveys.proofs.Owned.{index_apart}
 use Rattle.trio_surveys.proofs.PageSlots.{pages_same}
-use Rattle.trio_surveys.proofs.Putting.{put_on, put_on-none, with_bodies-get}
-use Rattle.trio_surveys.proofs.SheetLaws.{length-with_pages}
-use Rattle.trio_surveys.proofs.Sheets.{among_cases, not_among, page_there, place_there, place_within, with_pages_apart, with_pages_known}
-use Rattle.trio_checkpoint.specs.Covered.{Checkpointed, covered_pages}
-use Rattle.trio_allot.specs.Out.{OutByNumber}
-use Rattle.trio_state.specs.Bundles.{Ends, blank, grants_after, is_in_bundle, lent_part}
-use Rattle.trio_state.specs.State.{OpenGrant, State, creds_of, settled}
-use Rattle.trio_laws.specs.EndLaws.{checkpoints_of}
+use Rattle.trio_surveys.proofs.Putting.{put_on-none, with_bodies-get}
+use Rattle.trio_surveys.proofs.Sheets.{place_within, with_pages_apart}
+use Rattle.trio_state.specs.Bundles.{blank}
 use Rattle.trio_laws.proofs.Accepting.{accepted_kept, handed_back}
-use Rattle.trio_laws.proofs.Bundles.{closed_unparted, in_numbers, unwritten_apart, Unwritten}
+use Rattle.trio_laws.proofs.Bundles.{unwritten_apart}
 use Rattle.trio_laws.proofs.Checkpoints.{checkpoint_from}
-use Rattle.trio_laws.proofs.StateFacts.{lent_file, lent_met, write_is}
-use Rattle.trio_laws.proofs.judgement.CaseFacts.{new_not_live, written_find}
-use Rattle.trio_laws.proofs.judgement.JudgedFacts.{judged_from, new_from, written_ino, written_judged}
-use Rattle.trio_laws.proofs.judgement.ListingFacts.{has_file_at, has_file_by}
 use Rattle.trio_laws.proofs.judgement.TablesAfter.{listing_gives_tables}
-use Rattle.trio_laws.proofs.judgement.Taking.{reads}
-use Rattle.trio_commit.specs.declared.store.Store.{Store}
-use Rattle.trio_commit.specs.Commits.{Commits}
 use Rattle.trio_commit.specs.Bodies.{bodies_home, is_parent_lent}
 use Rattle.trio_commit.specs.Listed.{file_numbers}
-use Rattle.trio_commit.specs.Store.{checkpoint_at, covered_at, state_of, with_checkpoint}
-use Rattle.trio_commit.proofs.PutBack.{checkpoint_at-others}
-use Rattle.trio_open.specs.Covers.{CoversLent}
 use Rattle.trio_ctl.specs.CommitLaws.{CommitIsNext}
-use Rattle.trio_ctl.specs.Stored.{IsStored, grants_staying}
 use Rattle.trio_ctl.proofs.StoredFacts.{Checkpoints, HandedBundle, open_grant, sized, stays_unwritten, staying_same, unwritten_stays}
 use Rattle.trio_ctl.proofs.Children.{children_at, length-children, listed_by, own_numbers, put_on-append, put_on-filter, put_over_any, with_own, with_own_blocks}
 use Rattle.trio_ctl.proofs.AcceptedBundle.{AcceptedBundle, case_here, core_now, core_then, cs, few_rows, files_then, fit_then, judgeable, list_here, listed_core, low_owner, now, numbers_below, owners_long, page_covered, pick_then, placed_from, placed_parent, rows_long, sound_then}

@@ -1,65 +1,23 @@
 -- A bundle that is put in place or rolled back: the end of a release is the step that the definitions say.
-use Rattle.std.proofs.Common.{◌≡◌, ℕ, suc, ◌+◌, ◌<◌, ◌≤◌, Bool, true, false, ◌==◌, ◌&&◌, ◌||◌, List, [], ◌∷◌, length, map, Option, Some, None, is_some, IsTrue, refl, sym, ap, subst, ◌∙◌, ◌⊎◌, inl, inr, arith}
-use Rattle.std.specs.Prelude.{IsFalse, if◌then◌else◌, not}
-use Rattle.std.specs.List.{filter}
-use Rattle.std.specs.Option.{IsSomeAnd}
-use Rattle.std.proofs.lemmas.List.{length-map}
-use Rattle.std.proofs.lemmas.Bool.{and_parts, both_ways, cases_lt, false_from_ne_true, false≢true}
-use Rattle.trio_rights.specs.Row.{Row, row_in}
-use Rattle.trio_rights.specs.declared.kind.Kind.{Kind}
-use Rattle.trio_rights.specs.declared.rights.Creds.{Creds}
-use Rattle.trio_rights.specs.declared.rights.LibNo.{LibNo}
-use Rattle.trio_rights.specs.Bundle.{Bundle, bundle_pages, bundle_sheets, is_written}
-use Rattle.trio_rights.specs.Sheets.{Sheet, sheet_numbers}
-use Rattle.trio_nodes.specs.GrantKinds.{is_hold, is_read, is_write}
-use Rattle.trio_nodes.specs.declared.grant.GrantKind.{GrantKind}
-use Rattle.trio_nodes.specs.declared.grant.GrantKind.TheVariants.{Read, Write, Hold}
-use Rattle.trio_tables.specs.Out.{lib_at, with_all}
-use Rattle.trio_tables.proofs.OutLemmas.{length-with_all, lib_at-others, lib_at-set, within_some}
-use Rattle.trio_allot.specs.Out.{OutByNumber, outs_after}
-use Rattle.trio_grants.specs.Grants.{Keyed}
-use Rattle.trio_lists.specs.Lists.{In, are_new, is_among}
-use Rattle.trio_lists.proofs.Filters.{filter-In, filter-map}
-use Rattle.trio_lists.proofs.Members.{In-map, map-In}
+use Rattle.trio_ctl.proofs.Words.{if◌then◌else◌, ◌&&◌, ◌+◌, ◌<◌, ◌==◌, ◌||◌, ◌∙◌, ◌∷◌, ◌≡◌, ◌≤◌, ◌⊎◌, Bool, Bundle, Case, Commits, Creds, CtlAnswer, Ends, Entries, GivenTo, GrantKind, HaveKinds, Hold, HoldsAreTold, In, In-map, IsAccepted, IsControlled, IsJudgeable, IsRefused, IsSomeAnd, IsStored, IsTrue, IsVerdict, Keyed, Kind, LibNo, List, Listing, Location, None, OpenGrant, Opened, Option, OutByNumber, Outline, Read, Release, Row, Sheet, Some, State, Step, Store, Verdict, Write, [], and_parts, ap, are_new, arith, begun_among, both_ways, bundle_pages, bundle_sheets, case_in, cases_lt, creds_of, false, false_from_ne_true, false≢true, filter, filter-In, filter-map, grants_in, grants_staying, inl, inr, is_accepted, is_among, is_hold, is_in_bundle, is_read, is_some, is_write, is_written, kept_children, keyed, keys, length, length-map, length-with_all, lib_at, lib_at-others, lib_at-set, listing, map, map-In, meets_rules, next, outs_after, page_changes, parted_hold, placed_files, reads_among, refl, refused_image, row_in, rules_are_accept, settled, sheet_numbers, state_of, subst, suc, sym, true, with_all, with_checkpoint, with_children, with_copied, within_some, ℕ}
+use Rattle.std.specs.Prelude.{IsFalse, not}
 use Rattle.trio_lists.proofs.Gathered.{filtered_new}
-use Rattle.trio_layout.specs.Accept.{is_accepted, next}
 use Rattle.trio_layout.specs.Broken.{Breaks}
-use Rattle.trio_layout.specs.Case.{Case}
-use Rattle.trio_layout.specs.Core.{Location}
-use Rattle.trio_layout.specs.Listing.{Listing, listing}
-use Rattle.trio_layout.specs.Copied.{with_copied}
-use Rattle.trio_layout.specs.Rules.{meets_grammar, meets_owning, meets_rights, meets_rules}
+use Rattle.trio_layout.specs.Rules.{meets_grammar, meets_owning, meets_rights}
 use Rattle.trio_judge.specs.Verdicts.{meets_three}
-use Rattle.trio_judge.specs.declared.verdict.Verdict.{Verdict}
 use Rattle.trio_judge.specs.declared.verdict.Verdict.TheVariants.{Broken, Sound}
 use Rattle.trio_laws.proofs.judgement.CopiedBreaks.{grammar_told, owning_told, rights_told}
 use Rattle.trio_laws.proofs.judgement.CopiedRows.{copied_rows_suffice}
-use Rattle.trio_ctl.specs.Pending.{IsVerdict}
-use Rattle.trio_state.specs.Bundles.{Ends, is_in_bundle, parted_hold, refused_image}
-use Rattle.trio_state.specs.Given.{GivenTo}
-use Rattle.trio_state.specs.State.{OpenGrant, State, creds_of, settled}
-use Rattle.trio_state.specs.Step.{Accepted, CtlAnswer, IsAccepted, IsRefused, Refused, Release, Step}
-use Rattle.trio_state.specs.Tells.{case_in}
+use Rattle.trio_state.specs.Step.{Accepted, Refused}
 use Rattle.trio_laws.specs.Laws.{HasRightsOf}
-use Rattle.trio_laws.specs.RuleLaws.{IsJudgeable}
 use Rattle.trio_laws.proofs.RowSteps.{every_step_keeps_rows}
 use Rattle.trio_laws.proofs.judgement.Breaking.{breaks_where_not_met}
-use Rattle.trio_laws.proofs.judgement.Equivalence.{rules_are_accept}
-use Rattle.trio_commit.specs.declared.store.Store.{Store}
-use Rattle.trio_commit.specs.Bodies.{kept_children, page_changes, placed_files, with_children}
-use Rattle.trio_commit.specs.Store.{state_of, with_checkpoint}
-use Rattle.trio_state.specs.Moves.{Outline}
-use Rattle.trio_ctl.specs.Ctl.{HaveKinds, HoldsAreTold, IsControlled}
-use Rattle.trio_open.specs.Entries.{Entries, begun_among, reads_among}
-use Rattle.trio_open.specs.Open.{Opened, grants_in, keyed}
-use Rattle.trio_ctl.specs.Stored.{IsStored, grants_staying}
 use Rattle.trio_ctl.proofs.AcceptedBundle.{AcceptedBundle, CanCommit, can_commit}
-use Rattle.trio_commit.specs.Commits.{Commits}
 use Rattle.trio_ctl.proofs.Committing.{Committed, committed}
 use Rattle.trio_ctl.proofs.StoredFacts.{HandedBundle}
 use Rattle.trio_ctl.proofs.Looks.{few_looks}
 use Rattle.trio_ctl.proofs.RollingBack.{CanRollBack, RolledBack, RollsBack, can_roll_back, rolled_back}
-use Rattle.trio_open.proofs.ClosingFacts.{keys, staying}
+use Rattle.trio_open.proofs.ClosingFacts.{staying}
 use Rattle.trio_ctl.proofs.Told.{accepted_told, told_kept, told_open}
 
 -- the grants that stay, by the grants and by what is kept of them

@@ -1,51 +1,18 @@
 -- What a grant tells is true of the nodes at which it is given or refused, and so is the cause of a refused change of mode.
-use Rattle.std.proofs.Common.{◌≡◌, ℕ, true, map, IfOk, List, Option, Some, None, Result, Ok, Err, is_some, sym, refl, ap, ◌∙◌, subst, inl, inr}
+use Rattle.trio_ctl.proofs.Words.{◌∙◌, ◌≡◌, AreBack, AreLentTo, BadMode, Busy, BusyMode, Call, Creds, Denied, Err, GrantFault, GrantKind, Happens, Hold, IfOk, In, In-cases, In-list_any, In-map, IsSomeAnd, Kept, Kind, Lease, LentIsTrue, LibNo, List, ModeFault, NoGrantMemory, NoModeMemory, NoParent, Nodes, None, NotLive, NotOwner, Ok, OpenGrant, Option, Read, Result, Row, SetMode, Shown, Some, State, Step, Write, all_back, alone, and_from, ap, both_ways, creds_of, desk_of, eq-eqb, false≢true, given_by, grant_answer, grant_fault_answer, inl, inr, is_some, is_write, lease_told, leases_stay_true, lent_by, map, map-In, mode_fault_answer, mode_told, node_by, node_is, nodes_of, not-true, opened, option_map, out_of, refl, row_at, rows_say, settled, shown_of, states_are_trees, subst, sym, true, write_is, writer_of, ℕ}
 use Rattle.std.specs.Prelude.{◌&&◌, ◌==◌}
-use Rattle.std.proofs.lemmas.Bool.{and_from, both_ways, eq-eqb, false≢true, not-true}
-use Rattle.std.specs.Option.{IsSomeAnd, option_map}
-use Rattle.trio_rights.specs.Row.{Row}
-use Rattle.trio_rights.specs.declared.kind.Kind.{Kind}
-use Rattle.trio_rights.specs.declared.rights.Creds.{Creds}
-use Rattle.trio_rights.specs.declared.rights.LibNo.{LibNo}
-use Rattle.trio_lists.specs.Lists.{In}
-use Rattle.trio_lists.proofs.Filters.{In-list_any}
-use Rattle.trio_lists.proofs.Members.{In-cases, In-map, map-In}
-use Rattle.trio_lease.specs.Shown.{Shown}
-use Rattle.trio_lease.specs.declared.lease.Lease.{Lease}
-use Rattle.trio_nodes.specs.GrantKinds.{is_write, same_kind}
-use Rattle.trio_nodes.specs.declared.answers.GrantFault.{GrantFault}
-use Rattle.trio_nodes.specs.declared.answers.GrantFault.TheVariants.{NotLive, Denied, NoParent, Busy, NoMemory as NoGrantMemory}
-use Rattle.trio_nodes.specs.declared.answers.ModeFault.{ModeFault}
-use Rattle.trio_nodes.specs.declared.answers.ModeFault.TheVariants.{NotLive as NoFile, NotOwner, BadMode, Busy as BusyMode, NoMemory as NoModeMemory}
-use Rattle.trio_nodes.specs.declared.call.Call.{Call}
-use Rattle.trio_nodes.specs.declared.grant.GrantKind.{GrantKind}
-use Rattle.trio_nodes.specs.declared.grant.GrantKind.TheVariants.{Read, Write, Hold}
+use Rattle.trio_nodes.specs.GrantKinds.{same_kind}
+use Rattle.trio_nodes.specs.declared.answers.ModeFault.TheVariants.{NotLive as NoFile}
 use Rattle.trio_nodes.specs.declared.node.Node.{Node}
-use Rattle.trio_nodes.specs.Nodes.{Nodes, node_at}
+use Rattle.trio_nodes.specs.Nodes.{node_at}
 use Rattle.trio_nodes.specs.Standing.{Standing}
 use Rattle.trio_nodes.specs.Legal.{lacks_directory, parent_stands}
-use Rattle.trio_desk.specs.Call.{Grant, SetMode, lease_told, mode_told}
+use Rattle.trio_desk.specs.Call.{Grant}
 use Rattle.trio_desk.specs.Refusals.{HasMoment, IsCause, IsModeCause, TellsCause, file_kind, leases_out}
-use Rattle.trio_layout.specs.Image.{row_at}
-use Rattle.trio_state.specs.Kept.{Kept}
-use Rattle.trio_state.specs.Grants.{opened}
-use Rattle.trio_state.specs.State.{OpenGrant, State, creds_of, settled}
-use Rattle.trio_state.specs.Step.{Step}
 use Rattle.trio_state.specs.Step as step
-use Rattle.trio_laws.specs.history.Stands.{node_by, nodes_of, standing_of, writer_of}
-use Rattle.trio_laws.specs.session.Lent.{AreLentTo, LentIsTrue}
-use Rattle.trio_laws.proofs.StateFacts.{write_is}
-use Rattle.trio_laws.proofs.history.Facts.{node_is}
+use Rattle.trio_laws.specs.history.Stands.{standing_of}
 use Rattle.trio_laws.proofs.history.GrantStep.{grant_extends}
 use Rattle.trio_laws.proofs.history.ModeStep.{mode_extends}
-use Rattle.trio_laws.proofs.history.StandsTree.{states_are_trees}
-use Rattle.trio_laws.proofs.session.Lent.{leases_stay_true}
-use Rattle.trio_laws.proofs.session.Rows.{rows_say}
-use Rattle.trio_ctl.specs.Answers.{grant_answer, grant_fault_answer, mode_fault_answer}
-use Rattle.trio_ctl.specs.Backs.{AreBack, all_back}
-use Rattle.trio_ctl.specs.Desk.{Happens, desk_of, out_of}
-use Rattle.trio_ctl.specs.Logged.{alone}
-use Rattle.trio_open.specs.Open.{given_by, lent_by, shown_of}
 use Rattle.trio_ctl.proofs.DeskGiven.{behind}
 use Rattle.trio_ctl.proofs.DeskOuts.{numbers_to-In}
 use Rattle.trio_ctl.proofs.LeasesBack.{all_back_is, backs_kept, backs_nodes}

@@ -1,35 +1,11 @@
 -- Which parcels are closed, by what the library has out.
-use Rattle.std.proofs.Common.{◌≡◌, ℕ, ◌≤◌, Bool, true, false, not, ◌==◌, ◌&&◌, List, [], ◌∷◌, map, Option, Some, None, Result, Ok, Err, sym, refl, ap, ◌∙◌, subst, inl, inr, arith}
-use Rattle.std.specs.Prelude.{if◌then◌else◌, nat_le}
-use Rattle.std.specs.List.{filter}
-use Rattle.std.specs.Option.{IsSomeAnd}
-use Rattle.std.proofs.lemmas.Bool.{and_parts, cases_Bool, eq-eqb, false≢true, leb-false, leb-true}
-use Rattle.trio_rights.specs.Bundle.{Bundle, is_written}
-use Rattle.trio_rights.specs.Row.{Row}
-use Rattle.trio_rights.specs.declared.rights.LibNo.{LibNo}
-use Rattle.trio_nodes.specs.GrantKinds.{is_hold}
-use Rattle.trio_nodes.specs.declared.grant.GrantKind.TheVariants.{Hold}
-use Rattle.trio_nodes.specs.declared.answers.ReleaseAnswer.{ReleaseAnswer}
-use Rattle.trio_nodes.specs.declared.answers.ReleaseAnswer.TheVariants.{Accepted as AcceptedBundle, Refused as RefusedBundle}
-use Rattle.trio_nodes.specs.declared.answers.ReleaseFault.{ReleaseFault}
-use Rattle.trio_nodes.specs.declared.answers.ReleaseFault.TheVariants.{NotClosed as NotClosedBundle, NoMemory as NoReleaseMemory}
-use Rattle.trio_lists.specs.Lists.{In, is_among}
-use Rattle.trio_lists.proofs.Filters.{In-filter, filter-In}
-use Rattle.trio_lists.proofs.Members.{In-is_among, In-map, is_among-In, map-In}
-use Rattle.trio_lease.specs.declared.parts.HoldParts.{HoldParts}
-use Rattle.trio_layout.specs.Image.{row_at}
-use Rattle.trio_desk.specs.Out.{AreTogether, IsClosed, IsLowestParted, Parcel, file_numbers, hold_numbers}
-use Rattle.trio_desk.specs.Call.{NotJudged, TellsClosed, release_told}
-use Rattle.trio_state.specs.Bundles.{is_parent_written, is_parted, lower, lowest, parted_hold}
-use Rattle.trio_state.specs.State.{OpenGrant, State}
-use Rattle.trio_state.specs.Step.{CtlAnswer, Step, Parted, IsAccepted, IsRefused}
+use Rattle.trio_ctl.proofs.Words.{if◌then◌else◌, ◌&&◌, ◌==◌, ◌∙◌, ◌∷◌, ◌≡◌, ◌≤◌, AcceptedBundle, AreAsTold, Bool, Bundle, CtlAnswer, Err, Hold, HoldParts, In, In-filter, In-is_among, In-map, IsAccepted, IsRefused, IsSomeAnd, LibNo, List, NoReleaseMemory, None, NotClosedBundle, NotJudged, Ok, OpenGrant, Option, Parcel, Parted, RefusedBundle, ReleaseAnswer, ReleaseFault, Result, Row, Some, State, Step, [], and_parts, ap, arith, bundle_of, cases_Bool, eq-eqb, false, false≢true, file_numbers, filter, filter-In, grants_of, hold_numbers, hold_of, inl, inr, is_among, is_among-In, is_hold, is_parted, is_written, leb-true, lowest, map, map-In, nat_le, not, out_of, parted_hold, refl, release_answer, release_fault_answer, release_told, row_at, subst, sym, true, verdict_of, ℕ}
+use Rattle.std.proofs.lemmas.Bool.{leb-false}
+use Rattle.trio_desk.specs.Out.{AreTogether, IsClosed, IsLowestParted}
+use Rattle.trio_desk.specs.Call.{TellsClosed}
+use Rattle.trio_state.specs.Bundles.{is_parent_written, lower}
 use Rattle.trio_state.specs.Step as step
 use Rattle.trio_laws.proofs.Bundles.{unparted_at}
-use Rattle.trio_ctl.specs.Answers.{release_answer, release_fault_answer, verdict_of}
-use Rattle.trio_ctl.specs.Ctl.{AreAsTold}
-use Rattle.trio_desk.specs.Ready.{bundle_of}
-use Rattle.trio_ctl.specs.Desk.{grants_of, out_of}
-use Rattle.trio_open.specs.Open.{hold_of}
 use Rattle.trio_ctl.proofs.DeskGiven.{behind}
 use Rattle.trio_ctl.proofs.DeskOuts.{hold_is, written_among}
 

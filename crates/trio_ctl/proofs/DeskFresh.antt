@@ -1,57 +1,10 @@
 -- What the controller gives is new to the library that gets it.
-use Rattle.std.proofs.Common.{◌≡◌, ℕ, zero, suc, ◌+◌, ◌-◌, ◌<◌, ◌≤◌, ◌≢◌, Bool, true, false, cond, not, ◌==◌, ◌&&◌, List, [], ◌∷◌, ◌++◌, map, length, take, Option, Some, None, Result, is_some, sym, refl, ap, ◌∙◌, subst, inl, inr, arith, append-nil}
-use Rattle.std.specs.Prelude.{if◌then◌else◌, nat_le, nat_lt, slice_get, slice_index}
-use Rattle.std.specs.List.{filter, flat_map}
-use Rattle.std.specs.Option.{option_map}
-use Rattle.std.proofs.lemmas.List.{map-append}
-use Rattle.std.proofs.lemmas.Simd.{map-map}
-use Rattle.std.proofs.lemmas.Bool.{and_parts, and_from, both_ways, cases_Bool, eq-eqb, false≢true, le-leb, lt-ltb, ltb-false, not-true, not_from_false}
-use Rattle.trio_rights.specs.Row.{Row}
-use Rattle.trio_rights.specs.declared.rights.LibNo.{LibNo}
-use Rattle.trio_nodes.specs.GrantKinds.{excludes_kind, is_hold, is_read, is_write}
-use Rattle.trio_nodes.specs.declared.answers.GrantFault.{GrantFault}
-use Rattle.trio_nodes.specs.declared.answers.GrantFault.TheVariants.{Busy, NoParent, NotLive}
-use Rattle.trio_nodes.specs.declared.grant.GrantKind.{GrantKind}
-use Rattle.trio_nodes.specs.declared.grant.GrantKind.TheVariants.{Read, Write, Hold}
-use Rattle.trio_lists.specs.Lists.{In, are_new, is_among}
-use Rattle.trio_lists.proofs.Counting.{count_from}
-use Rattle.trio_lists.proofs.Filters.{In-filter, filter-In}
-use Rattle.trio_lists.proofs.Members.{In-cases, In-left, flat_map-In, map-In}
-use Rattle.trio_lists.proofs.New.{are_new-beside, are_new-fewer, are_new-take, is_among-not}
-use Rattle.trio_lists.proofs.Tabulated.{tabulated-get, tabulated-length}
-use Rattle.trio_tables.specs.Free.{count_up}
-use Rattle.trio_tables.specs.Out.{is_out}
-use Rattle.trio_layout.specs.Chain.{Chain}
-use Rattle.trio_layout.specs.Core.{Location}
-use Rattle.trio_layout.specs.Image.{row_at, settled_body}
-use Rattle.trio_layout.specs.Pages.{block_sheets, index_sheets, settled_chain}
-use Rattle.trio_layout.specs.Range.{is_core}
-use Rattle.trio_layout.specs.Survey.{owner_of, pages_of, plain, survey}
-use Rattle.trio_surveys.proofs.Owned.{pages_are}
-use Rattle.trio_rights.specs.Sheets.{Sheet, sheet_numbers}
-use Rattle.trio_lease.specs.Views.{lent_sheet}
-use Rattle.trio_lease.specs.Shown.{Shown}
-use Rattle.trio_lease.specs.declared.parts.HoldParts.{HoldParts}
-use Rattle.trio_lease.specs.declared.parts.LentPage.{LentPage}
-use Rattle.trio_desk.specs.Out.{IsFreshLease, IsWellLent, files_out, hold_numbers, lent_numbers, numbers_of_file, pages_out}
-use Rattle.trio_state.specs.Allotments.{free_numbers, free_pages}
-use Rattle.trio_state.specs.Grants.{denied_by, denied_or, excluding, grant_fault, holder_of, lacks_parent, opened}
-use Rattle.trio_state.specs.Kept.{Kept}
-use Rattle.trio_state.specs.State.{OpenGrant, State, settled}
-use Rattle.trio_laws.specs.OutLaws.{numbers_to}
-use Rattle.trio_laws.specs.session.Lent.{sizes_of}
-use Rattle.trio_laws.specs.history.Stands.{node_by, writer_of}
+use Rattle.trio_ctl.proofs.Words.{if◌then◌else◌, ◌&&◌, ◌++◌, ◌+◌, ◌-◌, ◌<◌, ◌==◌, ◌∙◌, ◌∷◌, ◌≡◌, ◌≢◌, ◌≤◌, Bool, Busy, Chain, GrantFault, GrantKind, Hold, HoldParts, In, In-cases, In-filter, In-left, IsFreshLease, IsWellLent, Kept, LentPage, LibNo, List, Location, NoParent, None, NotLive, OpenGrant, Option, Read, Result, Row, Sheet, Shown, Some, State, Write, [], and_from, and_parts, ap, append-nil, are_new, arith, block_sheets, both_ways, cases_Bool, cond, count_from, count_up, denied_by, denied_or, eq-eqb, excludes_kind, excluding, false, false≢true, files_out, filter, filter-In, flat_map, flat_map-In, free_numbers, free_unlisted, grant_fault, grants_of, hold_numbers, hold_of, holder_of, index_sheets, inl, inr, is_among, is_among-not, is_core, is_hold, is_out, is_read, is_some, is_write, lacks_parent, le-leb, length, lent_by, lent_file, lent_met, lent_numbers, lent_sheet, lt-ltb, ltb-false, map, map-In, map-append, map-map, met_at, nat_le, nat_lt, node_by, node_is, not, not-true, not_from_false, numbers_of_file, numbers_to, opened, option_map, out_of, owner_of, pages_are, pages_of, pages_out, plain, refl, row_at, settled, settled_body, settled_chain, sheet_numbers, sheets_untouched, shown_of, sizes_of, slice_get, slice_index, states_are_trees, subst, suc, survey, sym, tables, tabulated-get, tabulated-length, take, true, untouched, write_is, writer_of, zero, ℕ}
+use Rattle.trio_lists.proofs.New.{are_new-beside, are_new-fewer, are_new-take}
+use Rattle.trio_state.specs.Allotments.{free_pages}
 use Rattle.trio_laws.proofs.Allots.{number_free, page_free}
-use Rattle.trio_laws.proofs.StateFacts.{lent_file, lent_met, tables, write_is}
-use Rattle.trio_laws.proofs.history.Facts.{node_is}
-use Rattle.trio_laws.proofs.history.StandsTree.{states_are_trees}
-use Rattle.trio_surveys.proofs.Images.{free_unlisted}
-use Rattle.trio_laws.proofs.history.Listing.{met_at}
-use Rattle.trio_ctl.specs.Desk.{grants_of, out_of}
-use Rattle.trio_open.specs.Open.{hold_of, lent_by, shown_of, untouched}
 use Rattle.trio_ctl.proofs.DeskGiven.{behind}
 use Rattle.trio_ctl.proofs.DeskOuts.{numbers_to-In}
-use Rattle.trio_open.proofs.LendLemmas.{sheets_untouched}
 use Rattle.trio_ctl.proofs.WellLent.{good_body, numbers_are, well_lent}
 
 -- ---- grants

@@ -1,31 +1,7 @@
 -- What a desk is handed in was given by the controller.
-use Rattle.std.proofs.Common.{◌≡◌, Bool, true, ◌==◌, ◌&&◌, List, [], ◌++◌, map, length, sym, ap, ◌∙◌, subst, inl, inr}
-use Rattle.std.specs.List.{flat_map}
-use Rattle.std.proofs.lemmas.Bool.{and_parts, eqb-true}
-use Rattle.std.proofs.lemmas.Simd.{map-map}
-use Rattle.trio_page.specs.declared.page.PageNo.{PageNo}
-use Rattle.trio_rights.specs.Bundle.{Written}
-use Rattle.trio_rights.specs.Sheets.{Sheet, sheet_numbers}
-use Rattle.trio_rights.specs.declared.rights.LibNo.{LibNo}
-use Rattle.trio_nodes.specs.GrantKinds.{is_hold, is_read, is_write}
-use Rattle.trio_nodes.specs.declared.grant.GrantKind.{GrantKind}
-use Rattle.trio_nodes.specs.declared.grant.GrantKind.TheVariants.{Read}
-use Rattle.trio_lists.specs.Lists.{In, are_new}
-use Rattle.trio_lists.proofs.Filters.{filter-In}
-use Rattle.trio_lists.proofs.Members.{In-cases, flat_map-In, map-In}
-use Rattle.trio_lease.specs.Shown.{LentFile, Shown}
-use Rattle.trio_lease.specs.Views.{fresh_sheet, lent_sheet, written_in}
-use Rattle.trio_lease.specs.declared.parts.HoldParts.{HoldParts}
-use Rattle.trio_lease.specs.declared.parts.InoParts.{InoParts}
-use Rattle.trio_lease.specs.declared.parts.LentPage.{LentPage}
-use Rattle.trio_desk.specs.Out.{AreWhole, IsLent, Parcel, WasGiven}
-use Rattle.trio_state.specs.Given.{GivenTo, HasGrant, WasAllotted, WasLent}
-use Rattle.trio_state.specs.State.{OpenGrant, State}
-use Rattle.trio_laws.proofs.StateFacts.{write_is}
-use Rattle.trio_desk.specs.Ready.{bundle_of}
-use Rattle.trio_ctl.specs.Desk.{grants_of, out_of}
-use Rattle.trio_ctl.specs.HandedIn.{WasHeld, WereHeld, WereLent}
-use Rattle.trio_open.specs.Open.{hold_of, shown_of, untouched}
+use Rattle.trio_ctl.proofs.Words.{◌&&◌, ◌++◌, ◌==◌, ◌∙◌, ◌≡◌, AreWhole, Bool, GivenTo, GrantKind, HasGrant, HoldParts, In, In-cases, InoParts, LentFile, LentPage, LibNo, List, OpenGrant, PageNo, Parcel, Read, Sheet, Shown, State, WasAllotted, WasLent, WereHeld, WereLent, Written, [], and_parts, ap, are_new, bundle_of, eqb-true, filter-In, flat_map, flat_map-In, fresh_sheet, grants_of, hold_of, inl, inr, is_hold, is_read, is_write, length, lent_sheet, map, map-In, map-map, out_of, sheet_numbers, shown_of, subst, sym, true, untouched, write_is, written_in}
+use Rattle.trio_desk.specs.Out.{IsLent, WasGiven}
+use Rattle.trio_ctl.specs.HandedIn.{WasHeld}
 use Rattle.trio_ctl.proofs.DeskOuts.{hold_is, numbers_to-In, read_is}
 
 -- the grant behind what is seen of a library's grants of one kind

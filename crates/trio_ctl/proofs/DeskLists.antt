@@ -1,8 +1,5 @@
 -- Filters of lists, and what is seen of what they keep.
-use Rattle.std.proofs.Common.{◌≡◌, ℕ, Bool, true, false, ◌==◌, ◌&&◌, ◌||◌, List, [], ◌∷◌, map, is_some, sym, refl, ap, ◌∙◌, inl, inr}
-use Rattle.std.specs.List.{filter, find}
-use Rattle.std.proofs.lemmas.Bool.{cases_Bool}
-use Rattle.trio_lists.specs.Lists.{is_among}
+use Rattle.trio_ctl.proofs.Words.{◌&&◌, ◌==◌, ◌||◌, ◌∙◌, ◌∷◌, ◌≡◌, Bool, List, [], ap, cases_Bool, false, filter, find, inl, inr, is_among, is_some, map, refl, sym, true, ℕ}
 
 pub and-false : (x : Bool) → (x && false) ≡ false
 and-false true = refl

@@ -1,18 +1,8 @@
 -- What a call of a desk logs is what the call of the controller logs.
-use Rattle.std.proofs.Common.{◌≡◌, ◌++◌, Result, ap, ◌∙◌}
-use Rattle.trio_lease.specs.Bundles.{Bundled}
-use Rattle.trio_lease.specs.Shown.{Shown}
-use Rattle.trio_lease.specs.Views.{bundle_in}
-use Rattle.trio_nodes.specs.declared.answers.ReleaseAnswer.{ReleaseAnswer}
-use Rattle.trio_nodes.specs.declared.answers.ReleaseFault.{ReleaseFault}
-use Rattle.trio_rights.specs.declared.rights.LibNo.{LibNo}
-use Rattle.trio_desk.specs.Call.{Done, GiveBack, Release, release_told}
-use Rattle.trio_desk.specs.Out.{parcel_of}
+use Rattle.trio_ctl.proofs.Words.{◌++◌, ◌∙◌, ◌≡◌, Bundled, Controller, GiveBack, LibNo, LogsCall, ReleaseAnswer, ReleaseFault, Result, Shown, alone, ap, bundle_in, entries_made, parcel_of, release_answer, release_told, with_bundle}
+use Rattle.trio_desk.specs.Call.{Done, Release}
 use Rattle.trio_state.specs.Step as step
-use Rattle.trio_ctl.specs.Answers.{release_answer}
-use Rattle.trio_ctl.specs.Ctl.{Controller}
-use Rattle.trio_ctl.specs.Desk.{LogsCall}
-use Rattle.trio_ctl.specs.Logged.{Logs, alone, entries_made, with_bundle}
+use Rattle.trio_ctl.specs.Logged.{Logs}
 use Rattle.trio_ctl.proofs.DeskSteps.{release_same}
 
 pub back_logs : (old : Controller) (lib : LibNo) (lease : Shown) (new : Controller) → lease.lib.0 ≡ lib.0 → Logs old alone (step.Back lease.lib.0 lease.ino) step.Done new → LogsCall old lib (GiveBack lease) Done new

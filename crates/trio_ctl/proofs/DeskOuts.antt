@@ -1,39 +1,11 @@
 -- What a library has out, after a grant, an allotment, a give back and the end of a bundle.
-use Rattle.std.proofs.Common.{◌≡◌, ℕ, ◌-◌, ◌<◌, Bool, true, false, not, ◌==◌, ◌&&◌, ◌||◌, List, [], ◌∷◌, ◌++◌, map, length, Option, Some, None, is_some, sym, refl, ap, ◌∙◌, subst, inl, inr, arith, append-nil}
-use Rattle.std.specs.Prelude.{◌↔◌, if◌then◌else◌}
-use Rattle.std.specs.List.{filter}
-use Rattle.std.proofs.lemmas.Bool.{and_parts, cases_Bool, eq-eqb, eqb-true, false≢true, not-true, not_from_false}
-use Rattle.std.proofs.lemmas.List.{map-append}
+use Rattle.trio_ctl.proofs.Words.{if◌then◌else◌, ◌&&◌, ◌++◌, ◌-◌, ◌<◌, ◌==◌, ◌||◌, ◌∙◌, ◌∷◌, ◌≡◌, Bool, Bundle, Ends, GrantKind, Hold, HoldParts, Image, In, In-cases, In-filter, In-is_among, In-left, In-right, LibNo, LibOut, List, None, OpenGrant, Option, OutAlike, Parcel, Read, Shown, Some, State, WasAllotted, Write, Written, [], allots, and_parts, ap, append-nil, arith, bundle_of, cases_Bool, count_up, eq-eqb, eqb-true, false, false≢true, file_numbers, filter, filter-In, fresh_sheet, given_back, given_by, grants_after, grants_of, hold_numbers, hold_of, inl, ino_numbers, inr, is_among, is_among-In, is_hold, is_in_bundle, is_library, is_read, is_some, is_write, is_written, length, length-with_all, lent_by, lent_part, lib_at, lib_at-others, lib_at-set, map, map-append, map-map, not, not-true, not_from_false, numbers_to, opens, out_after, out_of, page_numbers, refl, sheet_numbers, shown_of, subst, sym, true, with_lease, within_some, write_is, written_in, ℕ}
+use Rattle.std.specs.Prelude.{◌↔◌}
 use Rattle.std.proofs.lemmas.List.Elements.{filter-append}
-use Rattle.std.proofs.lemmas.Simd.{map-map}
-use Rattle.trio_rights.specs.Bundle.{Bundle, Written, is_written}
-use Rattle.trio_rights.specs.Sheets.{sheet_numbers}
-use Rattle.trio_rights.specs.declared.rights.LibNo.{LibNo}
-use Rattle.trio_nodes.specs.GrantKinds.{is_hold, is_read, is_write}
-use Rattle.trio_nodes.specs.declared.grant.GrantKind.{GrantKind}
-use Rattle.trio_nodes.specs.declared.grant.GrantKind.TheVariants.{Read, Write, Hold}
-use Rattle.trio_lists.specs.Lists.{In, is_among}
 use Rattle.trio_lists.proofs.Counting.{count_in}
-use Rattle.trio_lists.proofs.Filters.{In-filter, filter-In, filter-filter}
-use Rattle.trio_lists.proofs.Members.{In-cases, In-left, In-right, In-is_among, is_among-In}
-use Rattle.trio_tables.specs.Free.{count_up}
-use Rattle.trio_tables.specs.Out.{lib_at}
-use Rattle.trio_tables.proofs.OutLemmas.{length-with_all, lib_at-others, lib_at-set, within_some}
-use Rattle.trio_layout.specs.Image.{Image}
-use Rattle.trio_lease.specs.Shown.{Shown}
-use Rattle.trio_lease.specs.Views.{fresh_sheet, written_in}
-use Rattle.trio_lease.specs.declared.parts.HoldParts.{HoldParts}
-use Rattle.trio_desk.specs.Out.{LibOut, OutAlike, Parcel, file_numbers, hold_numbers, ino_numbers, page_numbers, with_allotted, with_lease, without_parcel, without_read}
-use Rattle.trio_state.specs.Allotments.{allots, is_library, out_after, out_with}
-use Rattle.trio_state.specs.Bundles.{Ends, grants_after, is_in_bundle, lent_part}
-use Rattle.trio_state.specs.Given.{WasAllotted}
-use Rattle.trio_state.specs.Grants.{given_back, opens}
-use Rattle.trio_state.specs.State.{OpenGrant, State}
-use Rattle.trio_laws.specs.OutLaws.{numbers_to}
-use Rattle.trio_laws.proofs.StateFacts.{write_is}
-use Rattle.trio_desk.specs.Ready.{bundle_of}
-use Rattle.trio_ctl.specs.Desk.{grants_of, out_of}
-use Rattle.trio_open.specs.Open.{given_by, hold_of, lent_by, shown_of}
+use Rattle.trio_lists.proofs.Filters.{filter-filter}
+use Rattle.trio_desk.specs.Out.{with_allotted, without_parcel, without_read}
+use Rattle.trio_state.specs.Allotments.{out_with}
 use Rattle.trio_ctl.proofs.DeskLists.{and-true, filter-seen, filter-through, found-among, or-false}
 
 -- the same is out

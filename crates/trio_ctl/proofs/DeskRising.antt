@@ -1,12 +1,6 @@
 -- Numbers in rising order.
-use Rattle.std.proofs.Common.{ℕ, zero, suc, ◌-◌, ◌<◌, Bool, true, false, List, [], ◌∷◌, take, arith}
-use Rattle.std.specs.Prelude.{if◌then◌else◌}
-use Rattle.std.specs.List.{filter}
-use Rattle.trio_lists.specs.Lists.{In}
-use Rattle.trio_lists.proofs.Counting.{count_from}
-use Rattle.trio_lists.proofs.Filters.{filter-In}
-use Rattle.trio_tables.specs.Free.{count_up, numbers_where}
-use Rattle.trio_desk.specs.Out.{AreRising}
+use Rattle.trio_ctl.proofs.Words.{if◌then◌else◌, ◌-◌, ◌<◌, ◌∷◌, AreRising, Bool, In, List, [], arith, count_from, count_up, false, filter, filter-In, suc, take, true, zero, ℕ}
+use Rattle.trio_tables.specs.Free.{numbers_where}
 use Rattle.trio_ctl.proofs.DeskFresh.{take-In}
 
 AreRising-count_up : (from k : ℕ) → AreRising (count_up from k)

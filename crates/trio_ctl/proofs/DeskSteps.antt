@@ -1,70 +1,23 @@
 -- What is seen of a desk after each call of the controller, and what a call leaves of other libraries.
-use Rattle.std.proofs.Common.{◌≡◌, ℕ, ◌+◌, ◌≤◌, ◌⊎◌, not, Bool, true, false, ◌==◌, ◌&&◌, IfOk, List, length, map, take, Option, Some, None, Result, Ok, Err, sym, refl, ap, ◌∙◌, subst, inl, inr, length-take-le, ltb-false, arith}
-use Rattle.std.specs.Prelude.{[], ◌∷◌, ◌++◌, ◌||◌, if◌then◌else◌, is_some, nat_lt, slice_get}
-use Rattle.std.specs.List.{filter}
-use Rattle.std.specs.Option.{IsSomeAnd, option_map}
-use Rattle.std.proofs.lemmas.List.{length-map}
-use Rattle.std.proofs.lemmas.Bool.{and_from, and_parts, eq-eqb, eqb-true, false≢true, ltb-true}
-use Rattle.trio_rights.specs.Row.{Row}
-use Rattle.trio_rights.specs.declared.rights.Creds.{Creds}
-use Rattle.trio_rights.specs.declared.rights.LibNo.{LibNo}
-use Rattle.trio_nodes.specs.Libraries.{creds_in}
-use Rattle.trio_nodes.specs.GrantKinds.{excludes_kind, is_hold, is_read, is_write}
-use Rattle.trio_nodes.specs.declared.grant.GrantKind.TheVariants.{Read, Write, Hold}
-use Rattle.trio_nodes.specs.declared.grant.Holder.{Holder}
-use Rattle.trio_nodes.specs.declared.grant.GrantKind.{GrantKind}
-use Rattle.trio_nodes.specs.declared.answers.AllotFault.{AllotFault}
-use Rattle.trio_nodes.specs.declared.answers.AllotFault.TheVariants.{NoPages as NoFreePages, NoInodes as NoFreeInodes, NoMemory as NoAllotMemory}
-use Rattle.trio_nodes.specs.declared.answers.GrantFault.{GrantFault}
-use Rattle.trio_nodes.specs.declared.answers.GrantFault.TheVariants.{NotLive, Denied, NoParent, Busy, NoMemory as NoGrantMemory}
-use Rattle.trio_nodes.specs.declared.answers.ModeFault.{ModeFault}
-use Rattle.trio_nodes.specs.declared.answers.ModeFault.TheVariants.{NotLive as NotLiveFile, NotOwner, BadMode, Busy as BusyMode, NoMemory as NoModeMemory}
-use Rattle.trio_nodes.specs.declared.call.Call.{Call}
-use Rattle.trio_nodes.specs.declared.answers.ReleaseAnswer.{ReleaseAnswer}
-use Rattle.trio_nodes.specs.declared.answers.ReleaseAnswer.TheVariants.{Accepted as AcceptedBundle, Refused as RefusedBundle}
-use Rattle.trio_nodes.specs.declared.answers.ReleaseFault.{ReleaseFault}
-use Rattle.trio_nodes.specs.declared.answers.ReleaseFault.TheVariants.{NotClosed as NotClosedBundle, NoMemory as NoReleaseMemory}
-use Rattle.trio_lists.specs.Lists.{In, are_new}
-use Rattle.trio_lists.proofs.Filters.{In-filter, filter-In, list_any-In}
-use Rattle.trio_lists.proofs.Members.{In-left, In-map, In-right}
-use Rattle.trio_lease.specs.Shown.{Shown}
-use Rattle.trio_lease.specs.declared.fresh.Allotted.{Allotted}
-use Rattle.trio_lease.specs.declared.lease.Lease.{Lease}
-use Rattle.trio_lease.specs.declared.parts.HoldParts.{HoldParts}
-use Rattle.trio_lease.specs.declared.parts.InoParts.{InoParts}
-use Rattle.trio_lease.specs.declared.parts.FreshParts.{FreshParts}
-use Rattle.trio_layout.specs.Image.{row_at}
-use Rattle.trio_tables.specs.Free.{is_free_number, is_free_page}
-use Rattle.trio_allot.specs.Out.{fresh_number, fresh_page}
-use Rattle.trio_desk.specs.Ready.{bundle_of}
-use Rattle.trio_desk.specs.Out.{AreRising, HasWanted, IsFreshAllotment, IsFreshLease, LibOut, OutAlike, Parcel, files_out, ino_numbers, kind_lent, page_numbers, pages_out, with_lease, without_reads}
-use Rattle.trio_desk.specs.Contents.{Rights, Sizes}
-use Rattle.trio_desk.specs.Call.{Ask, DeskSeen, Told, Grant, Allot, GiveBack, Release, Settle, SetMode, Lent, NotLent, Given, NotGiven, Done, Judged, NotJudged, NotSettled, ModeSet, NotModeSet, SeenAfter, TellsHolder, allot_told, lease_told, mode_told, out_after, release_told}
+use Rattle.trio_ctl.proofs.Words.{if◌then◌else◌, ◌&&◌, ◌+◌, ◌==◌, ◌∙◌, ◌≡◌, ◌≤◌, ◌⊎◌, AcceptedBundle, AllotFault, Allotted, AreAsTold, AreRising, Ask, BadMode, Bool, Busy, BusyMode, Call, CallStep, Comes, Creds, CtlAnswer, Denied, Err, Event, FreshParts, GiveBack, GivenEvent, GivenTo, GrantFault, GrantKind, Happens, HasOut, Hold, HoldParts, Holder, IfOk, In, In-filter, In-left, In-map, In-right, InoParts, IsAccepted, IsFreshLease, IsRefused, IsSomeAnd, Kept, Lease, LentWhole, LibNo, LibOut, List, ModeFault, ModeSet, NoFreeInodes, NoFreePages, NoGrantMemory, NoModeMemory, NoParent, NoReleaseMemory, None, NotClosedBundle, NotJudged, NotLive, NotModeSet, NotOwner, NotSettled, Ok, OpenGrant, Option, OutAlike, Outcome, Parcel, Parted, Read, RefusedBundle, ReleaseAnswer, ReleaseFault, Result, Row, SeenAfter, SetMode, Shown, Sizes, Some, State, Step, Why, Write, after_allot, after_mode_fault, after_mode_refusal, after_no_grant, after_no_mode, all_back, allot_answer, allot_fault_answer, allots, and_from, and_parts, ap, are_new, arith, bundle_of, creds_in, creds_of, denied_by, denied_or, desk_of, eq-eqb, eqb-true, excludes_kind, excluding, false, false≢true, files_out, filter, filter-In, free_numbers, fresh_number, fresh_page, given_back, given_by, grant_answer, grant_fault, grant_fault_answer, granted_to, grants_of, has_parent_grant, hold_of, holder_of, inl, ino_numbers, inr, is_back, is_free_number, is_hold, is_read, is_write, lacks_parent, lease_told, length, length-map, lent_by, library_of, list_any-In, logged, ltb-true, map, mode_excluding, mode_fault, mode_fault_answer, mode_told, moded_to, nat_lt, not, numbers_to, opened, opens, option_map, others_keep_out, out_of, page_numbers, pages_out, refl, release_answer, release_fault_answer, release_told, root_of, row_at, shown_of, sizes_of, slice_get, step_keeps_root, step_kept, subst, sym, take, true, verdict_of, with_lease, without_checkpoint, without_reads, ℕ}
+use Rattle.std.proofs.Common.{length-take-le, ltb-false}
+use Rattle.std.specs.Prelude.{[], ◌∷◌, ◌++◌, ◌||◌, is_some}
+use Rattle.trio_nodes.specs.declared.answers.AllotFault.TheVariants.{NoMemory as NoAllotMemory}
+use Rattle.trio_nodes.specs.declared.answers.ModeFault.TheVariants.{NotLive as NotLiveFile}
+use Rattle.trio_tables.specs.Free.{is_free_page}
+use Rattle.trio_desk.specs.Out.{HasWanted, IsFreshAllotment, kind_lent}
+use Rattle.trio_desk.specs.Contents.{Rights}
+use Rattle.trio_desk.specs.Call.{DeskSeen, Told, Grant, Allot, Release, Settle, Lent, NotLent, Given, NotGiven, Done, Judged, TellsHolder, allot_told, out_after}
 use Rattle.trio_desk.specs.Refusals.{TellsLack}
-use Rattle.trio_state.specs.Allotments.{allots, free_numbers, free_pages}
-use Rattle.trio_state.specs.Given.{GivenEvent, GivenTo}
-use Rattle.trio_state.specs.Grants.{denied_by, denied_or, excluding, given_back, grant_fault, has_parent_grant, holder_of, lacks_parent, opened, opens}
-use Rattle.trio_state.specs.Kept.{Kept}
-use Rattle.trio_state.specs.State.{OpenGrant, State, creds_of, logged}
-use Rattle.trio_state.specs.Step.{Event, CtlAnswer, Comes, Step, Outcome, Parted, IsAccepted, IsRefused, after_mode_fault, granted_to, mode_excluding, mode_fault, mode_outcome, moded_to}
+use Rattle.trio_state.specs.Allotments.{free_pages}
+use Rattle.trio_state.specs.Step.{mode_outcome}
 use Rattle.trio_state.specs.Step as step
-use Rattle.trio_state.specs.Tells.{Why}
-use Rattle.trio_laws.specs.Laws.{library_of}
-use Rattle.trio_laws.specs.OutLaws.{HasOut, numbers_to, without_checkpoint, out_of as has_out}
-use Rattle.trio_laws.specs.history.Recorded.{LentWhole}
-use Rattle.trio_laws.specs.session.Lent.{root_of, sizes_of}
-use Rattle.trio_laws.proofs.Cases.{after_allot, after_no_grant, after_no_mode}
-use Rattle.trio_laws.proofs.OthersOut.{others_keep_out}
-use Rattle.trio_laws.proofs.Runs.{step_kept}
+use Rattle.trio_laws.specs.OutLaws.{out_of as has_out}
 use Rattle.trio_laws.proofs.history.Grows.{step_whole}
-use Rattle.trio_laws.proofs.session.Lent.{step_keeps_root}
-use Rattle.trio_ctl.specs.Answers.{allot_answer, allot_fault_answer, children_told, grant_answer, grant_fault_answer, mode_fault_answer, release_answer, release_fault_answer, verdict_of}
-use Rattle.trio_ctl.specs.Ctl.{AreAsTold, IsLibrary}
-use Rattle.trio_ctl.specs.Backs.{all_back}
-use Rattle.trio_ctl.specs.Desk.{CallStep, Happens, after_mode_refusal, answer_of, desk_of, event_of, grants_of, handed_back, out_of}
+use Rattle.trio_ctl.specs.Answers.{children_told}
+use Rattle.trio_ctl.specs.Ctl.{IsLibrary}
+use Rattle.trio_ctl.specs.Desk.{answer_of, event_of, handed_back}
 use Rattle.trio_ctl.specs.DeskLaws.{CallsKeep, CallsLeaveWhole, HoldsStand, LibrariesStay, OthersKeep, OthersSee}
-use Rattle.trio_open.specs.Open.{given_by, hold_of, lent_by, shown_of}
-use Rattle.trio_open.specs.inner.Modes.{is_back}
 use Rattle.trio_ctl.proofs.LeasesBack.{all_back_is, backs_kept, backs_leave, backs_told, left_out}
 use Rattle.trio_ctl.proofs.Granting.{kept_either}
 use Rattle.trio_ctl.proofs.DeskFresh.{fresh_lease, numbers_may, numbers_range, numbers_unlent, pages_core, pages_may, pages_new}

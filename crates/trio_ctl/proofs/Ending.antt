@@ -1,37 +1,8 @@
 -- The end of a release that is awaited, with its entry in the log.
-use Rattle.std.proofs.Common.{◌≡◌, ◌+◌, ◌++◌, ◌∷◌, [], ℕ, List, None, Option, ap, subst, sym, ◌∙◌}
-use Rattle.trio_rights.specs.Bundle.{Bundle}
-use Rattle.trio_rights.specs.Row.{Row}
-use Rattle.trio_rights.specs.declared.rights.LibNo.{LibNo}
-use Rattle.trio_lease.specs.Views.{bundle_in}
-use Rattle.trio_log.specs.Logged.{Logged}
-use Rattle.trio_nodes.specs.declared.answers.ReleaseAnswer.{ReleaseAnswer}
-use Rattle.trio_nodes.specs.declared.entry.Entry.{Entry}
+use Rattle.trio_ctl.proofs.Words.{◌++◌, ◌+◌, ◌∙◌, ◌∷◌, ◌≡◌, Acts, Answered, AreMarked, Bundle, Case, CaseShown, Controller, End, Entry, HasHistory, Image, IsAwaited, IsFull, IsJudgeable, IsOutcome, LibNo, List, Logged, None, Notes, Option, Registered, Release, ReleaseAnswer, Row, State, Step, TellsOutcome, Told, Underway, Verdict, [], acts_keep, ap, bundle_in, case_in, case_shown, entries_made, handed_in, noted_by, outline_of, subst, sym, underway_at, underway_of, verdict_of, verdict_on, whole_case, with_begun, with_bundle, with_copied, ℕ}
 use Rattle.trio_nodes.specs.declared.entry.Entry.TheVariants as entry
-use Rattle.trio_layout.specs.Case.{Case}
-use Rattle.trio_layout.specs.Copied.{with_copied}
-use Rattle.trio_layout.specs.Image.{Image}
-use Rattle.trio_case.specs.Cases.{CaseShown, case_in as case_shown}
-use Rattle.trio_judge.specs.declared.verdict.Verdict.{Verdict}
-use Rattle.trio_state.specs.Listed.{Notes}
-use Rattle.trio_state.specs.Moves.{Acts, Answered, End, IsAwaited, IsFull, Underway, outline_of, with_begun}
-use Rattle.trio_state.specs.State.{State}
-use Rattle.trio_state.specs.Step.{Release, Step}
-use Rattle.trio_state.specs.Tells.{case_in}
-use Rattle.trio_laws.specs.RuleLaws.{IsJudgeable}
-use Rattle.trio_laws.proofs.acts.Underways.{acts_keep}
-use Rattle.trio_entries.specs.Handed.{handed_in}
-use Rattle.trio_entries.specs.Telling.{whole_case}
-use Rattle.trio_entries.specs.declared.telling.Told.{Told}
-use Rattle.trio_ctl.specs.Answers.{verdict_of}
-use Rattle.trio_ctl.specs.Ctl.{Controller, Registered, underway_of}
-use Rattle.trio_ctl.specs.HandedIn.{AreMarked}
-use Rattle.trio_ctl.specs.Logged.{HasHistory, entries_made, with_bundle}
 use Rattle.trio_ctl.specs.Pending.{IsWeighed}
 use Rattle.trio_ctl.specs.declared.outcome.Outcome.{Outcome}
-use Rattle.trio_ctl.specs.inner.Beginning.{underway_at}
-use Rattle.trio_ctl.specs.inner.Outcomes.{IsOutcome, verdict_on}
-use Rattle.trio_ctl.specs.inner.Telling.{TellsOutcome, noted_by}
 use Rattle.trio_ctl.proofs.Ends.{ends, its_library, judged_now}
 use Rattle.trio_ctl.proofs.Recording.{promised_room}
 use Rattle.trio_ctl.proofs.RecordedReleases.{after_release, release_entries, whole_is}

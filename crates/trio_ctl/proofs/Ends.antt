@@ -1,34 +1,12 @@
 -- The two moves of a release, in the words of the acts.
-use Rattle.std.proofs.Common.{◌≡◌, ℕ, ◌+◌, ◌≤◌, true, List, length, Option, Some, None, inl, inr, refl, sym, ap, subst, ◌∙◌, arith}
-use Rattle.trio_rights.specs.Bundle.{Bundle}
-use Rattle.trio_nodes.specs.declared.answers.ReleaseAnswer.{ReleaseAnswer}
-use Rattle.trio_nodes.specs.declared.answers.ReleaseAnswer.TheVariants.{Accepted, Refused}
-use Rattle.trio_state.specs.Moves.{ActAnswer, Acts, Answered, Begin, GivenAct, End, HasBegun, IsAwaited, IsFull, KeptUnderway, Outline, Underway, begun_by, outline_of, with_begun, IsTaken, ComesBack, HasNoRoom}
-use Rattle.trio_state.specs.Step.{CtlAnswer, NoMemory, Release, ReleaseEnd, Step}
-use Rattle.trio_state.specs.Listed.{Notes}
-use Rattle.trio_state.specs.State.{IsLibrary, State, settled}
-use Rattle.trio_layout.specs.Image.{Image}
-use Rattle.trio_log.specs.Logged.{Logged}
-use Rattle.trio_laws.specs.history.Recorded.{IsRecorded}
-use Rattle.trio_laws.specs.history.ToldLaws.{notes_of}
-use Rattle.trio_laws.specs.session.Lent.{LentIsTrue, sizes_of}
-use Rattle.trio_ctl.specs.Logged.{AreMine, HasHistory, recorded}
-use Rattle.trio_nodes.specs.declared.answers.ReleaseFault.{ReleaseFault}
+use Rattle.trio_ctl.proofs.Words.{◌+◌, ◌∙◌, ◌≡◌, ◌≤◌, Accepted, Acts, Answered, AreMine, Begin, Bundle, Bundled, CaseShown, ComesBack, CtlAnswer, End, HasBegun, HasHistory, HasNoRoom, Image, In-map, IsAwaited, IsFull, IsJudgeable, IsRecorded, IsTaken, KeptUnderway, LentFile, LentIsTrue, List, Logged, NoMemory, None, Notes, Option, Outline, Refused, Release, ReleaseAnswer, ReleaseFault, Row, Some, State, Step, Underway, ap, arith, begun_by, bundle_in, case_shown, has_kind, inl, inr, length, list_all, list_all-each, notes_of, outline_of, recorded, refl, release_fault_answer, row_in, settled, sizes_of, subst, sym, true, verdict_of, with_begun, written_in, written_row, ℕ}
+use Rattle.trio_state.specs.Moves.{ActAnswer, GivenAct}
+use Rattle.trio_state.specs.Step.{ReleaseEnd}
+use Rattle.trio_state.specs.State.{IsLibrary}
 use Rattle.trio_laws.specs.ActLaws.{AtOnce, InARow}
 use Rattle.trio_laws.proofs.acts.TwoMoves.{release_is_two_moves}
 use Rattle.trio_laws.proofs.acts.Underways.{begun_here, begun_within}
-use Rattle.trio_laws.proofs.judgement.CaseFacts.{written_row}
-use Rattle.trio_laws.specs.RuleLaws.{IsJudgeable}
-use Rattle.std.specs.List.{list_all}
-use Rattle.trio_rights.specs.Row.{Row, row_in}
-use Rattle.trio_lists.proofs.Members.{In-map, list_all-each}
-use Rattle.trio_layout.specs.Allowed.{has_kind}
-use Rattle.trio_lease.specs.Bundles.{Bundled}
-use Rattle.trio_lease.specs.Shown.{LentFile}
-use Rattle.trio_lease.specs.Views.{bundle_in, written_in}
-use Rattle.trio_case.specs.Cases.{CaseShown, case_in as case_shown}
 use Rattle.trio_ctl.proofs.Cases.{same_self}
-use Rattle.trio_ctl.specs.Answers.{release_fault_answer, verdict_of}
 
 -- a verdict is no want of memory
 with_memory : (v : ReleaseAnswer) → verdict_of v ≡ NoMemory → ⊥

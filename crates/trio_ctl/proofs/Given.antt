@@ -1,33 +1,7 @@
 -- What was just granted may be handed in or given back. Cited by tests alone.
-use Rattle.std.proofs.Common.{◌≡◌, ℕ, List, [], ◌∷◌, ◌++◌, length, map, Option, Some, None, inl, inr, refl, sym, ap, subst, ◌∙◌}
+use Rattle.trio_ctl.proofs.Words.{◌++◌, ◌∙◌, ◌∷◌, ◌≡◌, Back, Bundle, Chain, Comes, Core, CtlAnswer, Denied, Done, GivenTo, Grant, GrantFault, GrantKind, Granted, HasGrant, In, In-cases, In-right, IsFit, IsSomeAnd, Kept, LentFile, List, Location, NoGrantMemory, NoMemory, NoParent, None, NotGranted, NotLive, OpenGrant, Option, Read, ReadLent, Row, Sheet, Shown, Some, State, Step, WasLent, WasLentAs, Write, WriteLent, Written, [], ap, block_sheets, bundle_sheets, flat_map, flat_map-In, grant_fault, granted_to, index_sheets, inl, inr, lease_of, length, lent_sheet, map, opened, refl, row_at, settled, settled_chain, sheet_numbers, sheets_in, sheets_of, sheets_untouched, shown_of, subst, sym, untouched, written_in, ℕ}
 use Rattle.std.specs.Prelude.{Result, Ok, Err}
-use Rattle.std.specs.List.{flat_map}
-use Rattle.std.specs.Option.{IsSomeAnd}
-use Rattle.trio_rights.specs.Row.{Row}
-use Rattle.trio_rights.specs.Bundle.{Bundle, Written, bundle_sheets}
-use Rattle.trio_rights.specs.Sheets.{Sheet, sheet_numbers}
-use Rattle.trio_nodes.specs.declared.grant.GrantKind.{GrantKind}
-use Rattle.trio_nodes.specs.declared.grant.GrantKind.TheVariants.{Read, Write}
-use Rattle.trio_nodes.specs.declared.answers.GrantFault.{GrantFault}
-use Rattle.trio_nodes.specs.declared.answers.GrantFault.TheVariants.{Busy as BusyGrant, Denied, NoMemory as NoGrantMemory, NoParent, NotLive}
-use Rattle.trio_lists.specs.Lists.{In}
-use Rattle.trio_lists.proofs.Members.{In-cases, In-right, flat_map-In}
-use Rattle.trio_lease.specs.Shown.{LentFile, Shown}
-use Rattle.trio_lease.specs.Views.{lent_sheet, written_in}
-use Rattle.trio_lease.specs.declared.lease.Lease.TheVariants.{Read as ReadLent, Write as WriteLent}
-use Rattle.trio_layout.specs.Chain.{Chain}
-use Rattle.trio_layout.specs.Core.{Core, Location}
-use Rattle.trio_layout.specs.Image.{IsFit, row_at}
-use Rattle.trio_layout.specs.Pages.{block_sheets, index_sheets, settled_chain, sheets_of}
-use Rattle.trio_surveys.proofs.Sheets.{sheets_in}
-use Rattle.trio_state.specs.Given.{GivenTo, HasGrant, WasLent}
-use Rattle.trio_state.specs.Grants.{grant_fault, opened}
-use Rattle.trio_state.specs.Kept.{Kept}
-use Rattle.trio_state.specs.State.{OpenGrant, State, settled}
-use Rattle.trio_state.specs.Step.{Back, Comes, CtlAnswer, Done, Grant, Granted, NoMemory, NotGranted, Step, granted_to}
-use Rattle.trio_ctl.specs.HandedIn.{WasLentAs}
-use Rattle.trio_open.specs.Open.{lease_of, shown_of, untouched}
-use Rattle.trio_open.proofs.LendLemmas.{sheets_untouched}
+use Rattle.trio_nodes.specs.declared.answers.GrantFault.TheVariants.{Busy as BusyGrant}
 
 -- a lease alone, as a bundle
 abbrev pub lease_alone : LentFile → Bundle

@@ -1,34 +1,13 @@
 -- The end of a read grant is the step that the definitions say.
-use Rattle.std.proofs.Common.{◌≡◌, ◌≢◌, ℕ, zero, suc, ◌+◌, ◌-◌, ◌<◌, ◌≤◌, ◌==◌, ◌&&◌, Bool, true, false, List, [], ◌∷◌, ◌++◌, length, map, take, drop, get_or, AllPairs, Option, Some, None, IsTrue, inl, inr, refl, sym, ap, subst, ◌∙◌, arith}
+use Rattle.trio_ctl.proofs.Words.{if◌then◌else◌, ◌&&◌, ◌++◌, ◌+◌, ◌-◌, ◌<◌, ◌==◌, ◌∙◌, ◌∷◌, ◌≡◌, ◌≢◌, ◌≤◌, Back, Bool, Checkpointed, Creds, Done, Entries, GrantKind, HasGrant, HasKey, In, In-cases, In-left, In-map, In-right, IsControlled, IsTrue, Keyed, List, None, OpenGrant, Opened, Option, Outline, Read, Some, State, Step, Store, Write, [], and_from, and_parts, ap, are_new, arith, begun_among, drop, eq-eqb, eqb-true, false, false≢true, filter, get_or, given_back, grants_in, inl, inr, is_read, is_read_of, keyed, keys, length, ltb-false, map, map-In, map-append, nat_lt, position, reads_among, refl, slice_index_or, state_of, step_kept, subst, suc, sym, take, take-append-drop, true, with_checkpoint, without, zero, ℕ}
+use Rattle.std.proofs.Common.{AllPairs}
 use Rattle.std.proofs.Math.Seq.{drop-cons}
-use Rattle.std.specs.Prelude.{if◌then◌else◌, nat_lt, not, slice_index_or}
-use Rattle.std.specs.List.{filter, position, position_or_len}
-use Rattle.std.proofs.lemmas.Bool.{and_from, and_parts, eq-eqb, eqb-true, false≢true, ltb-false}
-use Rattle.std.proofs.lemmas.List.{map-append, take-append-drop}
+use Rattle.std.specs.Prelude.{not}
+use Rattle.std.specs.List.{position_or_len}
 use Rattle.std.proofs.lemmas.List.Quantifiers.{position-Some}
 use Rattle.std.proofs.lemmas.List.Sums.{fails_before_first}
-use Rattle.trio_rights.specs.declared.rights.Creds.{Creds}
-use Rattle.trio_nodes.specs.GrantKinds.{is_read}
-use Rattle.trio_nodes.specs.declared.grant.GrantKind.{GrantKind}
-use Rattle.trio_nodes.specs.declared.grant.GrantKind.TheVariants.{Read, Write}
-use Rattle.trio_grants.specs.Grants.{Keyed, HasKey, without}
-use Rattle.trio_lists.specs.Lists.{In, are_new}
-use Rattle.trio_lists.proofs.Members.{In-cases, In-left, In-map, In-right, map-In}
-use Rattle.trio_checkpoint.specs.Covered.{Checkpointed}
-use Rattle.trio_state.specs.Given.{HasGrant}
-use Rattle.trio_state.specs.Grants.{given_back}
 use Rattle.trio_state.specs.Kept.{MayBothStand}
-use Rattle.trio_state.specs.State.{OpenGrant, State}
-use Rattle.trio_state.specs.Step.{Back, Done, Step}
-use Rattle.trio_laws.proofs.Runs.{step_kept}
-use Rattle.trio_commit.specs.declared.store.Store.{Store}
-use Rattle.trio_commit.specs.Store.{state_of, with_checkpoint}
-use Rattle.trio_state.specs.Moves.{Outline}
-use Rattle.trio_ctl.specs.Ctl.{IsControlled}
-use Rattle.trio_open.specs.Entries.{Entries, begun_among, reads_among}
-use Rattle.trio_open.specs.Open.{Opened, grants_in, keyed}
-use Rattle.trio_open.specs.inner.Reads.{is_read_of}
-use Rattle.trio_open.proofs.ClosingFacts.{found_one, keys, others, without_one}
+use Rattle.trio_open.proofs.ClosingFacts.{found_one, others, without_one}
 
 -- ---- lists of which one element passes
 

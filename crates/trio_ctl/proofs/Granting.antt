@@ -1,71 +1,25 @@
 -- A write grant of the controller is the step that the definitions say.
-use Rattle.std.proofs.Common.{◌≡◌, ◌≢◌, ℕ, zero, suc, ◌+◌, ◌-◌, ◌*◌, ◌<◌, Bool, true, false, not, ◌&&◌, ◌||◌, List, [], ◌∷◌, ◌++◌, length, map, get_or, Option, Some, None, is_some, slice_get, inl, inr, ◌⊎◌, refl, sym, ap, subst, ◌∙◌, arith}
-use Rattle.std.specs.Prelude.{◌==◌, OnErr, Ok, Err, Result, if◌then◌else◌, slice_set, IsTrue}
-use Rattle.std.specs.List.{find, filter, list_any}
-use Rattle.std.specs.Option.{IsSomeAnd, option_map, option_map_or, option_and_then}
-use Rattle.std.proofs.lemmas.Bool.{and_from, eq-eqb, eqb-true, false≢true}
-use Rattle.std.proofs.lemmas.List.{map-append, get_or-set_same, get_or-set_other, length-set}
+use Rattle.trio_ctl.proofs.Words.{if◌then◌else◌, ◌&&◌, ◌*◌, ◌++◌, ◌+◌, ◌-◌, ◌<◌, ◌||◌, ◌∙◌, ◌∷◌, ◌≡◌, ◌≢◌, ◌⊎◌, AllBelow, Bool, Busy, Chain, Checkpointed, Core, CoreRange, CoversLent, Creds, Denied, Entries, Grant, GrantFault, GrantKind, Granted, HaveKinds, Hold, Holder, HoldsAreTold, In, In-cases, In-find, In-flat, In-left, In-map, In-right, IsControlled, IsLendable, IsSomeAnd, IsStored, Kept, Keyed, LibNo, List, NoParent, None, NotGranted, NotLive, OnErr, OpenGrant, Opened, Option, Outcome, Outline, Read, Row, Sheet, Some, State, Step, Store, Superblock, TableGrant, Write, [], and_from, ap, are_new, arith, begun_among, block_sheets, body_by_row, body_in_slot, body_of, body_stands, chain_in, chain_of, checkpoint_at, checkpoint_settled, core_of, covered_at, covered_pages, covers_blocks, creds_of, denial, denied_or, eq-eqb, eqb-true, excludes_kind, excluding, false, false≢true, filter, find, find-In, first_with, get_or, get_or-set_other, get_or-set_same, grant_fault, grant_fault_answer, grant_on, grant_under, granted_to, grants_in, has_parent_grant, holder, holder_of, index_sheets, inl, inr, is_among, is_core, is_read, is_some, is_write, keyed, lease_of, lendable_is_home, length, length-set, length-without, lib_at, list_all-each, list_any, logged, logged_kept, map, map-In, map-append, not, opened, opens, option_and_then, option_map, option_map_or, page_at, page_count, page_from, page_of, reads_among, refl, result_then, result_then-Ok, row_at, row_in, settled, settled_body, settled_chain, sheet_numbers, sheets_all, sheets_of, slice_set, state_of, step_kept, subst, suc, superblock_at_home, superblock_fits, sym, there_or, true, with_checkpoint, with_core_pages, without_checkpoint, without_pages, write_is, zero, ℕ}
+use Rattle.std.proofs.Common.{slice_get}
+use Rattle.std.specs.Prelude.{◌==◌, Ok, Err, Result, IsTrue}
 use Rattle.std.proofs.lemmas.List.Elements.{All-cons}
-use Rattle.trio_rights.specs.Row.{Row, row_in}
 use Rattle.trio_rights.specs.May.{denier}
-use Rattle.trio_rights.specs.declared.rights.Creds.{Creds}
-use Rattle.trio_rights.specs.declared.rights.LibNo.{LibNo}
 use Rattle.trio_rights.specs.declared.rights.Need.TheVariants.{Read as ToRead, Write as ToWrite}
-use Rattle.trio_nodes.specs.declared.grant.GrantKind.{GrantKind}
-use Rattle.trio_nodes.specs.declared.grant.GrantKind.TheVariants.{Read, Write, Hold}
-use Rattle.trio_nodes.specs.declared.grant.Holder.{Holder}
-use Rattle.trio_nodes.specs.declared.answers.GrantFault.{GrantFault}
-use Rattle.trio_nodes.specs.declared.answers.GrantFault.TheVariants.{Busy, Denied, NoMemory, NoParent, NotLive}
-use Rattle.trio_grants.specs.declared.grant.Grant.{Grant as TableGrant}
-use Rattle.trio_grants.specs.Grants.{Keyed, AllBelow, excludes, first_with, grant_under, holder, is_grant}
-use Rattle.trio_layout.specs.declared.range.CoreRange.{CoreRange}
-use Rattle.trio_layout.specs.Body.{body_of}
-use Rattle.trio_layout.specs.Chain.{Chain, chain_of}
-use Rattle.trio_layout.specs.Core.{Core, nowhere, page_of}
-use Rattle.trio_lists.specs.Lists.{there_or, is_among, are_new, result_then, In}
-use Rattle.trio_layout.specs.Entries.{body_in_slot}
-use Rattle.trio_layout.specs.Range.{is_core}
+use Rattle.trio_nodes.specs.declared.answers.GrantFault.TheVariants.{NoMemory}
+use Rattle.trio_grants.specs.Grants.{excludes, is_grant}
+use Rattle.trio_layout.specs.Core.{nowhere}
 use Rattle.trio_lists.proofs.Marked.{are_new-push}
-use Rattle.trio_state.specs.Grants.{denied_or, excluding, grant_fault, has_parent_grant, holder_of, lent_pages, lent_sheets, opened, opens, told_children}
-use Rattle.trio_nodes.specs.GrantKinds.{excludes_kind, is_read, is_write, same_kind}
-use Rattle.trio_rights.specs.ByKind.{covers_blocks}
-use Rattle.trio_layout.specs.declared.superblock.Superblock.{Superblock}
-use Rattle.trio_layout.specs.Superblock.{page_count, superblock_fits}
-use Rattle.trio_layout.specs.Pages.{covered_of, index_sheets, block_sheets, settled_chain, sheets_of}
-use Rattle.trio_layout.specs.Image.{body_by_row, row_at, settled_body, with_core_pages}
-use Rattle.trio_state.specs.Kept.{Kept}
-use Rattle.trio_rights.specs.Sheets.{Sheet, sheet_numbers, without_pages}
-use Rattle.trio_state.specs.State.{OpenGrant, State, covered, creds_of, logged, settled}
-use Rattle.trio_state.specs.Step.{Grant, Granted, NotGranted, Outcome, Step, granted_to}
-use Rattle.trio_tables.specs.Out.{lib_at}
-use Rattle.trio_checkpoint.specs.Covered.{Checkpointed, chain_in, core_of, covered_pages}
-use Rattle.trio_commit.specs.declared.store.Store.{Store}
-use Rattle.trio_commit.specs.Store.{checkpoint_at, covered_at, state_of, with_checkpoint}
-use Rattle.trio_laws.proofs.Checkpoints.{checkpoint_settled}
-use Rattle.trio_laws.proofs.EndLaws.{body_stands, lendable_is_home}
+use Rattle.trio_state.specs.Grants.{lent_pages, lent_sheets, told_children}
+use Rattle.trio_nodes.specs.GrantKinds.{same_kind}
+use Rattle.trio_layout.specs.Pages.{covered_of}
+use Rattle.trio_state.specs.State.{covered}
 use Rattle.trio_laws.proofs.Standing.{lent_place}
-use Rattle.trio_laws.proofs.Grants.{logged_kept}
 use Rattle.trio_surveys.proofs.Local.{chain_follows}
-use Rattle.trio_lists.proofs.Members.{In-flat, In-left, In-right, In-cases, In-map, map-In, list_all-each, result_then-Ok}
-use Rattle.trio_laws.proofs.Runs.{step_kept}
-use Rattle.trio_laws.proofs.StateFacts.{write_is}
-use Rattle.trio_surveys.proofs.SheetLaws.{page_at}
-use Rattle.trio_surveys.proofs.Sheets.{length-without, page_from, sheets_all}
-use Rattle.trio_ctl.specs.Answers.{grant_fault_answer, Admits}
-use Rattle.trio_state.specs.Moves.{Outline}
-use Rattle.trio_ctl.specs.Ctl.{HaveKinds, HoldsAreTold, IsControlled}
-use Rattle.trio_open.specs.Entries.{Entries, begun_among, reads_among}
-use Rattle.trio_ctl.specs.inner.Denials.{denial}
-use Rattle.trio_open.specs.inner.Lending.{IsLendable}
+use Rattle.trio_ctl.specs.Answers.{Admits}
 use Rattle.trio_ctl.specs.inner.Lending.{StandsSomewhere, body_standing, page_on, page_standing}
-use Rattle.trio_laws.specs.OutLaws.{without_checkpoint}
-use Rattle.trio_open.specs.Open.{Opened, grant_on, grants_in, keyed, lease_of}
-use Rattle.trio_open.specs.Covers.{CoversLent}
-use Rattle.trio_ctl.specs.Stored.{IsStored, superblock_at_home}
 use Rattle.trio_ctl.proofs.Told.{parent_told, told_more}
 use Rattle.trio_open.proofs.LendLemmas.{same_chain, sheets_same}
 use Rattle.trio_ctl.proofs.StoredFacts.{Checkpoints, checkpoints_same}
-use Rattle.trio_lists.proofs.Filters.{In-find, find-In}
 
 -- ---- who excludes
 

@@ -1,42 +1,13 @@
 -- A bundle that was given to its library can be judged.
-use Rattle.std.proofs.Common.{◌≡◌, ℕ, ◌<◌, true, false, leb, ltb, List, [], ◌∷◌, ◌++◌, Option, Some, None, is_some, refl, sym, ap, subst, ◌∙◌, ◌⊎◌, inl, inr, arith}
-use Rattle.std.specs.Prelude.{Result, Ok, Err, slice_index}
-use Rattle.std.specs.List.{flat_map, list_all}
-use Rattle.std.proofs.lemmas.Bool.{and_from, false≢true, cases_eq, le-leb, lt-ltb, ne_eqb}
-use Rattle.std.proofs.lemmas.List.{map-append}
-use Rattle.trio_rights.specs.Row.{Row, is_child, row_in}
-use Rattle.trio_rights.specs.Kind.{same_kind}
-use Rattle.trio_rights.specs.declared.kind.Kind.TheVariants.{Regular, Directory}
-use Rattle.trio_rights.specs.Bundle.{Bundle, Written, bundle_pages}
-use Rattle.trio_rights.specs.Sheets.{Sheet, sheet_numbers}
-use Rattle.trio_lists.specs.Lists.{In, are_new}
-use Rattle.trio_lists.proofs.Filters.{some_one}
-use Rattle.trio_lists.proofs.Gathered.{each_new, gathered_new, new_beside}
-use Rattle.trio_lists.proofs.Marked.{are_new-append}
-use Rattle.trio_lists.proofs.Members.{flat_map-In, list_all-each}
-use Rattle.trio_tables.proofs.OutLemmas.{within_some}
-use Rattle.trio_layout.specs.Allowed.{has_kind}
-use Rattle.trio_layout.specs.Case.{Case, file_in}
-use Rattle.trio_layout.specs.Core.{Core, Location}
-use Rattle.trio_layout.specs.Image.{row_at}
-use Rattle.trio_layout.specs.JudgedFiles.{judged_files}
-use Rattle.trio_layout.specs.Listing.{ListedFile, file_listed, listing}
-use Rattle.trio_layout.specs.Range.{is_core}
-use Rattle.trio_layout.specs.Survey.{FileRead, Met, pages_of, plain, row_by, survey}
-use Rattle.trio_surveys.proofs.Cores.{listed_is_core}
-use Rattle.trio_surveys.proofs.Images.{free_is_low, free_unlisted}
-use Rattle.trio_surveys.proofs.Owned.{pages_are, sound_parts}
-use Rattle.trio_state.specs.Given.{GivenTo}
-use Rattle.trio_state.specs.Kept.{Kept}
-use Rattle.trio_state.specs.State.{State, settled}
-use Rattle.trio_state.specs.Tells.{case_in}
-use Rattle.trio_tables.specs.Out.{lib_at}
-use Rattle.trio_laws.specs.RuleLaws.{IsJudgeable}
-use Rattle.trio_laws.proofs.Bundles.{bundle_page, written_lent, written_same}
-use Rattle.trio_laws.proofs.Standing.{has_parent}
-use Rattle.trio_laws.proofs.StateFacts.{lent_file, tables}
-use Rattle.trio_laws.proofs.judgement.CaseFacts.{new_not_live, no_row_zero, root_row, row_of_met, written_row}
-use Rattle.trio_laws.proofs.judgement.JudgedFacts.{judged_from, new_from, written_ino, written_kind}
+use Rattle.trio_ctl.proofs.Words.{◌++◌, ◌<◌, ◌∙◌, ◌∷◌, ◌≡◌, ◌⊎◌, Bundle, Case, Core, Directory, FileRead, GivenTo, In, IsJudgeable, Kept, List, ListedFile, Location, Met, None, Option, Regular, Row, Sheet, Some, State, Written, [], and_from, ap, are_new, are_new-append, arith, bundle_pages, case_in, cases_eq, false, false≢true, file_listed, flat_map, flat_map-In, free_is_low, free_unlisted, has_kind, has_parent, inl, inr, is_core, is_some, judged_files, judged_from, le-leb, leb, lent_file, lib_at, list_all, list_all-each, listed_is_core, listing, lt-ltb, ltb, map-append, ne_eqb, new_beside, new_from, new_not_live, pages_are, pages_of, plain, refl, row_at, row_in, row_of_met, same_kind, settled, sheet_numbers, slice_index, some_one, sound_parts, subst, survey, sym, tables, true, within_some, written_ino, written_row, written_same, ℕ}
+use Rattle.std.specs.Prelude.{Result, Ok, Err}
+use Rattle.trio_rights.specs.Row.{is_child}
+use Rattle.trio_lists.proofs.Gathered.{each_new, gathered_new}
+use Rattle.trio_layout.specs.Case.{file_in}
+use Rattle.trio_layout.specs.Survey.{row_by}
+use Rattle.trio_laws.proofs.Bundles.{bundle_page, written_lent}
+use Rattle.trio_laws.proofs.judgement.CaseFacts.{no_row_zero, root_row}
+use Rattle.trio_laws.proofs.judgement.JudgedFacts.{written_kind}
 use Rattle.trio_case.specs.Cases.{HasDirectoryParents}
 use Rattle.trio_edges.specs.Leaves.{RegularFilesAreLeaves}
 

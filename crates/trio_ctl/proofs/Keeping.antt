@@ -1,22 +1,9 @@
 -- The memory that is kept for releases.
-use Rattle.std.proofs.Common.{◌≡◌, ◌≤◌, ◌<◌, ◌+◌, ◌^◌, ℕ, None, ap, length, refl, subst, sym, arith}
-use Rattle.std.specs.Prelude.{vec_len}
-use Rattle.std.proofs.Math.Nat.{min-le_left, min-le_right}
-use Rattle.trio_layout.specs.Image.{Image}
-use Rattle.trio_log.specs.Logged.{Logged}
-use Rattle.trio_nodes.specs.declared.answers.ReleaseFault.{ReleaseFault}
-use Rattle.trio_nodes.specs.declared.answers.ReleaseFault.TheVariants.{NotClosed as NotClosedBundle, NoMemory as NoReleaseMemory}
-use Rattle.trio_rights.specs.Bundle.{Bundle}
-use Rattle.trio_open.specs.Entries.{HasRoom}
-use Rattle.trio_state.specs.Bundles.{parted_hold}
-use Rattle.trio_state.specs.Moves.{Answered, Beginning, IsTaken, ComesBack, HasNoRoom, Underway}
-use Rattle.trio_state.specs.State.{State}
-use Rattle.trio_laws.specs.session.Lent.{sizes_of}
-use Rattle.trio_desk.specs.Contents.{Sizes}
-use Rattle.trio_ctl.specs.Answers.{release_fault_answer}
-use Rattle.trio_ctl.specs.Ctl.{Controller, Spare}
+use Rattle.trio_ctl.proofs.Words.{◌+◌, ◌<◌, ◌≡◌, ◌≤◌, Answered, Bundle, ComesBack, Controller, HasNoRoom, HasRoom, Image, IsTaken, Logged, NoReleaseMemory, None, NotClosedBundle, ReleaseFault, Sizes, Spare, State, Underway, ap, arith, length, min-le_left, min-le_right, parted_hold, refl, release_fault_answer, sizes_in, sizes_of, subst, sym, vec_len, ℕ}
+use Rattle.std.proofs.Common.{◌^◌}
+use Rattle.trio_state.specs.Moves.{Beginning}
 use Rattle.trio_ctl.specs.Kits.{AreSpare, HasSpare}
-use Rattle.trio_ctl.specs.Room.{HasRoomFor, room_for, sizes_in, spare_entries}
+use Rattle.trio_ctl.specs.Room.{HasRoomFor, room_for, spare_entries}
 use Rattle.trio_ctl.specs.declared.spares.Spares.{Spares}
 use Rattle.trio_ctl.proofs.Spending.{spare_at}
 

@@ -1,36 +1,9 @@
 -- What the give backs of read leases, one after another, leave and change.
-use Rattle.std.proofs.Common.{◌≡◌, ◌≤◌, ℕ, ◌+◌, ◌++◌, append_assoc, length-append, reverse, Bool, true, false, not, ◌==◌, ◌&&◌, ◌||◌, List, [], ◌∷◌, map, length, Option, Some, sym, refl, ap, ◌∙◌, subst, inl, inr, arith}
-use Rattle.std.specs.Prelude.{if◌then◌else◌}
-use Rattle.std.specs.List.{filter, find, list_any}
-use Rattle.std.proofs.lemmas.Bool.{cases_Bool, eq-eqb, eqb-false, eqb-true, false≢true, ne_eqb, not_from_false}
+use Rattle.trio_ctl.proofs.Words.{if◌then◌else◌, ◌&&◌, ◌++◌, ◌+◌, ◌==◌, ◌||◌, ◌∙◌, ◌∷◌, ◌≡◌, ◌≤◌, AreAsTold, AreBack, AreLent, Back, Bool, Done, Entry, HasGrant, In, In-filter, In-map, Kept, LibNo, List, Logged, OpenGrant, Option, OutAlike, Read, Registered, Shown, Some, State, Step, [], all_back, ap, append_assoc, are_new-first, arith, back_entries, cases_Bool, eq-eqb, eqb-false, eqb-true, false, false≢true, filter, find, given_back, hold_of, inl, inr, is_among, is_back, is_hold, is_read, is_write, length, length-append, list_any, map, ne_eqb, nodes_of, not, not_from_false, out_of, refl, reverse, shown_of, step_kept, subst, sym, true, without_reads, write_is, ℕ}
 use Rattle.std.proofs.lemmas.List.{reverse-append}
-use Rattle.trio_rights.specs.declared.rights.LibNo.{LibNo}
-use Rattle.trio_lists.specs.Lists.{In, is_among}
-use Rattle.trio_lists.proofs.Filters.{In-filter, filter-same}
-use Rattle.trio_lists.proofs.Members.{In-map}
-use Rattle.trio_lists.proofs.New.{are_new-first}
-use Rattle.trio_lease.specs.Shown.{Shown}
-use Rattle.trio_log.specs.Logged.{Logged}
-use Rattle.trio_nodes.specs.declared.entry.Entry.{Entry}
+use Rattle.trio_lists.proofs.Filters.{filter-same}
 use Rattle.trio_nodes.specs.declared.entry.Entry.TheVariants.{Back as Back_entry}
-use Rattle.trio_nodes.specs.GrantKinds.{is_hold, is_read, is_write}
-use Rattle.trio_nodes.specs.declared.grant.GrantKind.TheVariants.{Read}
-use Rattle.trio_desk.specs.Out.{OutAlike, without_reads}
-use Rattle.trio_desk.specs.Ready.{AreLent}
-use Rattle.trio_state.specs.Given.{HasGrant}
-use Rattle.trio_state.specs.Grants.{given_back}
-use Rattle.trio_state.specs.Kept.{Kept}
-use Rattle.trio_state.specs.State.{OpenGrant, State}
-use Rattle.trio_state.specs.Step.{Back, Done, Step}
-use Rattle.trio_laws.proofs.Runs.{step_kept}
-use Rattle.trio_laws.proofs.StateFacts.{write_is}
 use Rattle.trio_laws.proofs.history.BackStep.{back_nodes}
-use Rattle.trio_laws.specs.history.Stands.{nodes_of}
-use Rattle.trio_ctl.specs.Backs.{AreBack, all_back, back_entries}
-use Rattle.trio_ctl.specs.Ctl.{AreAsTold, Registered}
-use Rattle.trio_ctl.specs.Desk.{out_of}
-use Rattle.trio_open.specs.Open.{hold_of, shown_of}
-use Rattle.trio_open.specs.inner.Modes.{is_back}
 use Rattle.trio_ctl.proofs.DeskGiven.{read_by}
 use Rattle.trio_ctl.proofs.DeskOuts.{back_out, hold_is, seen-all, seen-left}
 use Rattle.trio_ctl.proofs.Told.{step_told}

@@ -52,3 +52,4 @@ pub mod Sends
 pub mod Serving
 pub mod Spending
 pub mod Keeping
+mod Words

@@ -1,33 +1,15 @@
 -- How often home is looked at for kept children: at most once a page of the bundle.
-use Rattle.std.proofs.Common.{◌≡◌, ℕ, suc, ◌+◌, ◌≤◌, ◌==◌, Bool, true, false, List, [], ◌∷◌, ◌++◌, length, map, Ok, Option, Some, None, refl, sym, ap, subst, ◌∙◌, inl, inr, arith, ◌≢◌}
-use Rattle.std.specs.Prelude.{if◌then◌else◌}
-use Rattle.std.specs.List.{filter_map, flat_map}
-use Rattle.std.specs.Option.{option_map, option_map_or}
-use Rattle.std.proofs.lemmas.Bool.{eq-eqb}
-use Rattle.std.proofs.lemmas.List.{append_assoc, append-nil, length-append, length-map, map-append}
+use Rattle.trio_ctl.proofs.Words.{if◌then◌else◌, ◌++◌, ◌+◌, ◌==◌, ◌∙◌, ◌∷◌, ◌≡◌, ◌≢◌, ◌≤◌, Bool, Case, Core, Directory, In, Kind, List, Listed, ListedEntry, Met, None, Ok, Option, Regular, Sheet, Some, [], ap, are_new, are_new-first, arith, at_page, body_in_slot, bundle_pages, bundle_sheets, child_of, children_in, entries_of_kind, entry_listed, eq-eqb, false, filter_map, flat_map, flat_map-In, gathered, gathers_directory, inl, inr, judged_files, kept_body, length, length-map, map, map-In, map-append, met_in, option_map, option_map_or, page_changes, page_entries, page_of, plain, reads, reads_from, refl, result_then-Ok, rules_are_accept, slot_bytes, slot_of, subst, suc, sym, there_or, true, ℕ}
+use Rattle.std.proofs.lemmas.List.{append_assoc, append-nil, length-append}
 use Rattle.std.proofs.lemmas.List.Elements.{filter_map-append}
-use Rattle.trio_rights.specs.declared.kind.Kind.{Kind}
-use Rattle.trio_rights.specs.declared.kind.Kind.TheVariants.{Regular, Directory}
-use Rattle.trio_rights.specs.Bundle.{bundle_pages, bundle_sheets}
-use Rattle.trio_rights.specs.Sheets.{Sheet}
-use Rattle.trio_lists.specs.Lists.{In, are_new, gathered, there_or}
-use Rattle.trio_lists.proofs.New.{are_new-first}
-use Rattle.trio_lists.proofs.Members.{both-Ok, flat_map-In, map-In, result_then-Ok}
-use Rattle.trio_layout.specs.Case.{Case}
-use Rattle.trio_layout.specs.Core.{Core, at_page, page_of}
-use Rattle.trio_layout.specs.Entries.{Listed, body_in_slot, entries_of_kind, entries_on, listed_at, page_entries, slot_bytes, slot_entries}
-use Rattle.trio_layout.specs.JudgedFiles.{entries_in, judged_files, judged_pages, pages_within}
-use Rattle.trio_layout.specs.Listing.{ListedEntry, entry_listed}
-use Rattle.trio_layout.specs.Slot.{slot_of}
-use Rattle.trio_layout.specs.Survey.{Met, children_in, met_in, pages_in, plain}
+use Rattle.trio_lists.proofs.Members.{both-Ok}
+use Rattle.trio_layout.specs.Entries.{entries_on, listed_at, slot_entries}
+use Rattle.trio_layout.specs.JudgedFiles.{entries_in, judged_pages, pages_within}
+use Rattle.trio_layout.specs.Survey.{pages_in}
 use Rattle.trio_layout.specs.declared.slot.SlotRead.{SlotRead}
 use Rattle.trio_layout.specs.declared.slot.SlotRead.TheVariants.{Bad, Empty, Entry}
-use Rattle.trio_surveys.proofs.Local.{reads_from}
-use Rattle.trio_surveys.proofs.Places.{below_from, gathers_directory}
-use Rattle.trio_laws.proofs.judgement.Equivalence.{rules_are_accept}
+use Rattle.trio_surveys.proofs.Places.{below_from}
 use Rattle.trio_laws.proofs.judgement.RuleParts.{rule_pages_once}
-use Rattle.trio_laws.proofs.judgement.Taking.{reads}
-use Rattle.trio_commit.specs.Bodies.{child_of, kept_body, page_changes}
 use Rattle.trio_ctl.proofs.StoredFacts.{Checkpoints}
 use Rattle.trio_ctl.proofs.Children.{filter_map-In}
 use Rattle.trio_ctl.proofs.AcceptedBundle.{AcceptedBundle, case_here, core_then, judgeable, now}

@@ -1,44 +1,14 @@
 -- A change of mode with its leases and its call: what happens, what is logged, and that all stays recorded.
-use Rattle.std.proofs.Common.{◌≡◌, ◌≤◌, ◌+◌, ℕ, Bool, true, false, not, ◌==◌, ◌||◌, List, [], ◌∷◌, ◌++◌, append_assoc, length, length-append, Option, Some, None, Ok, Err, inl, inr, refl, sym, ap, subst, ◌∙◌, arith}
-use Rattle.std.specs.Prelude.{if◌then◌else◌, nat_lt}
-use Rattle.std.specs.Option.{option_map}
-use Rattle.std.proofs.lemmas.List.{length-map}
-use Rattle.trio_rights.specs.Row.{Row}
-use Rattle.trio_rights.specs.declared.rights.LibNo.{LibNo}
-use Rattle.trio_lists.specs.Lists.{In}
-use Rattle.trio_layout.specs.Image.{Image, row_at}
-use Rattle.trio_lease.specs.Shown.{Shown}
-use Rattle.trio_log.specs.Logged.{Logged}
-use Rattle.trio_nodes.specs.declared.answers.ModeFault.{ModeFault}
+use Rattle.trio_ctl.proofs.Words.{if◌then◌else◌, ◌++◌, ◌+◌, ◌==◌, ◌||◌, ◌∙◌, ◌∷◌, ◌≡◌, ◌≤◌, AreLent, Ask, Bool, Call, CallStep, Controller, CtlAnswer, Entry, Err, Happens, HasHistory, Holder, Image, In, IsLentTo, IsLibrary, Kept, LentIsTrue, LibNo, List, Logged, LogsCall, ModeFault, ModeSet, Nodes, None, NotModeSet, Notes, Ok, OpenGrant, Option, Outcome, Outline, Row, SetMode, Shown, Some, State, Step, TellsChmod, [], after_mode_fault, after_mode_refusal, all_back, ap, append_assoc, arith, back_entries, begun_by, busy_holder, creds_of, desk_of, entries_made, false, holder_of, inl, inr, leases_stay_true, length, length-append, length-map, logged, mode_excluding, mode_fault, mode_fault_answer, moded_to, nat_lt, nodes_of, not, option_map, out_of, refl, row_at, rows_say, states_are_trees, subst, sym, true, ℕ}
 use Rattle.trio_nodes.specs.declared.answers.ModeFault.TheVariants as fault
-use Rattle.trio_nodes.specs.declared.call.Call.{Call}
-use Rattle.trio_nodes.specs.declared.entry.Entry.{Entry}
 use Rattle.trio_nodes.specs.declared.entry.Entry.TheVariants as entry
-use Rattle.trio_nodes.specs.declared.grant.Holder.{Holder}
-use Rattle.trio_nodes.specs.Nodes.{Nodes}
-use Rattle.trio_desk.specs.Call.{Ask, call_back, SetMode, ModeSet, NotModeSet}
-use Rattle.trio_desk.specs.Ready.{AreLent, ArePossible, TellsChmod}
-use Rattle.trio_state.specs.Grants.{holder_of}
-use Rattle.trio_state.specs.Kept.{Kept}
-use Rattle.trio_state.specs.Listed.{Notes}
-use Rattle.trio_state.specs.State.{OpenGrant, State, creds_of, logged}
-use Rattle.trio_state.specs.Step.{CtlAnswer, Outcome, Step, after_mode_fault, mode_excluding, mode_fault, moded_to}
+use Rattle.trio_desk.specs.Call.{call_back}
+use Rattle.trio_desk.specs.Ready.{ArePossible}
 use Rattle.trio_state.specs.Step as step
 use Rattle.trio_laws.specs.history.Recorded.{CallFits}
-use Rattle.trio_laws.specs.history.Replays.{IsLibrary}
-use Rattle.trio_laws.specs.history.Stands.{nodes_of}
-use Rattle.trio_laws.specs.session.Lent.{IsLentTo, LentIsTrue}
-use Rattle.trio_laws.proofs.history.StandsTree.{states_are_trees}
 use Rattle.trio_laws.proofs.session.Chmods.{call_fits}
-use Rattle.trio_laws.proofs.session.Lent.{leases_stay_true}
-use Rattle.trio_laws.proofs.session.Rows.{rows_say}
-use Rattle.trio_ctl.specs.Answers.{mode_fault_answer}
-use Rattle.trio_ctl.specs.Backs.{all_back, back_entries}
-use Rattle.trio_ctl.specs.Ctl.{Controller}
-use Rattle.trio_ctl.specs.Desk.{CallStep, Happens, LogsCall, after_mode_refusal, desk_of, entries_told, out_of}
-use Rattle.trio_ctl.specs.Logged.{HasHistory, entries_made, with_call}
-use Rattle.trio_open.specs.inner.Modes.{busy_holder}
-use Rattle.trio_state.specs.Moves.{Outline, begun_by}
+use Rattle.trio_ctl.specs.Desk.{entries_told}
+use Rattle.trio_ctl.specs.Logged.{with_call}
 use Rattle.trio_ctl.proofs.Underways.{idle_in, underway_in}
 use Rattle.trio_ctl.proofs.LeasesBack.{all_back_is, are_back, backs_kept, backs_nodes}
 use Rattle.trio_ctl.proofs.Moding.{plain_fault}

@@ -1,53 +1,16 @@
 -- A change of mode of the controller is the step that the definitions say.
-use Rattle.std.proofs.Common.{◌≡◌, ◌≢◌, ℕ, ◌+◌, ◌-◌, ◌*◌, ◌<◌, ◌≤◌, Bool, true, false, not, ◌||◌, List, [], ◌∷◌, length, map, get_or, Option, Some, None, is_some, slice_get, inl, inr, ◌⊎◌, refl, sym, ap, subst, ◌∙◌, arith}
-use Rattle.std.specs.Prelude.{◌==◌, if◌then◌else◌, nat_lt, slice_index_or, slice_set, IsTrue}
-use Rattle.std.specs.List.{find, filter}
-use Rattle.std.specs.Option.{option_map, option_map_or, option_and_then, IsSomeAnd}
-use Rattle.std.proofs.lemmas.Bool.{eq-eqb, ne_eqb}
-use Rattle.std.proofs.lemmas.List.{get_or-set_other, length-set}
-use Rattle.trio_rights.specs.Row.{Row}
-use Rattle.trio_rights.specs.declared.rights.Creds.{Creds}
-use Rattle.trio_rights.specs.declared.rights.LibNo.{LibNo}
-use Rattle.trio_nodes.specs.declared.answers.ModeFault.{ModeFault}
-use Rattle.trio_nodes.specs.declared.answers.ModeFault.TheVariants.{BadMode, Busy, NotOwner}
-use Rattle.trio_nodes.specs.declared.grant.Holder.{Holder}
-use Rattle.trio_grants.specs.Grants.{Keyed, grant_under, holder}
+use Rattle.trio_ctl.proofs.Words.{if◌then◌else◌, ◌*◌, ◌+◌, ◌-◌, ◌<◌, ◌||◌, ◌∙◌, ◌∷◌, ◌≡◌, ◌≢◌, ◌≤◌, ◌⊎◌, BadMode, Bool, Checkpointed, Creds, Entries, HaveKinds, Holder, In, In-map, IsControlled, IsSomeAnd, IsStored, Kept, Keyed, LibNo, List, ModeFault, None, NotOwner, OpenGrant, Opened, Option, Outcome, Outline, Row, Shown, Some, State, Step, Store, Superblock, [], all_back, ap, are_new, are_new-first, arith, body_by_row, body_in_slot, body_stands, checkpoint_at, creds_of, eq-eqb, false, filter, find, find-In, get_or, get_or-set_other, grant_under, grants_in, holder, holder_of, image_with_mode, inl, inr, is_back, is_core, is_some, keyed, length, length-set, live_met, logged, map, met_numbered, mode_excluding, mode_fault, moded_to, nat_lt, ne_eqb, not, option_and_then, option_map, option_map_or, page_at, page_count, plain, refl, row_at, row_with_mode, settled, settled_body, slice_index_or, slice_set, state_of, stays_around, step_kept, subst, superblock_at_home, superblock_fits, sym, true, with_body_in, with_checkpoint, with_mode_in, ℕ}
+use Rattle.std.proofs.Common.{slice_get}
+use Rattle.std.specs.Prelude.{◌==◌, IsTrue}
+use Rattle.trio_nodes.specs.declared.answers.ModeFault.TheVariants.{Busy}
 use Rattle.trio_grants.specs.declared.grant.Grant.{Grant}
-use Rattle.trio_lists.specs.Lists.{In, are_new}
-use Rattle.trio_lists.proofs.Filters.{find-In}
-use Rattle.trio_lists.proofs.Members.{In-map}
-use Rattle.trio_lists.proofs.New.{are_new-first}
-use Rattle.trio_lease.specs.Shown.{Shown}
-use Rattle.trio_layout.specs.Accept.{with_body_at, with_body_in}
-use Rattle.trio_layout.specs.Entries.{body_in_slot}
-use Rattle.trio_layout.specs.Image.{body_by_row, row_at, settled_body}
-use Rattle.trio_layout.specs.Mode.{body_put, body_with_mode, image_with_mode, row_with_mode}
-use Rattle.trio_layout.specs.Range.{is_core}
-use Rattle.trio_layout.specs.Superblock.{page_count, superblock_fits}
-use Rattle.trio_layout.specs.Survey.{plain}
-use Rattle.trio_layout.specs.declared.superblock.Superblock.{Superblock}
-use Rattle.trio_checkpoint.specs.Covered.{Checkpointed}
-use Rattle.trio_surveys.proofs.Images.{met_numbered}
-use Rattle.trio_surveys.proofs.SheetLaws.{page_at}
-use Rattle.trio_state.specs.Grants.{holder_of}
-use Rattle.trio_state.specs.Kept.{Kept}
-use Rattle.trio_state.specs.State.{OpenGrant, State, creds_of, logged, settled}
-use Rattle.trio_state.specs.Step.{ModeSet, Outcome, SetMode, Step, mode_excluding, mode_fault, moded_to}
-use Rattle.trio_laws.proofs.EndLaws.{body_stands}
+use Rattle.trio_layout.specs.Accept.{with_body_at}
+use Rattle.trio_layout.specs.Mode.{body_put, body_with_mode}
+use Rattle.trio_state.specs.Step.{ModeSet, SetMode}
 use Rattle.trio_laws.proofs.Modes.{MayChange, may_change}
-use Rattle.trio_laws.proofs.Runs.{step_kept}
-use Rattle.trio_laws.proofs.StateFacts.{live_met}
-use Rattle.trio_commit.specs.declared.store.Store.{Store}
-use Rattle.trio_commit.specs.Store.{checkpoint_at, state_of, with_checkpoint}
-use Rattle.trio_ctl.specs.Backs.{all_back}
-use Rattle.trio_state.specs.Moves.{Outline}
-use Rattle.trio_ctl.specs.Ctl.{HaveKinds, IsControlled}
-use Rattle.trio_open.specs.Entries.{Entries}
-use Rattle.trio_open.specs.Open.{Opened, grants_in, keyed}
-use Rattle.trio_ctl.specs.Stored.{IsStored, superblock_at_home}
 use Rattle.trio_ctl.proofs.LeasesBack.{all_back_is, find-fused}
 use Rattle.trio_ctl.proofs.Told.{step_told, told_kept, told_open}
-use Rattle.trio_open.specs.inner.Modes.{is_around, is_back, mode_denial, stays_around, with_mode_at, with_mode_in, with_row_mode}
+use Rattle.trio_open.specs.inner.Modes.{is_around, mode_denial, with_mode_at, with_row_mode}
 
 -- ---- the first grant around a file that stays
 

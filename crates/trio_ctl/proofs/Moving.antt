@@ -1,10 +1,7 @@
 -- Pages that were moved to their places in a list are the ones that store an image.
-use Rattle.std.proofs.Common.{◌≡◌, ℕ, ◌+◌, ◌-◌, ◌<◌, ◌≤◌, List, ◌++◌, length, get_or, Option, None, Some, inl, inr, refl, sym, ap, ◌∙◌, arith, length-append}
-use Rattle.std.proofs.lemmas.Bool.{cases_lt, lt-ltb, le-ltb}
+use Rattle.trio_ctl.proofs.Words.{◌++◌, ◌+◌, ◌-◌, ◌<◌, ◌∙◌, ◌≡◌, ◌≤◌, List, None, Option, Some, ap, arith, cases_lt, fillings_from, get_or, inl, inr, le-ltb, length, length-append, lt-ltb, or_zero, page_or, pages_from, refl, sym, tabulated-get, tabulated-length, ℕ}
 use Rattle.std.proofs.lemmas.List.{ext_get_or, get_or_append_left, get_or-append_right}
-use Rattle.trio_lists.proofs.Tabulated.{tabulated-length, tabulated-get}
-use Rattle.trio_ctl.specs.Ctl.{or_zero}
-use Rattle.trio_ctl.specs.inner.Pages.{filling, fillings_from, page_or, pages_from, AreMoved}
+use Rattle.trio_ctl.specs.inner.Pages.{filling, AreMoved}
 
 -- what stands in a place in the end is the page, or zeros
 filled : (o : Option (List ℕ)) → page_or o (filling o) ≡ or_zero o

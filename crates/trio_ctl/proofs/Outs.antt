@@ -1,9 +1,6 @@
 -- What is out by allotment, in the words of the steps and in those of the table.
-use Rattle.std.proofs.Common.{◌≡◌, ℕ, List, [], ◌∷◌, map, Option, None, refl, ap, set}
-use Rattle.trio_rights.specs.declared.rights.LibNo.{LibNo}
-use Rattle.trio_rights.specs.Sheets.{without_pages}
-use Rattle.trio_tables.specs.Out.{with_all}
-use Rattle.trio_allot.specs.Out.{fresh_page, page_numbers}
+use Rattle.trio_ctl.proofs.Words.{◌∷◌, ◌≡◌, LibNo, List, None, Option, [], ap, fresh_page, map, refl, set, with_all, without_pages, ℕ}
+use Rattle.trio_allot.specs.Out.{page_numbers}
 
 pub without_is : (ns : List ℕ) (pages : List (Option (List ℕ))) → without_pages ns pages ≡ with_all None ns pages
 without_is [] pages = refl

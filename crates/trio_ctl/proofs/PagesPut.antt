@@ -1,52 +1,26 @@
 -- The pages of an accepted bundle put in place: home and the checkpoints that stay make up the next image's.
-use Rattle.std.proofs.Common.{◌≡◌, ℕ, ◌<◌, ◌==◌, Bool, true, false, not, List, [], ◌++◌, length, map, Ok, Option, Some, None, refl, sym, ap, subst, ◌∙◌, inl, inr, ◌⊎◌, arith}
-use Rattle.std.specs.Prelude.{if◌then◌else◌}
-use Rattle.std.specs.List.{filter, find}
-use Rattle.std.specs.Option.{option_and_then, option_map, option_map_or}
-use Rattle.std.proofs.lemmas.Bool.{cases_Bool, eq-eqb, eqb-true, ne_eqb}
-use Rattle.trio_rights.specs.Row.{Row, row_in}
-use Rattle.trio_rights.specs.Bundle.{Written, bundle_pages}
-use Rattle.trio_rights.specs.Sheets.{Sheet, sheet_numbers}
-use Rattle.trio_nodes.specs.declared.grant.GrantKind.TheVariants.{Write}
-use Rattle.trio_lists.specs.Lists.{In, is_among}
-use Rattle.trio_lists.proofs.Filters.{filter-In, find-In, In-filter, In-find}
+use Rattle.trio_ctl.proofs.Words.{if◌then◌else◌, ◌++◌, ◌<◌, ◌==◌, ◌∙◌, ◌≡◌, ◌⊎◌, Bool, Checkpointed, Core, FileRead, In, In-cases, In-filter, In-find, In-flat, In-left, In-right, List, Listed, ListedEntry, Met, None, Ok, OpenGrant, Option, Pick, Row, Sheet, Some, Write, Written, [], all_listed, among_cases, ap, arith, body_by_row, body_in_slot, bundle_pages, cases_Bool, checkpoint_at, checkpoint_settled, child_from, child_of, children, covered_at, covered_pages, entry_listed, entry_met, eq-eqb, eqb-true, false, filter, filter-In, find, find-In, flat_map-In, has_parent, inl, inr, is_among, is_among-In, judged_files, judged_met, kept_body, kept_children, length, listed_from, listed_no_root, listed_placed, live_met, map, map-In, met_numbered, ne_eqb, next, not, option_and_then, option_map, option_map_or, owner_listed, page_of, pages_are, pages_of, placed_files, plain, put_on, reads, refl, root_or_listed, row_at, row_in, settled, settled_body, sheet_numbers, slot_bytes, slot_of, subst, survey, sym, tables, true, with_bodies, with_checkpoint, with_children, written_at, written_find, written_ino, written_judged, written_met, ℕ}
 use Rattle.trio_lists.proofs.Gathered.{one_keyed}
-use Rattle.trio_lists.proofs.Members.{flat_map-In, In-cases, In-flat, In-left, In-right, is_among-In, map-In, option_and_then-Some}
-use Rattle.trio_layout.specs.Accept.{next, with_bodies}
-use Rattle.trio_layout.specs.Core.{Core, page_of}
-use Rattle.trio_layout.specs.Entries.{Listed, body_in_slot, slot_bytes}
+use Rattle.trio_lists.proofs.Members.{option_and_then-Some}
 use Rattle.trio_layout.specs.declared.slot.EntryPart.{EntryPart}
 use Rattle.trio_layout.specs.declared.slot.SlotRead.TheVariants.{Entry}
-use Rattle.trio_layout.specs.Slot.{slot_of}
-use Rattle.trio_layout.specs.Image.{body_at_place, body_by_row, row_at, settled_body}
-use Rattle.trio_layout.specs.JudgedFiles.{judged_files, written_at, written_met}
-use Rattle.trio_layout.specs.Listing.{ListedEntry, entry_listed, is_kept}
+use Rattle.trio_layout.specs.Image.{body_at_place}
+use Rattle.trio_layout.specs.Listing.{is_kept}
 use Rattle.trio_layout.specs.Proposed.{is_place_of, kept_body as body_then}
-use Rattle.trio_layout.specs.Survey.{FileRead, Met, Pick, children, pages_of, plain, survey}
 use Rattle.trio_surveys.proofs.AnyOrder.{bodies_in_any_order}
-use Rattle.trio_surveys.proofs.Images.{met_numbered, owner_listed, root_or_listed}
 use Rattle.trio_surveys.proofs.OwnFiles.{place_from, place_parts}
-use Rattle.trio_surveys.proofs.Owned.{pages_are}
-use Rattle.trio_surveys.proofs.Picked.{all_listed, listed_no_root, listed_placed}
-use Rattle.trio_surveys.proofs.Putting.{ArePlaced, put_on, put_on-body}
+use Rattle.trio_surveys.proofs.Putting.{ArePlaced, put_on-body}
 use Rattle.trio_surveys.proofs.RowsLaw.{met_same}
-use Rattle.trio_surveys.proofs.Sheets.{among_cases}
-use Rattle.trio_surveys.proofs.Tree.{child_from, child_placed, picked_met}
-use Rattle.trio_checkpoint.specs.Covered.{Checkpointed, body_on, covered_pages}
-use Rattle.trio_state.specs.State.{OpenGrant, settled}
+use Rattle.trio_surveys.proofs.Tree.{child_placed, picked_met}
+use Rattle.trio_checkpoint.specs.Covered.{body_on}
 use Rattle.trio_laws.proofs.Bundles.{page_kept, page_owned}
-use Rattle.trio_laws.proofs.Checkpoints.{checkpoint_settled}
-use Rattle.trio_laws.proofs.Standing.{has_parent}
-use Rattle.trio_laws.proofs.StateFacts.{live_met, tables}
-use Rattle.trio_laws.proofs.judgement.CaseFacts.{kept_settled, unwritten_cases, written_find}
-use Rattle.trio_laws.proofs.judgement.JudgedFacts.{entry_to, written_ino, written_judged}
-use Rattle.trio_laws.proofs.judgement.ListingFacts.{listed_from, listed_to}
-use Rattle.trio_laws.proofs.judgement.Meeting.{entry_met, itself}
+use Rattle.trio_laws.proofs.judgement.CaseFacts.{kept_settled, unwritten_cases}
+use Rattle.trio_laws.proofs.judgement.JudgedFacts.{entry_to}
+use Rattle.trio_laws.proofs.judgement.ListingFacts.{listed_to}
+use Rattle.trio_laws.proofs.judgement.Meeting.{itself}
 use Rattle.trio_laws.proofs.judgement.MeetingEdges.{same_file}
 use Rattle.trio_laws.proofs.judgement.Sides.{inside_child}
-use Rattle.trio_laws.proofs.judgement.Taking.{body_kept, judged_met, reads}
-use Rattle.trio_commit.specs.Bodies.{child_of, kept_body, kept_children, placed_files, with_children}
-use Rattle.trio_commit.specs.Store.{checkpoint_at, covered_at, with_checkpoint}
+use Rattle.trio_laws.proofs.judgement.Taking.{body_kept}
 use Rattle.trio_ctl.proofs.StoredFacts.{Checkpoints, covered_here, open_grant}
 use Rattle.trio_ctl.proofs.Children.{children_at, filter_map-In, In-filter_map, listed_by, own_numbers, with_own, with_own_blocks}
 use Rattle.trio_ctl.proofs.AcceptedBundle.{AcceptedBundle, PlacedFile, case_here, core_now, core_then, cs, files_then, fit_then, judgeable, list_here, now, page_covered, pick_then, placed_from, placed_met, placed_to, sound_then}

@@ -1,15 +1,6 @@
 -- The lowest hold that is parted, by the open grants and in the state of the controller.
-use Rattle.std.proofs.Common.{◌≡◌, ℕ, Bool, true, false, List, [], ◌∷◌, map, refl, ap}
-use Rattle.std.specs.Prelude.{if◌then◌else◌}
-use Rattle.std.specs.List.{filter}
-use Rattle.trio_rights.specs.Bundle.{Bundle}
-use Rattle.trio_state.specs.Bundles.{is_parted, lowest, parted_hold}
-use Rattle.trio_state.specs.State.{OpenGrant, State}
-use Rattle.trio_commit.specs.declared.store.Store.{Store}
-use Rattle.trio_commit.specs.Store.{state_of, with_checkpoint}
-use Rattle.trio_rights.specs.declared.rights.Creds.{Creds}
-use Rattle.trio_open.specs.Open.{Opened, grants_in}
-use Rattle.trio_open.specs.inner.Parting.{is_parted_by, lowest_parted}
+use Rattle.trio_ctl.proofs.Words.{if◌then◌else◌, ◌∷◌, ◌≡◌, Bool, Bundle, Creds, List, OpenGrant, Opened, State, Store, [], ap, false, filter, grants_in, is_parted, lowest, lowest_parted, map, parted_hold, refl, state_of, true, with_checkpoint, ℕ}
+use Rattle.trio_open.specs.inner.Parting.{is_parted_by}
 
 module _ (s : Store) (first : ℕ) (files : List Opened) (creds : List Creds) (entries lib : ℕ) (b : Bundle) where
   abbrev st : State

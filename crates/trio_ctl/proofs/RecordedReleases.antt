@@ -1,73 +1,24 @@
 -- The entry of a release is what its bundle, its listing and the notes tell.
-use Rattle.std.proofs.Common.{◌≡◌, ◌⊎◌, ◌+◌, ◌≤◌, ℕ, true, List, [], ◌∷◌, ◌++◌, length, map, Option, None, Some, is_some, IsTrue, inl, inr, refl, sym, ap, subst, ◌∙◌, arith}
-use Rattle.std.specs.Prelude.{slice_index_or}
-use Rattle.std.proofs.lemmas.Bool.{false≢true}
-use Rattle.trio_lists.specs.Lists.{In}
-use Rattle.trio_lists.proofs.Members.{In-map, map-In}
-use Rattle.trio_layout.specs.Accept.{is_accepted, next}
-use Rattle.trio_layout.specs.Case.{Case}
-use Rattle.trio_layout.specs.Copied.{with_copied}
-use Rattle.trio_layout.specs.Image.{Image}
-use Rattle.trio_log.specs.Logged.{Logged}
-use Rattle.trio_case.specs.Cases.{CaseShown, case_in as case_shown}
-use Rattle.trio_rights.specs.Row.{Row, row_in}
-use Rattle.trio_entries.specs.Telling.{AreNoted, whole_case}
-use Rattle.trio_layout.specs.Listing.{listing}
-use Rattle.trio_layout.specs.Rules.{meets_rules}
-use Rattle.trio_lease.specs.Bundles.{Bundled}
-use Rattle.trio_lease.specs.Shown.{KeepsUntouched, LentFile, Shown}
-use Rattle.trio_lease.specs.Views.{bundle_in, fresh_sheet, lent_sheet, written_in}
-use Rattle.trio_lease.specs.declared.parts.FreshParts.{FreshParts}
-use Rattle.trio_lease.specs.declared.parts.LentPage.{LentPage}
-use Rattle.trio_rights.specs.Bundle.{Bundle, Written}
-use Rattle.trio_rights.specs.Sheets.{Sheet}
-use Rattle.trio_rights.specs.declared.rights.LibNo.{LibNo}
+use Rattle.trio_ctl.proofs.Words.{◌++◌, ◌+◌, ◌∙◌, ◌∷◌, ◌≡◌, ◌≤◌, ◌⊎◌, Accepted, AreMarked, Bundle, Bundled, Case, CaseShown, Entry, FreshParts, GivenTo, Handed, HandedFile, HandedPage, HasHistory, Image, In, In-map, IsAccepted, IsJudgeable, IsLibrary, IsOutcome, IsRefused, IsTrue, KeepsUntouched, Kept, KeptUnderway, LentFile, LentPage, LibNo, List, Logged, NoMemory, None, Notes, OpenGrant, Option, Outline, Parted, Refused, Release, ReleaseAnswer, Row, Sheet, Shown, Some, State, Step, TellsOutcome, Told, WasLentAs, WereLent, Why, Written, [], ap, arith, block_in, bundle_in, case_in, case_shown, creds_of, entries_made, false≢true, file_in, fresh_in, fresh_sheet, handed_in, index_in, inl, inr, is_accepted, is_some, length, lent_sheet, listing, map, map-In, meets_rules, next, noted_by, notes_of, option_map, plain, refl, refused_image, row_in, row_of, rules_are_accept, settled, slice_index_or, step_keeps_lent, step_keeps_root, subst, survey, sym, tabulated-length, true, untouched, verdict_of, verdict_on, whole_case, with_bundle, with_copied, write_alone, written_in, ℕ}
+use Rattle.trio_entries.specs.Telling.{AreNoted}
 use Rattle.trio_case.specs.Listed.{Listed}
-use Rattle.trio_nodes.specs.declared.answers.ReleaseAnswer.{ReleaseAnswer}
-use Rattle.trio_nodes.specs.declared.answers.ReleaseAnswer.TheVariants.{Accepted, Refused}
-use Rattle.trio_nodes.specs.declared.entry.Entry.{Entry}
 use Rattle.trio_nodes.specs.declared.entry.Entry.TheVariants as entry
-use Rattle.trio_nodes.specs.Handed.{Handed}
-use Rattle.trio_nodes.specs.Handed.{HandedFile}
-use Rattle.trio_nodes.specs.declared.entry.HandedPage.{HandedPage}
 use Rattle.trio_nodes.specs.declared.entry.RawFile.{RawFile}
-use Rattle.trio_entries.specs.Handed.{block_in, file_in, fresh_in, handed_in, index_in}
-use Rattle.trio_state.specs.Bundles.{refused_image}
-use Rattle.trio_state.specs.Given.{GivenTo}
-use Rattle.trio_state.specs.Kept.{Kept}
-use Rattle.trio_state.specs.Listed.{Notes, accepted_blocks, accepted_files, notes_after, refused_blocks, refused_files}
-use Rattle.trio_state.specs.State.{OpenGrant, State, creds_of, settled}
-use Rattle.trio_state.specs.Step.{IsAccepted, IsRefused, NoMemory, NotClosed, Parted, Release, Step, Accepted as StepAccepted, Refused as StepRefused}
-use Rattle.trio_state.specs.Tells.{Why, case_in}
-use Rattle.trio_laws.specs.RuleLaws.{IsJudgeable}
+use Rattle.trio_state.specs.Listed.{accepted_blocks, accepted_files, notes_after, refused_blocks, refused_files}
+use Rattle.trio_state.specs.Step.{NotClosed, Accepted as StepAccepted, Refused as StepRefused}
 use Rattle.trio_laws.specs.history.Entries.{bundle_handed, raw_entry, raw_files, sheet_handed, written_handed}
 use Rattle.trio_laws.specs.history.Recorded.{HandedFits, IsMarked}
-use Rattle.trio_laws.specs.history.Replays.{IsLibrary}
 use Rattle.trio_laws.proofs.history.NotesFacts.{noted_at}
-use Rattle.trio_laws.specs.history.ToldLaws.{note_of, notes_of}
-use Rattle.std.specs.Option.{option_map}
-use Rattle.trio_lists.proofs.Tabulated.{tabulated-length}
-use Rattle.trio_layout.specs.Survey.{plain, row_of, survey}
-use Rattle.trio_state.specs.Moves.{KeptUnderway, Outline}
+use Rattle.trio_laws.specs.history.ToldLaws.{note_of}
 use Rattle.trio_ctl.proofs.Underways.{underway_in}
 use Rattle.trio_ctl.proofs.Granting.{row_below}
-use Rattle.trio_laws.proofs.StateFacts.{write_alone}
 use Rattle.trio_laws.proofs.history.NotesAccepted.{release_notes}
 use Rattle.trio_laws.proofs.history.NotesSteps.{refused_notes}
 use Rattle.trio_laws.proofs.history.AcceptedBlocks.{accepted_is_listed}
 use Rattle.trio_laws.proofs.history.RefusedTold.{refused_is_listed}
-use Rattle.trio_laws.proofs.judgement.Equivalence.{rules_are_accept}
-use Rattle.trio_laws.proofs.session.Lent.{step_keeps_lent, step_keeps_root}
-use Rattle.trio_ctl.specs.Answers.{verdict_of}
-use Rattle.trio_ctl.specs.HandedIn.{AreMarked, WasLentAs, WereLent}
 use Rattle.trio_ctl.specs.DeskLaws.{LentIsMarked}
-use Rattle.trio_ctl.specs.Logged.{HasHistory, entries_made, with_bundle}
-use Rattle.trio_open.specs.Open.{untouched}
 use Rattle.trio_ctl.specs.declared.outcome.Outcome.{Outcome}
 use Rattle.trio_ctl.specs.declared.outcome.Outcome.TheVariants.{Accepted as OutAccepted, Refused as OutRefused}
-use Rattle.trio_entries.specs.declared.telling.Told.{Told}
-use Rattle.trio_ctl.specs.inner.Outcomes.{IsOutcome, verdict_on}
-use Rattle.trio_ctl.specs.inner.Telling.{TellsOutcome, noted_by}
 use Rattle.trio_ctl.proofs.Recording.{grown, still_mine}
 
 -- ---- a bundle as it was handed in is the bundle

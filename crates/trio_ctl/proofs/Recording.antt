@@ -1,58 +1,23 @@
 -- Each call of the controller leaves all recorded, its entry too.
-use Rattle.std.proofs.Common.{◌≡◌, ◌⊎◌, ◌+◌, ◌≤◌, ◌<◌, ◌==◌, ℕ, Bool, true, false, List, [], ◌∷◌, ◌++◌, append_assoc, append-nil, length, length-append, Option, Some, None, Result, Ok, Err, inl, inr, refl, sym, ap, subst, ◌∙◌, arith}
-use Rattle.std.specs.List.{filter}
-use Rattle.std.specs.Prelude.{OnErr, replicate}
-use Rattle.std.proofs.lemmas.Bool.{eq-eqb, eqb-true, eqb-false}
-use Rattle.trio_lists.specs.Lists.{In}
-use Rattle.trio_lists.proofs.Filters.{In-filter}
-use Rattle.trio_lists.proofs.Members.{In-map}
-use Rattle.trio_layout.proofs.Superblocks.{superblock_facts}
-use Rattle.trio_layout.specs.declared.superblock.Superblock.{Superblock}
-use Rattle.trio_rights.specs.declared.rights.Creds.{Creds}
-use Rattle.trio_survey.specs.Stored.{image_in}
-use Rattle.trio_image.specs.Image.{IsVerified}
+use Rattle.trio_ctl.proofs.Words.{◌++◌, ◌+◌, ◌<◌, ◌==◌, ◌∙◌, ◌∷◌, ◌≡◌, ◌≤◌, ◌⊎◌, Allot, AllotFault, Allotted, AreBack, AreMine, Back, Bool, Creds, CtlAnswer, Done, Entry, Err, Event, GivenEvent, Grant, GrantFault, GrantKind, HasGrant, HasHistory, HasOut, Image, In, In-filter, In-map, IsLibrary, IsRecorded, IsVerified, Kept, Lease, LibNo, List, Logged, None, Notes, Ok, OnErr, OpenGrant, Option, Outline, Result, Shown, Some, State, Step, Superblock, [], all_back, allot_answer, alone, ap, append-nil, append_assoc, arith, back_entries, begun_by, entries_made, eq-eqb, eqb-false, eqb-true, false, filter, given_back, grant_answer, image_in, inl, inr, length, length-append, library_of, others_keep_out, recorded, refl, replicate, start, step_creds, step_keeps_lent, step_keeps_root, subst, superblock_facts, sym, true, without_checkpoint, ℕ}
 use Rattle.trio_state.specs.ImageNodes.{notes_by_rows}
-use Rattle.trio_state.specs.Run.{IsWhole, start}
-use Rattle.trio_lease.specs.Shown.{Shown}
-use Rattle.trio_lease.specs.declared.fresh.Allotted.{Allotted}
-use Rattle.trio_lease.specs.declared.lease.Lease.{Lease}
-use Rattle.trio_layout.specs.Image.{Image}
-use Rattle.trio_log.specs.Logged.{Logged}
-use Rattle.trio_nodes.specs.declared.answers.AllotFault.{AllotFault}
+use Rattle.trio_state.specs.Run.{IsWhole}
 use Rattle.trio_nodes.specs.declared.answers.AllotFault.TheVariants as unallotted
-use Rattle.trio_nodes.specs.declared.answers.GrantFault.{GrantFault}
 use Rattle.trio_nodes.specs.declared.answers.GrantFault.TheVariants as ungranted
 use Rattle.trio_nodes.specs.declared.entry.AllotAnswer.{AllotAnswer}
-use Rattle.trio_nodes.specs.declared.entry.Entry.{Entry}
 use Rattle.trio_nodes.specs.declared.entry.Entry.TheVariants as entry
 use Rattle.trio_nodes.specs.declared.entry.GrantAnswer.{GrantAnswer}
-use Rattle.trio_nodes.specs.declared.grant.GrantKind.{GrantKind}
-use Rattle.trio_rights.specs.declared.rights.LibNo.{LibNo}
-use Rattle.trio_state.specs.Given.{GivenEvent, HasGrant}
-use Rattle.trio_state.specs.Grants.{given_back}
-use Rattle.trio_state.specs.Kept.{Kept}
-use Rattle.trio_state.specs.Listed.{Notes}
-use Rattle.trio_state.specs.Moves.{Outline, begun_by}
-use Rattle.trio_state.specs.State.{OpenGrant, State}
-use Rattle.trio_state.specs.Step.{Event, Grant, Allot, Back, Done, CtlAnswer, Step}
-use Rattle.trio_laws.specs.Laws.{library_of}
-use Rattle.trio_laws.specs.OutLaws.{HasOut, grants_to, without_checkpoint}
+use Rattle.trio_laws.specs.OutLaws.{grants_to}
 use Rattle.trio_laws.specs.history.Entries.{Beside}
-use Rattle.trio_laws.specs.history.Recorded.{IsRecorded, BesideFits}
-use Rattle.trio_laws.specs.history.Replays.{IsLibrary}
+use Rattle.trio_laws.specs.history.Recorded.{BesideFits}
 use Rattle.trio_laws.specs.history.ToldLaws.{EndsNone}
-use Rattle.trio_laws.proofs.OthersOut.{others_keep_out}
 use Rattle.trio_laws.proofs.history.Begins.{history_begins, history_is_legal}
-use Rattle.trio_laws.proofs.history.Grows.{history_grows, step_creds}
+use Rattle.trio_laws.proofs.history.Grows.{history_grows}
 use Rattle.trio_laws.proofs.history.NotesStart.{start_notes}
 use Rattle.trio_laws.proofs.history.NotesSteps.{steps_keep_notes}
-use Rattle.trio_laws.proofs.session.Lent.{step_keeps_lent, step_keeps_root}
 use Rattle.trio_ctl.proofs.Underways.{idle_in, underway_after, underway_begins, underway_in}
 use Rattle.trio_ctl.proofs.Starting.{image_kept}
 use Rattle.trio_ctl.proofs.Wholes.{whole_none}
-use Rattle.trio_ctl.specs.Answers.{allot_answer, grant_answer}
-use Rattle.trio_ctl.specs.Backs.{AreBack, all_back, back_entries}
-use Rattle.trio_ctl.specs.Logged.{AreMine, HasHistory, alone, entries_made, recorded}
 use Rattle.trio_ctl.specs.inner.Telling.{allot_told, grant_told}
 
 -- ---- grants of libraries alone

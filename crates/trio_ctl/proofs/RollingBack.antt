@@ -1,35 +1,11 @@
 -- A bundle that is rolled back in the store: its end is that of a refusal.
-use Rattle.std.proofs.Common.{◌≡◌, ℕ, ◌+◌, ◌-◌, ◌<◌, Bool, true, false, List, [], ◌++◌, length, map, Option, Some, None, is_some, IsTrue, refl, sym, ap, subst, ◌∙◌}
-use Rattle.std.specs.Prelude.{if◌then◌else◌, not, slice_get}
-use Rattle.trio_rights.specs.Row.{Row}
-use Rattle.trio_rights.specs.declared.rights.Creds.{Creds}
-use Rattle.trio_rights.specs.declared.rights.LibNo.{LibNo}
-use Rattle.trio_rights.specs.Bundle.{Bundle, Written, bundle_pages, is_written}
-use Rattle.trio_rights.specs.Sheets.{sheet_numbers, with_pages}
-use Rattle.trio_tables.specs.Out.{with_all}
-use Rattle.trio_tables.proofs.OutLemmas.{length-with_all, with_all-read, within_some}
-use Rattle.trio_lists.specs.Lists.{In, are_new, is_among}
-use Rattle.trio_lists.specs.Marked.{all_below}
-use Rattle.trio_lists.proofs.Filters.{filter-In}
-use Rattle.trio_lists.proofs.Members.{map-In}
-use Rattle.trio_layout.specs.Image.{Image}
-use Rattle.trio_layout.specs.Superblock.{superblock_fits}
-use Rattle.trio_surveys.proofs.SheetLaws.{length-with_pages}
-use Rattle.trio_surveys.proofs.Sheets.{not_among}
-use Rattle.trio_checkpoint.specs.Covered.{Checkpointed}
-use Rattle.trio_allot.specs.Out.{OutByNumber, outs_after}
-use Rattle.trio_state.specs.Bundles.{Ends, grants_after, is_in_bundle, lent_part, refused_image, uncovered}
-use Rattle.trio_state.specs.State.{OpenGrant, State, settled}
-use Rattle.trio_laws.specs.EndLaws.{checkpoints_of}
-use Rattle.trio_laws.proofs.Bundles.{closed_unparted}
+use Rattle.trio_ctl.proofs.Words.{if◌then◌else◌, ◌++◌, ◌+◌, ◌-◌, ◌<◌, ◌∙◌, ◌≡◌, AreOutTo, Bool, Bundle, Checkpointed, Creds, Ends, Image, In, IsStored, IsTrue, LibNo, List, None, OpenGrant, Option, OutByNumber, Row, Some, State, Store, Written, [], all_below, ap, are_new, bundle_pages, checkpoint_at, checkpoint_at-others, checkpoints_of, closed_unparted, false, filter-In, grants_after, grants_staying, is_among, is_in_bundle, is_some, is_written, length, length-with_all, length-with_pages, lent_part, map, map-In, not_among, outs_after, refl, refused_image, settled, sheet_numbers, slice_get, state_of, subst, superblock_fits, sym, true, with_all, with_all-read, with_pages, within_some, written_covered, written_numbers, ℕ}
+use Rattle.std.specs.Prelude.{not}
+use Rattle.trio_state.specs.Bundles.{uncovered}
 use Rattle.trio_laws.proofs.PutBack.{refused_away, refused_settles}
 use Rattle.trio_laws.proofs.Refusing.{refused_kept}
 use Rattle.trio_laws.proofs.Uncovered.{uncovered-lent}
-use Rattle.trio_commit.specs.declared.store.Store.{Store}
-use Rattle.trio_commit.specs.Handed.{AreOutTo, lent_uncovered, written_covered, written_numbers}
-use Rattle.trio_commit.specs.Store.{checkpoint_at, state_of}
-use Rattle.trio_commit.proofs.PutBack.{checkpoint_at-others}
-use Rattle.trio_ctl.specs.Stored.{IsStored, grants_staying}
+use Rattle.trio_commit.specs.Handed.{lent_uncovered}
 use Rattle.trio_ctl.proofs.StoredFacts.{HandedBundle, Checkpoints, checkpoints_same, covered_all, covered_from, covered_within, handed_within, out_to, sized, stays_unwritten, staying_same, unwritten_from, unwritten_stays}
 
 -- what `roll_back` requires of a store

@@ -1,30 +1,7 @@
 -- How many things a bundle has that was given to a library: each is of a table that has a place for each number.
-use Rattle.std.proofs.Common.{ℕ, ◌+◌, ◌-◌, ◌<◌, ◌≤◌, List, length, map, is_some, sym, ap, subst, ◌∙◌, arith, Option}
-use Rattle.std.proofs.lemmas.List.{length-map}
-use Rattle.trio_rights.specs.Bundle.{Bundle, Written, bundle_pages}
-use Rattle.trio_lease.specs.Bundles.{Bundled}
-use Rattle.trio_lease.specs.Shown.{LentFile}
-use Rattle.trio_lease.specs.Views.{bundle_in, written_in}
-use Rattle.trio_lists.specs.Lists.{In}
-use Rattle.trio_lists.proofs.Members.{map-In}
+use Rattle.trio_ctl.proofs.Words.{◌+◌, ◌-◌, ◌<◌, ◌∙◌, ◌≤◌, Bundle, Bundled, Creds, Entries, GivenTo, HoldParts, In, InoParts, IsControlled, Kept, Keyed, LentFile, List, Opened, Option, Outline, State, Store, Written, ap, arith, bundle_in, bundle_pages, grants_in, is_some, length, length-map, map, map-In, state_of, subst, superblock_at_home, superblock_facts, sym, within_some, written_in, ℕ}
 use Rattle.trio_layout.proofs.Walks.{pigeons}
 use Rattle.trio_case.proofs.Making.{few_pages}
-use Rattle.trio_tables.proofs.OutLemmas.{within_some}
-use Rattle.trio_state.specs.Given.{GivenTo}
-use Rattle.trio_state.specs.Kept.{Kept}
-use Rattle.trio_state.specs.State.{State}
-use Rattle.trio_rights.specs.declared.rights.Creds.{Creds}
-use Rattle.trio_lease.specs.declared.parts.HoldParts.{HoldParts}
-use Rattle.trio_lease.specs.declared.parts.InoParts.{InoParts}
-use Rattle.trio_layout.proofs.Superblocks.{superblock_facts}
-use Rattle.trio_grants.specs.Grants.{Keyed}
-use Rattle.trio_commit.specs.declared.store.Store.{Store}
-use Rattle.trio_commit.specs.Store.{state_of}
-use Rattle.trio_state.specs.Moves.{Outline}
-use Rattle.trio_ctl.specs.Ctl.{IsControlled}
-use Rattle.trio_open.specs.Entries.{Entries}
-use Rattle.trio_open.specs.Open.{Opened, grants_in}
-use Rattle.trio_ctl.specs.Stored.{superblock_at_home}
 use Rattle.trio_ctl.proofs.Judging.{pages_core, pages_new}
 
 -- ---- what is given is no more than its table has

@@ -1,17 +1,11 @@
 -- Pages in one list: those of the files, one file after another, and then the allotted ones.
-use Rattle.std.proofs.Common.{◌≡◌, ◌↔◌, ℕ, ◌+◌, ◌<◌, ◌≤◌, Bool, true, List, [], ◌∷◌, ◌++◌, length, get_or, map, take, drop, refl, sym, ap, ◌∙◌, append_assoc, arith}
-use Rattle.std.specs.List.{flat_map}
+use Rattle.trio_ctl.proofs.Words.{◌++◌, ◌+◌, ◌<◌, ◌↔◌, ◌∙◌, ◌∷◌, ◌≡◌, ◌≤◌, Bool, Bundled, Handed, HandedFile, HandedPage, LentFile, List, [], ap, append_assoc, arith, drop, file_in, file_pages, flat_map, fresh_in, get_or, handed_in, head_of, length, map, refl, sum_by-cons, sym, take, take-append-drop, true, ℕ}
 use Rattle.std.proofs.Math.Seq.{drop-append_seam, take-append_seam}
 use Rattle.std.proofs.lemmas.Grind.{flat_map-append}
-use Rattle.std.proofs.lemmas.List.{append_cancel_left, length-append, length-drop, length-take-le, take-append-drop, take_all}
-use Rattle.std.proofs.lemmas.List.Sums.{sum_by-cons}
-use Rattle.trio_lease.specs.Bundles.{Bundled}
-use Rattle.trio_lease.specs.Shown.{LentFile}
-use Rattle.trio_nodes.specs.Handed.{Handed, HandedFile, HasPages, all_pages, files_from, head_of, head_pages}
+use Rattle.std.proofs.lemmas.List.{append_cancel_left, length-append, length-drop, length-take-le, take_all}
+use Rattle.trio_nodes.specs.Handed.{HasPages, all_pages, files_from, head_pages}
 use Rattle.trio_nodes.specs.declared.entry.HandedHead.{HandedHead}
 use Rattle.trio_nodes.proofs.HandedPages.{files-joined}
-use Rattle.trio_nodes.specs.declared.entry.HandedPage.{HandedPage}
-use Rattle.trio_entries.specs.Handed.{file_in, file_pages, fresh_in, handed_in}
 use Rattle.trio_entries.proofs.FlatPlaces.{all_of, drop_file, heads_made}
 use Rattle.trio_entries.proofs.Turns.{told_more}
 

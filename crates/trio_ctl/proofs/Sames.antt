@@ -1,13 +1,6 @@
 -- Lists of which one has, place by place, what is made of the other.
-use Rattle.std.proofs.Common.{◌≡◌, ◌↔◌, ℕ, ◌<◌, Bool, true, false, List, length, get_or, Option, Some, None, sym, refl, ap, ◌∙◌}
-use Rattle.std.specs.Prelude.{slice_get}
-use Rattle.std.specs.Option.{option_map}
-use Rattle.std.proofs.lemmas.Option.{slice_get_read}
-use Rattle.trio_page.specs.declared.page.PageNo.{PageNo}
-use Rattle.trio_lease.specs.declared.parts.LentPage.{LentPage}
+use Rattle.trio_ctl.proofs.Words.{◌<◌, ◌↔◌, ◌∙◌, ◌≡◌, Bool, HandedPage, LentPage, List, None, Option, PageNo, Some, ap, block_in, false, get_or, index_in, length, option_map, refl, slice_get, slice_get_read, sym, true, ℕ}
 use Rattle.trio_lease.specs.Shown.{no_at, page_at, touched_at}
-use Rattle.trio_nodes.specs.declared.entry.HandedPage.{HandedPage}
-use Rattle.trio_entries.specs.Handed.{block_in, index_in}
 use Rattle.trio_ctl.specs.inner.Same.{page_seen}
 
 -- ---- a page that was handed in at a place

@@ -1,17 +1,7 @@
 -- What memory serves.
-use Rattle.std.proofs.Common.{◌≡◌, ◌≤◌, ◌+◌, ◌*◌, ℕ, length, true, arith}
-use Rattle.std.proofs.lemmas.List.{length-map}
-use Rattle.trio_rights.specs.Bundle.{bundle_pages}
-use Rattle.trio_desk.specs.Contents.{Sizes}
-use Rattle.trio_layout.specs.Range.{core_count}
-use Rattle.trio_lease.specs.Shown.{LentFile}
-use Rattle.trio_lease.specs.Views.{bundle_in, written_in}
-use Rattle.trio_lease.specs.declared.parts.HoldParts.{HoldParts}
-use Rattle.trio_lease.specs.declared.parts.InoParts.{InoParts}
+use Rattle.trio_ctl.proofs.Words.{◌*◌, ◌+◌, ◌≡◌, ◌≤◌, BundleSize, HoldParts, InoParts, Kit, LentFile, Serves, Sizes, arith, bundle_in, bundle_pages, core_count, length, length-map, true, written_in, ℕ}
 use Rattle.trio_case.specs.Memory.{value_count}
-use Rattle.trio_case.specs.declared.size.BundleSize.{BundleSize}
-use Rattle.trio_ctl.specs.Kits.{IsKit, Serves}
-use Rattle.trio_ctl.specs.declared.kit.Kit.{Kit}
+use Rattle.trio_ctl.specs.Kits.{IsKit}
 
 -- memory for a size that no bundle passes whose release needs at most so many bytes serves each such release
 pub serves_so : (z : Sizes) (bytes : ℕ) (size : BundleSize) (core : ℕ) (kit : Kit)

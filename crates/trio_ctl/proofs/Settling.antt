@@ -1,83 +1,30 @@
 -- A settle of what is ready: what holds once the read leases are back, and after it.
-use Rattle.std.proofs.Common.{◌≡◌, ◌+◌, ◌≤◌, ◌==◌, ℕ, Bool, true, false, not, ◌&&◌, ◌||◌, List, [], ◌∷◌, ◌++◌, map, length, length-append, Option, Some, None, Result, Ok, Err, sym, refl, ap, ◌∙◌, subst, inl, inr, arith}
-use Rattle.std.specs.List.{filter, list_all, list_any}
-use Rattle.std.proofs.lemmas.Bool.{and_from, both_ways, eq-eqb, eqb-true, false_from_ne_true, false≢true, not-true, not_from_false}
-use Rattle.std.proofs.lemmas.List.{get_or_default, length-map}
-use Rattle.std.proofs.lemmas.Simd.{map-map}
-use Rattle.trio_rights.specs.Bundle.{Bundle, is_written}
-use Rattle.trio_rights.specs.Sheets.{Sheet, sheet_numbers}
-use Rattle.trio_rights.specs.declared.rights.Creds.{Creds}
-use Rattle.trio_rights.specs.declared.rights.LibNo.{LibNo}
-use Rattle.trio_nodes.specs.Libraries.{creds_in}
-use Rattle.trio_nodes.specs.GrantKinds.{is_hold, is_read, is_write}
-use Rattle.trio_nodes.specs.declared.answers.ReleaseAnswer.{ReleaseAnswer}
-use Rattle.trio_nodes.specs.declared.answers.ReleaseAnswer.TheVariants.{Accepted as AcceptedBundle, Refused as RefusedBundle}
+use Rattle.trio_ctl.proofs.Words.{◌&&◌, ◌++◌, ◌+◌, ◌==◌, ◌||◌, ◌∙◌, ◌∷◌, ◌≡◌, ◌≤◌, AcceptedBundle, AreBack, AreLent, AreLentTo, Ask, Back, Bool, Bundle, Bundled, Creds, Done, Ends, Entry, Err, GivenEvent, GrantKind, Happens, HasHistory, HasRoom, Hold, HoldParts, Image, In, In-cases, In-filter, In-is_among, In-list_any, In-map, IsAccepted, IsJudgeable, IsLentTo, IsLibrary, IsOutcome, IsRecorded, IsRefused, IsSettled, KeepsUntouched, Kept, LentFile, LentIsTrue, LentWhole, LibNo, List, Logged, None, NotSettled, Notes, Ok, OpenGrant, Option, OutAlike, Outline, Parcel, Parted, Read, Ready, RefusedBundle, Release, ReleaseAnswer, Result, SeenAfter, Settle, SettleAsked, Sheet, Shown, Some, State, Step, TellsOutcome, Told, WereLent, Write, [], all_back, and_from, ap, arith, back_entries, begun_by, both_ways, bundle_in, bundle_of, case_in, creds_in, creds_of, desk_of, eq-eqb, eqb-true, false, false_from_ne_true, false≢true, file_numbers, filter, filter-In, fresh_sheet, given_back, grants_of, handed_in, hold_numbers, hold_of, inl, ino_numbers, inr, is_accepted, is_among, is_back, is_hold, is_in_bundle, is_library, is_read, is_write, is_written, leases_stay_true, length, length-append, length-map, lib_at, list_all, list_all-each, list_any, list_any-In, map, map-In, map-map, next, not, not-true, not_from_false, noted_by, numbers_to, out_after, out_of, page_numbers, parcel_of, parted_hold, recorded, refl, root_of, settle_told, settled, sheet_numbers, sheets_untouched, shown_of, sizes_of, step_creds, step_keeps_lent, step_keeps_root, step_kept, subst, sym, true, verdict_of, verdict_on, without_reads, write_is, ℕ}
+use Rattle.std.proofs.lemmas.List.{get_or_default}
 use Rattle.trio_nodes.specs.declared.call.Done.{Done as CallDone}
-use Rattle.trio_nodes.specs.declared.entry.Entry.{Entry}
 use Rattle.trio_nodes.specs.declared.entry.Entry.TheVariants as entry
-use Rattle.trio_nodes.specs.declared.grant.GrantKind.{GrantKind}
-use Rattle.trio_nodes.specs.declared.grant.GrantKind.TheVariants.{Read, Write, Hold}
-use Rattle.trio_lists.specs.Lists.{In, is_among}
-use Rattle.trio_lists.proofs.Filters.{In-filter, In-get_or, In-list_any, filter-In, filter-none, list_any-In}
-use Rattle.trio_lists.proofs.Members.{In-cases, In-is_among, In-map, list_all-each, map-In}
-use Rattle.trio_tables.specs.Out.{lib_at}
-use Rattle.trio_layout.specs.Accept.{is_accepted, next}
+use Rattle.trio_lists.proofs.Filters.{In-get_or, filter-none}
 use Rattle.trio_layout.specs.Case.{case_of}
-use Rattle.trio_layout.specs.Image.{Image}
-use Rattle.trio_lease.specs.Bundles.{Bundled}
-use Rattle.trio_lease.specs.Shown.{KeepsUntouched, LentFile, Shown}
-use Rattle.trio_lease.specs.Views.{bundle_in, fresh_sheet}
-use Rattle.trio_lease.specs.declared.parts.HoldParts.{HoldParts}
-use Rattle.trio_log.specs.Logged.{Logged}
-use Rattle.trio_entries.specs.Handed.{handed_in}
-use Rattle.trio_entries.specs.declared.telling.Told.{Told}
-use Rattle.trio_desk.specs.Out.{OutAlike, Parcel, file_numbers, hold_numbers, ino_numbers, nothing_out, page_numbers, parcel_of, without_reads}
-use Rattle.trio_desk.specs.Call.{Ask, NotSettled, SeenAfter, Settle as SettleAsked, Settled as IsSettled, settle_told}
-use Rattle.trio_desk.specs.Ready.{AreLent, HandsInAll, Ready, bundle_of, leases_in, lent_files}
-use Rattle.trio_state.specs.Allotments.{has_none_out, is_library, out_after}
-use Rattle.trio_state.specs.Bundles.{Ends, has_all, is_in_bundle, parted_hold}
-use Rattle.trio_state.specs.Given.{GivenEvent, HasNoRead}
-use Rattle.trio_state.specs.Grants.{given_back}
-use Rattle.trio_state.specs.Kept.{Kept}
-use Rattle.trio_state.specs.Listed.{Notes}
-use Rattle.trio_state.specs.Moves.{Outline, begun_by}
-use Rattle.trio_state.specs.State.{OpenGrant, State, creds_of, settled}
-use Rattle.trio_state.specs.Step.{Back, Done, Release, Settle, Step, Parted, IsAccepted, IsRefused}
+use Rattle.trio_desk.specs.Out.{nothing_out}
+use Rattle.trio_desk.specs.Ready.{HandsInAll, leases_in, lent_files}
+use Rattle.trio_state.specs.Allotments.{has_none_out}
+use Rattle.trio_state.specs.Bundles.{has_all}
+use Rattle.trio_state.specs.Given.{HasNoRead}
 use Rattle.trio_state.specs.Step as step
-use Rattle.trio_state.specs.Tells.{case_in}
-use Rattle.trio_laws.specs.OutLaws.{numbers_to}
-use Rattle.trio_laws.specs.RuleLaws.{IsJudgeable}
-use Rattle.trio_laws.specs.history.Recorded.{IsRecorded, LentWhole}
-use Rattle.trio_laws.specs.history.Replays.{IsLibrary}
 use Rattle.trio_laws.specs.session.Grants.{IsHoldOf, IsLeaseOf, LendsPages}
-use Rattle.trio_laws.specs.session.Lent.{AreLentTo, IsHeldBy, IsLentTo, LentIsTrue, root_of, sizes_of}
+use Rattle.trio_laws.specs.session.Lent.{IsHeldBy}
 use Rattle.trio_laws.specs.session.Others.{LeasesHold}
 use Rattle.trio_laws.specs.session.Settles.{IsMoment}
 use Rattle.trio_laws.proofs.Backs.{settled_back}
 use Rattle.trio_laws.proofs.Bundles.{unparted_all}
-use Rattle.trio_laws.proofs.Runs.{step_kept}
-use Rattle.trio_laws.proofs.StateFacts.{write_is}
-use Rattle.trio_laws.proofs.history.Grows.{step_creds}
 use Rattle.trio_laws.proofs.session.Accepting.{ready_is_accepted}
-use Rattle.trio_laws.proofs.session.Lent.{leases_stay_true, step_keeps_lent, step_keeps_root}
 use Rattle.trio_laws.proofs.session.Moments.{moment_lasts_back}
 use Rattle.trio_laws.proofs.session.Settling.{settle_is_recorded}
-use Rattle.trio_ctl.specs.Answers.{verdict_of}
-use Rattle.trio_ctl.specs.Backs.{AreBack, all_back, back_entries}
-use Rattle.trio_ctl.specs.Desk.{Happens, desk_of, grants_of, out_of}
-use Rattle.trio_open.specs.Entries.{HasRoom}
-use Rattle.trio_ctl.specs.HandedIn.{WereLent}
-use Rattle.trio_ctl.specs.Logged.{HasHistory, recorded}
-use Rattle.trio_open.specs.Open.{hold_of, shown_of}
 use Rattle.trio_ctl.specs.declared.outcome.Outcome.{Outcome}
-use Rattle.trio_open.specs.inner.Modes.{is_back}
-use Rattle.trio_ctl.specs.inner.Outcomes.{IsOutcome, verdict_on}
-use Rattle.trio_ctl.specs.inner.Telling.{TellsOutcome, noted_by}
 use Rattle.trio_ctl.proofs.Underways.{idle_in, underway_after, underway_in}
 use Rattle.trio_ctl.proofs.LeasesBack.{all_back_is, are_back, backs_kept, backs_leave, left_out}
 use Rattle.trio_ctl.proofs.DeskGiven.{behind, given_to}
 use Rattle.trio_ctl.proofs.DeskOuts.{In-numbers_to, alike, ended_out, hold_is, left_numbers, read_is, written_among}
-use Rattle.trio_open.proofs.LendLemmas.{sheets_untouched}
 use Rattle.trio_ctl.proofs.Recording.{backs_history, still_mine}
 use Rattle.trio_ctl.proofs.RecordedReleases.{handed_is, lent_fit, noted_then}
 

@@ -1,11 +1,7 @@
 -- What is spare after a call.
-use Rattle.std.proofs.Common.{◌≡◌, ◌≤◌, ◌+◌, ◌-◌, ◌++◌, [], ◌∷◌, ℕ, List, ap, length, inl, inr, length-append, refl, subst, ◌∙◌, arith}
-use Rattle.std.proofs.Math.Nat.{min-le_left, min-le_right, min-eq_left, min-eq_right}
-use Rattle.std.proofs.lemmas.Bool.{cases_lt}
+use Rattle.trio_ctl.proofs.Words.{◌++◌, ◌+◌, ◌-◌, ◌∙◌, ◌∷◌, ◌≡◌, ◌≤◌, Entry, List, Logged, Spare, [], ap, arith, cases_lt, inl, inr, length, length-append, min-le_left, min-le_right, refl, subst, ℕ}
+use Rattle.std.proofs.Math.Nat.{min-eq_left, min-eq_right}
 use Rattle.std.specs.Prelude.{min}
-use Rattle.trio_log.specs.Logged.{Logged}
-use Rattle.trio_nodes.specs.declared.entry.Entry.{Entry}
-use Rattle.trio_ctl.specs.Ctl.{Spare}
 use Rattle.trio_ctl.specs.Room.{Spends}
 
 -- the lesser of two numbers, each of which fell by at most so many, fell by no more

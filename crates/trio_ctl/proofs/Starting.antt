@@ -1,35 +1,7 @@
 -- The state of an image that verifies is kept.
-use Rattle.std.proofs.Common.{◌≡◌, ℕ, zero, suc, ◌+◌, ◌-◌, ◌*◌, ◌≤◌, List, [], length, map, Option, Some, None, IsTrue, refl, sym, ap, subst, ◌∙◌, arith}
-use Rattle.std.specs.Prelude.{replicate, slice_index_or}
-use Rattle.std.proofs.lemmas.List.{length-replicate}
-use Rattle.trio_rights.specs.declared.rights.Creds.{Creds}
-use Rattle.trio_rights.specs.Row.{Row}
-use Rattle.trio_layout.specs.declared.superblock.Superblock.{Superblock}
-use Rattle.trio_layout.specs.Range.{is_core}
-use Rattle.trio_layout.proofs.Superblocks.{superblock_facts}
-use Rattle.trio_layout.specs.Image.{IsFit}
-use Rattle.trio_state.specs.Kept.{Kept}
-use Rattle.trio_state.specs.Run.{start}
-use Rattle.trio_survey.specs.Stored.{core_in, image_in}
-use Rattle.trio_layout.specs.Verifies.{Verifies}
+use Rattle.trio_ctl.proofs.Words.{◌*◌, ◌+◌, ◌-◌, ◌∙◌, ◌≡◌, ◌≤◌, Checkpointed, Creds, Entries, In, IsControlled, IsFit, IsTrue, IsVerified, Kept, Keyed, List, None, OpenGrant, Opened, Option, OutByNumber, Outline, Row, Some, State, Store, Superblock, Verifies, [], ap, are_new, arith, begun_among, checkpoint_at, core_in, grants_in, image_in, is_core, keyed, length, length-replicate, lib_at, map, nothing_out, page_count, reads_among, refl, replicate, slice_index_or, start, state_of, subst, suc, superblock_at_home, superblock_facts, superblock_fits, sym, tabulated-length, with_checkpoint, zero, ℕ}
 use Rattle.trio_laws.proofs.Runs.{start_kept}
-use Rattle.trio_image.specs.Image.{IsVerified}
-use Rattle.trio_grants.specs.Grants.{Keyed}
-use Rattle.trio_lists.proofs.Tabulated.{tabulated-length}
-use Rattle.trio_layout.specs.Superblock.{page_count, superblock_fits}
-use Rattle.trio_lists.specs.Lists.{are_new, In}
-use Rattle.trio_state.specs.State.{OpenGrant, State}
-use Rattle.trio_allot.specs.Out.{OutByNumber, nothing_out}
-use Rattle.trio_tables.specs.Out.{lib_at}
 use Rattle.trio_tables.proofs.OutLemmas.{lib_at-none_out}
-use Rattle.trio_checkpoint.specs.Covered.{Checkpointed}
-use Rattle.trio_commit.specs.declared.store.Store.{Store}
-use Rattle.trio_commit.specs.Store.{checkpoint_at, state_of, with_checkpoint}
-use Rattle.trio_state.specs.Moves.{Outline}
-use Rattle.trio_ctl.specs.Ctl.{IsControlled}
-use Rattle.trio_open.specs.Entries.{Entries, begun_among, reads_among}
-use Rattle.trio_open.specs.Open.{Opened, grants_in, keyed}
-use Rattle.trio_ctl.specs.Stored.{superblock_at_home}
 use Rattle.trio_ctl.proofs.Underways.{none_among}
 use Rattle.trio_ctl.proofs.Wholes.{cond_there, whole_at, whole_none}
 

@@ -1,40 +1,11 @@
 -- What follows of a store, its open grants, and a bundle that was given to its library.
-use Rattle.std.proofs.Common.{◌≡◌, ℕ, ◌+◌, ◌-◌, ◌*◌, ◌<◌, ◌==◌, ◌&&◌, ◌||◌, Bool, true, false, leb, ltb, List, [], ◌∷◌, ◌++◌, length, map, Option, None, is_some, IsTrue, refl, sym, ap, subst, ◌∙◌, inl, inr, arith}
-use Rattle.std.specs.Prelude.{if◌then◌else◌, not}
-use Rattle.std.specs.List.{find, flat_map}
-use Rattle.std.specs.Option.{option_map_or}
-use Rattle.std.proofs.lemmas.Bool.{and_from, and_parts, or_left, eq-eqb, eqb-true, cases_Bool, both_ways, ltb-true, not-true}
-use Rattle.std.proofs.lemmas.List.{map-append}
-use Rattle.trio_rights.specs.declared.rights.Creds.{Creds}
-use Rattle.trio_rights.specs.declared.rights.LibNo.{LibNo}
-use Rattle.trio_rights.specs.Bundle.{Bundle, Written, bundle_pages, bundle_sheets, is_written}
-use Rattle.trio_rights.specs.Sheets.{Sheet, sheet_numbers}
-use Rattle.trio_nodes.specs.GrantKinds.{is_hold, is_write}
-use Rattle.trio_nodes.specs.declared.grant.GrantKind.{GrantKind}
-use Rattle.trio_nodes.specs.declared.grant.GrantKind.TheVariants.{Write}
-use Rattle.trio_tables.proofs.OutLemmas.{within_some}
-use Rattle.trio_lists.specs.Lists.{In, is_among}
-use Rattle.trio_lists.specs.Marked.{all_below}
-use Rattle.trio_lists.proofs.Filters.{filter-In, find-In, In-filter, filter-map}
-use Rattle.trio_lists.proofs.Members.{In-cases, In-flat, In-is_among, In-map, flat_map-In, map-In}
-use Rattle.trio_layout.specs.Core.{Core}
-use Rattle.trio_layout.specs.Range.{is_core}
-use Rattle.trio_surveys.proofs.Cores.{listed_is_core}
-use Rattle.trio_surveys.proofs.Images.{some_of}
-use Rattle.trio_layout.specs.declared.superblock.Superblock.{Superblock}
-use Rattle.trio_layout.specs.Superblock.{page_count}
-use Rattle.trio_checkpoint.specs.Covered.{Checkpointed, covered_pages}
-use Rattle.trio_state.specs.Bundles.{grants_after, is_in_bundle, parted_hold}
-use Rattle.trio_state.specs.Given.{GivenTo}
-use Rattle.trio_state.specs.State.{OpenGrant, State, settled}
-use Rattle.trio_laws.proofs.Bundles.{Unwritten, in_numbers, outside_unwritten, written_from}
+use Rattle.trio_ctl.proofs.Words.{if◌then◌else◌, ◌&&◌, ◌*◌, ◌++◌, ◌+◌, ◌-◌, ◌<◌, ◌==◌, ◌||◌, ◌∙◌, ◌∷◌, ◌≡◌, AreOutTo, Bool, Bundle, Checkpointed, Core, Creds, GivenTo, GrantKind, In, In-cases, In-filter, In-flat, In-is_among, In-map, IsStored, IsTrue, LibNo, List, None, OpenGrant, Option, Sheet, State, Store, Superblock, Unwritten, Write, Written, [], all_below, and_from, and_parts, ap, arith, both_ways, bundle_pages, bundle_sheets, cases_Bool, checkpoint_at, covered_at, covered_pages, eq-eqb, eqb-true, false, filter-In, filter-map, find, find-In, flat_map, flat_map-In, grants_after, grants_staying, in_numbers, inl, inr, is_among, is_core, is_hold, is_in_bundle, is_some, is_write, is_written, leb, length, lent_met, listed_is_core, ltb, ltb-true, map, map-In, map-append, not-true, option_map_or, page_count, parted_hold, refl, settled, sheet_numbers, some_of, state_of, subst, sym, true, with_checkpoint, within_some, written_covered, written_numbers, ℕ}
+use Rattle.std.specs.Prelude.{not}
+use Rattle.std.proofs.lemmas.Bool.{or_left}
+use Rattle.trio_laws.proofs.Bundles.{outside_unwritten, written_from}
 use Rattle.trio_laws.proofs.Ended.{bundle_write}
-use Rattle.trio_laws.proofs.StateFacts.{covered_write, lent_met}
-use Rattle.trio_commit.specs.declared.store.Store.{Store}
-use Rattle.trio_commit.specs.Handed.{AreOutTo, written_covered, written_numbers}
-use Rattle.trio_commit.specs.Store.{checkpoint_at, covered_at, state_of, with_checkpoint}
+use Rattle.trio_laws.proofs.StateFacts.{covered_write}
 use Rattle.trio_commit.proofs.Cells.{below_from}
-use Rattle.trio_ctl.specs.Stored.{IsStored, grants_staying}
 
 -- A bundle that was given to its library and is closed, in a state that is kept in a store.
 pub record HandedBundle : Type 0 where

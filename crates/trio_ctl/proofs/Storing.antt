@@ -1,41 +1,22 @@
 -- The pages that store the image of a state with nothing lent: they verify, and they store just that image, with all zeros in
 -- place of the pages that are out by allotment.
-use Rattle.std.proofs.Common.{◌≡◌, ℕ, ◌+◌, ◌-◌, ◌<◌, ◌≤◌, Bool, true, false, List, length, map, get_or, Option, Some, None, refl, sym, ap, subst, ◌∙◌, arith, inl, inr}
-use Rattle.std.specs.Prelude.{is_some, slice_get, slice_index, slice_index_or, if◌then◌else◌, IsTrue, nat_le, nat_lt}
-use Rattle.std.proofs.lemmas.Bool.{and_parts, eq-eqb, false≢true, le-leb, lt-ltb, leb-true, ltb-true}
+use Rattle.trio_ctl.proofs.Words.{if◌then◌else◌, ◌+◌, ◌-◌, ◌<◌, ◌∙◌, ◌≡◌, ◌≤◌, Bool, Core, Creds, Image, ImagePages, In, IsVerified, List, Met, None, Option, OutByNumber, Row, Some, State, Superblock, Verifies, and_parts, ap, arith, core_in, eq-eqb, false, false≢true, free_unlisted, get_or, image_in, inl, inr, is_core, is_out, is_whole_page, le-leb, leb-true, length, lt-ltb, ltb-true, map, nat_le, nat_lt, or_zero, page_of, pages_are, pages_from, pages_of, plain, refl, row_of, settled, slice_get, slice_get-get_or, slice_index, slice_index_or, stored_pages, subst, superblock_facts, superblock_for, survey, sym, tables_of, tabulated-get, tabulated-length, true, ℕ}
+use Rattle.std.specs.Prelude.{is_some, IsTrue}
 use Rattle.std.proofs.lemmas.List.{get_or-map}
-use Rattle.std.proofs.lemmas.Option.{slice_get-get_or}
-use Rattle.trio_tables.specs.Out.{NoneOut, is_out}
+use Rattle.trio_tables.specs.Out.{NoneOut}
 use Rattle.trio_page.specs.Field.{zeros}
 use Rattle.trio_page.proofs.Cursor.{length-zeros}
-use Rattle.trio_rights.specs.declared.rights.Creds.{Creds}
-use Rattle.trio_rights.specs.Row.{Row}
 use Rattle.trio_tables.specs.Stored.{shadow_bytes, owner_bytes}
-use Rattle.trio_layout.specs.declared.superblock.Superblock.{Superblock}
 use Rattle.trio_layout.specs.Superblock.{superblock_bytes}
-use Rattle.trio_layout.specs.Range.{is_core}
-use Rattle.trio_layout.specs.Core.{Core, page_of}
-use Rattle.trio_lists.specs.Lists.{In}
-use Rattle.trio_layout.specs.Survey.{Met, pages_of, plain, row_of, survey}
-use Rattle.trio_layout.proofs.Superblocks.{superblock_facts}
-use Rattle.trio_layout.specs.Image.{Image}
-use Rattle.trio_state.specs.State.{State, settled}
-use Rattle.trio_survey.specs.Stored.{core_in, image_in, HasSuperblock, PagesVerify, StoresImage, StoresTables}
-use Rattle.trio_layout.specs.Verifies.{Verifies}
+use Rattle.trio_survey.specs.Stored.{HasSuperblock, PagesVerify, StoresImage, StoresTables}
 use Rattle.trio_surveys.specs.Reading.{with_other, AgreeOn}
 use Rattle.trio_surveys.proofs.Accepted.{agreeing_verifies}
-use Rattle.trio_surveys.proofs.Images.{free_unlisted}
-use Rattle.trio_lists.proofs.Tabulated.{tabulated-length, tabulated-get}
-use Rattle.trio_surveys.proofs.Owned.{pages_are}
 use Rattle.trio_laws.proofs.Refusing.{read_listed}
-use Rattle.trio_laws.proofs.StateFacts.{tables as tables_of}
-use Rattle.trio_image.specs.Image.{is_whole_page, ImagePages, IsVerified, IsWholeImage, TablesAre}
-use Rattle.trio_ctl.specs.Ctl.{or_zero, superblock_for, with_zeros, TellsSettled}
-use Rattle.trio_allot.specs.Out.{OutByNumber}
+use Rattle.trio_image.specs.Image.{IsWholeImage, TablesAre}
+use Rattle.trio_ctl.specs.Ctl.{with_zeros, TellsSettled}
 use Rattle.trio_ctl.proofs.AtHome.{IsAtHome, home_image, state_at_home}
 use Rattle.trio_image.specs.Front.{FillsPages, owner_count, shadow_count}
 use Rattle.trio_image.proofs.Storing.{laid_core, laid_count, laid_first, laid_superblock, laid_tables, laid_whole, tabulated-all, IsLaid}
-use Rattle.trio_ctl.specs.inner.Pages.{pages_from, stored_pages}
 use Rattle.trio_ctl.proofs.Wholes.{cond_same}
 
 no_lent : (t : Bool) → IsTrue t → t ≡ false → ⊥

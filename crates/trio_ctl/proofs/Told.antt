@@ -1,37 +1,11 @@
 -- Each open hold told the directory that the row of its file still names: so it is after every step.
-use Rattle.std.proofs.Common.{◌≡◌, ℕ, ◌<◌, true, false, not, ◌==◌, ◌&&◌, List, [], ◌∷◌, ◌++◌, length, map, get_or, Option, Some, None, is_some, sym, refl, ap, ◌∙◌, subst, inl, inr, ◌⊎◌}
-use Rattle.std.specs.Prelude.{slice_set}
-use Rattle.std.specs.Option.{IsSomeAnd}
-use Rattle.std.proofs.lemmas.Bool.{cases_eq, cases_lt, false≢true, not-true}
-use Rattle.std.proofs.lemmas.List.{get_or_past, get_or-set_same, get_or-set_other}
-use Rattle.trio_rights.specs.Row.{Row, row_in}
-use Rattle.trio_rights.specs.Bundle.{Bundle}
-use Rattle.trio_nodes.specs.GrantKinds.{is_read}
-use Rattle.trio_nodes.specs.declared.grant.GrantKind.{GrantKind}
-use Rattle.trio_nodes.specs.declared.grant.GrantKind.TheVariants.{Read, Write, Hold}
-use Rattle.trio_nodes.specs.declared.answers.GrantFault.{GrantFault}
-use Rattle.trio_nodes.specs.declared.answers.ModeFault.{ModeFault}
-use Rattle.trio_lists.specs.Lists.{In}
-use Rattle.trio_lists.proofs.Filters.{filter-In}
-use Rattle.trio_lists.proofs.Members.{In-cases, In-map, map-In}
-use Rattle.trio_layout.specs.Accept.{is_accepted, next}
-use Rattle.trio_layout.specs.Image.{Image, row_at}
-use Rattle.trio_layout.specs.Mode.{image_with_mode, row_with_mode}
-use Rattle.trio_layout.specs.Proposed.{proposed, proposed_pick}
+use Rattle.trio_ctl.proofs.Words.{◌&&◌, ◌++◌, ◌<◌, ◌==◌, ◌∙◌, ◌∷◌, ◌≡◌, ◌⊎◌, Allot, AreAsTold, Back, Bundle, Checkpointed, CtlAnswer, Ends, Event, GivenEvent, GivenTo, Grant, GrantFault, GrantKind, Hold, HoldsAreTold, Image, In, In-cases, In-map, IsAccepted, IsRefused, IsSomeAnd, Kept, List, ModeFault, None, OpenGrant, Option, Parted, Read, Release, Row, Settle, Some, State, Step, Write, [], after_allot, after_no_grant, after_no_mode, ap, cases_eq, cases_lt, creds_of, false, false≢true, filter-In, get_or, get_or-set_other, get_or-set_same, grant_fault, granted_to, grants_after, image_with_mode, inl, inr, is_accepted, is_in_bundle, is_read, is_some, length, lent_part, map, map-In, mode_fault, moded_to, next, not, not-true, opened, proposed, proposed_pick, refl, refused_image, row_at, row_in, row_with_mode, settled, slice_set, subst, sym, true, with_checkpoint, without_checkpoint, ℕ}
+use Rattle.std.proofs.lemmas.List.{get_or_past}
 use Rattle.trio_surveys.proofs.Images.{row_at_is}
-use Rattle.trio_state.specs.State.{OpenGrant, State, creds_of, settled}
-use Rattle.trio_state.specs.Grants.{grant_fault, opened, told_parent}
-use Rattle.trio_state.specs.Bundles.{Ends, grants_after, is_in_bundle, lent_part, refused_image}
-use Rattle.trio_state.specs.Given.{GivenEvent, GivenTo}
-use Rattle.trio_state.specs.Kept.{Kept}
-use Rattle.trio_state.specs.Step.{Event, Grant, Allot, Back, Release, Settle, SetMode, CtlAnswer, Step, Parted, IsAccepted, IsRefused, granted_to, mode_fault, moded_to}
-use Rattle.trio_laws.specs.OutLaws.{without_checkpoint}
+use Rattle.trio_state.specs.Grants.{told_parent}
+use Rattle.trio_state.specs.Step.{SetMode}
 use Rattle.trio_laws.proofs.Bundles.{outside_unheld}
-use Rattle.trio_laws.proofs.Cases.{after_allot, after_no_grant, after_no_mode}
 use Rattle.trio_laws.proofs.Survivors.{fit_now, sound_now, unheld_row}
-use Rattle.trio_commit.specs.Store.{with_checkpoint}
-use Rattle.trio_checkpoint.specs.Covered.{Checkpointed}
-use Rattle.trio_ctl.specs.Ctl.{AreAsTold, HoldsAreTold}
 
 -- a grant told the directory that the row of its file names
 abbrev IsTold : List (Option Row) → OpenGrant → Type 0

@@ -1,18 +1,9 @@
 -- The releases that have begun and not ended, in the state of the controller.
-use Rattle.std.proofs.Common.{◌≡◌, ℕ, zero, suc, List, length, Option, None, refl, ap, ◌∙◌}
-use Rattle.std.specs.Prelude.{replicate, slice_index_or}
-use Rattle.std.proofs.lemmas.List.{length-replicate}
-use Rattle.trio_layout.specs.Image.{Image}
-use Rattle.trio_rights.specs.declared.rights.Creds.{Creds}
-use Rattle.trio_state.specs.Given.{GivenEvent}
-use Rattle.trio_state.specs.Kept.{Kept}
-use Rattle.trio_state.specs.Moves.{Answered, KeptUnderway, One, Outline, Underway, begun_by, outline_of}
-use Rattle.trio_state.specs.Run.{start}
-use Rattle.trio_state.specs.State.{State}
-use Rattle.trio_state.specs.Step.{CtlAnswer, Event, Step, library_of}
-use Rattle.trio_laws.proofs.acts.Underways.{acts_keep, begun_like, some_apart}
-use Rattle.trio_ctl.specs.Ctl.{Controller, IsIdle, NoneBegun}
-use Rattle.trio_open.specs.Entries.{begun_among}
+use Rattle.trio_ctl.proofs.Words.{◌∙◌, ◌≡◌, Answered, Controller, Creds, CtlAnswer, Event, GivenEvent, Image, IsIdle, Kept, KeptUnderway, List, None, Option, Outline, State, Step, Underway, acts_keep, ap, begun_among, begun_by, length, length-replicate, outline_of, refl, replicate, slice_index_or, some_apart, start, suc, zero, ℕ}
+use Rattle.trio_state.specs.Moves.{One}
+use Rattle.trio_state.specs.Step.{library_of}
+use Rattle.trio_laws.proofs.acts.Underways.{begun_like}
+use Rattle.trio_ctl.specs.Ctl.{NoneBegun}
 
 -- the state with what has begun
 abbrev pub underway_in : State → List (Option Outline) → Underway

@@ -1,7 +1,5 @@
 -- What contracts see of the controller.
-use Rattle.std.proofs.Common.{◌≡◌, ℕ, ap, subst, sym, ◌∙◌}
-use Rattle.trio_ctl.specs.Ctl.{Controller, IsIdle, Registered}
-use Rattle.trio_ctl.specs.inner.Beginning.{underway_at}
+use Rattle.trio_ctl.proofs.Words.{◌∙◌, ◌≡◌, Controller, IsIdle, Registered, ap, subst, sym, underway_at, ℕ}
 
 -- the state of what is seen
 pub state_is : {a b : Registered} → a ≡ b → a.state ≡ b.state

@@ -1,40 +1,16 @@
 -- What a grant lends is well formed: its body, its chain and its entries are in the grammar, by its own pages alone.
-use Rattle.std.proofs.Common.{◌≡◌, ℕ, zero, suc, ◌-◌, ◌<◌, true, min, ◌==◌, List, [], ◌∷◌, ◌++◌, map, length, Option, Some, None, Ok, Err, Result, sym, refl, ap, ◌∙◌, subst, inl, inr, arith}
-use Rattle.std.specs.Prelude.{nat_le, nat_lt, replicate}
-use Rattle.std.specs.Option.{option_and_then}
+use Rattle.trio_ctl.proofs.Words.{◌++◌, ◌-◌, ◌<◌, ◌==◌, ◌∙◌, ◌∷◌, ◌≡◌, AreWhole, Chain, Core, Directory, Err, In, In-cases, In-left, In-map, In-right, IsWellLent, Kept, Kind, LentPage, List, Location, None, Ok, Ok-one, OpenGrant, Option, Regular, Result, Row, Sheet, Shown, Some, State, Write, [], and_parts, ap, are_new, arith, at_page, block_sheets, body_of, chain_of, entries_of_kind, entries_on, gathered, index_sheets, inl, inr, lendable_is_home, length, length-replicate, lent_numbers, lent_sheet, ltb-true, map, map-append, map-map, met_at, nat_le, nat_lt, numbers_of_file, option_and_then, page_entries, page_from, page_of, page_there, place_there, plain, reads_from, refl, replicate, result_then, result_then-Ok, row_at, settled, settled_body, settled_chain, sheet_numbers, sheets_all, sheets_in, sheets_of, sizes_of, subst, suc, sym, there_or, true, with_pages_known, zero, ℕ}
+use Rattle.std.proofs.Common.{min}
 use Rattle.std.specs.Result.{is_ok}
-use Rattle.std.proofs.lemmas.Bool.{and_parts, ltb-true}
-use Rattle.std.proofs.lemmas.List.{length-replicate, map-append}
-use Rattle.std.proofs.lemmas.Simd.{map-map}
-use Rattle.trio_rights.specs.Row.{Row}
-use Rattle.trio_rights.specs.Sheets.{Sheet, sheet_numbers}
-use Rattle.trio_rights.specs.declared.kind.Kind.{Kind}
-use Rattle.trio_rights.specs.declared.kind.Kind.TheVariants.{Regular, Directory}
-use Rattle.trio_lists.specs.Lists.{In, are_new, both, gathered, result_map, result_then, there_or}
-use Rattle.trio_lists.proofs.Filters.{Ok-one}
-use Rattle.trio_lists.proofs.Members.{In-cases, In-left, In-map, In-right, result_then-Ok}
-use Rattle.trio_layout.specs.Body.{block_count, body_at, body_of}
-use Rattle.trio_layout.specs.Chain.{Chain, chain_from, chain_of, index_count, index_page, with_index}
-use Rattle.trio_layout.specs.Core.{Core, Location, at_page, page_of}
-use Rattle.trio_layout.specs.Entries.{entries_of_kind, entries_on, page_entries, with_names_apart}
-use Rattle.trio_layout.specs.Image.{row_at, settled_body}
+use Rattle.trio_lists.specs.Lists.{both, result_map}
+use Rattle.trio_layout.specs.Body.{block_count, body_at}
+use Rattle.trio_layout.specs.Chain.{chain_from, index_count, index_page, with_index}
+use Rattle.trio_layout.specs.Entries.{with_names_apart}
 use Rattle.trio_layout.specs.Index.{Index, index_of}
-use Rattle.trio_layout.specs.Pages.{block_sheets, index_sheets, settled_chain, sheets_of}
-use Rattle.trio_layout.specs.Survey.{plain}
-use Rattle.trio_lease.specs.Shown.{Shown}
-use Rattle.trio_lease.specs.Views.{lent_sheet}
-use Rattle.trio_lease.specs.declared.parts.LentPage.{LentPage}
-use Rattle.trio_nodes.specs.declared.grant.GrantKind.TheVariants.{Write}
 use Rattle.trio_surveys.proofs.Images.{MetAt}
-use Rattle.trio_surveys.proofs.Local.{reads_from}
-use Rattle.trio_surveys.proofs.Sheets.{page_from, page_there, place_there, sheets_all, sheets_in, with_pages_known}
-use Rattle.trio_desk.specs.Out.{AreWhole, IsWellLent, lent_core, lent_numbers, numbers_of_file}
-use Rattle.trio_state.specs.Kept.{Kept}
-use Rattle.trio_state.specs.State.{OpenGrant, State, settled}
-use Rattle.trio_laws.proofs.EndLaws.{lendable_is_home}
+use Rattle.trio_desk.specs.Out.{lent_core}
 use Rattle.trio_laws.proofs.history.Follows.{body_is_at}
-use Rattle.trio_laws.proofs.history.Listing.{body_met, chain_met, met_at}
-use Rattle.trio_laws.specs.session.Lent.{sizes_of}
+use Rattle.trio_laws.proofs.history.Listing.{body_met, chain_met}
 
 -- ---- a core that has the pages of a file reads the file alike
 

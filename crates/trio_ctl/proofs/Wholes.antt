@@ -1,9 +1,5 @@
 -- Lists of whole pages, and pages by number.
-use Rattle.std.proofs.Common.{◌≡◌, ℕ, zero, suc, Bool, true, false, ◌==◌, List, [], ◌∷◌, length, get_or, Option, Some, None, refl, sym, ap, ◌∙◌}
-use Rattle.std.specs.Prelude.{slice_get, if◌then◌else◌}
-use Rattle.std.specs.List.{list_all}
-use Rattle.std.proofs.lemmas.Bool.{and_parts, eqb-true}
-use Rattle.trio_image.specs.Image.{is_whole_page}
+use Rattle.trio_ctl.proofs.Words.{if◌then◌else◌, ◌==◌, ◌∙◌, ◌∷◌, ◌≡◌, Bool, List, None, Option, Some, [], and_parts, ap, eqb-true, false, get_or, is_whole_page, length, list_all, refl, slice_get, suc, sym, true, zero, ℕ}
 
 -- a page of whole ones has 4096 bytes
 pub whole_at : (pages : List (Option (List ℕ))) (p : ℕ) (bytes : List ℕ) → list_all is_whole_page pages ≡ true → get_or pages p None ≡ Some bytes → length bytes ≡ 4096

@@ -1,23 +1,20 @@
 -- All rows one at a time, and the rule.
-use Rattle.std.proofs.Common.{◌≡◌, ◌<◌, ◌≤◌, ◌+◌, ◌-◌, ltb, ℕ, zero, suc, eqb, cond, Bool, true, false, not, ◌&&◌, ◌||◌, List, [], ◌∷◌, length, map, get_or, Option, Some, None, is_some, inl, inr, refl, sym, ap, ◌∙◌, arith}
-use Rattle.std.specs.List.{find, list_any, list_all}
-use Rattle.std.specs.Option.{option_map}
+use Rattle.trio_edges.proofs.Words.{◌<◌, ◌∙◌, ◌≡◌, In, In-map, ListedFile, Some, [], and_parts, ap, arith, as_row, climbs_clear, comes_to_root, eqb, false, get_or, inr, is_among, is_clear, is_listed, is_regular, length, list_all, map, nat_tests, not, option_map, refl, row_in, stays_listed, sym, true, ℕ}
+use Rattle.std.proofs.Common.{◌≤◌, ◌+◌, ◌-◌, ltb, zero, suc, cond, Bool, ◌&&◌, ◌||◌, List, ◌∷◌, Option, None, is_some, inl}
+use Rattle.std.specs.List.{find, list_any}
 use Rattle.std.proofs.lemmas.List.{get_or_past}
-use Rattle.std.proofs.lemmas.Bool.{cases_Bool, cases_eq, and_left, and_right, and_parts, and_from, or_left, or_right, false≢true}
-use Rattle.std.proofs.lemmas.Bool.Decides.{nat_tests}
+use Rattle.std.proofs.lemmas.Bool.{cases_Bool, cases_eq, and_left, and_right, and_from, or_left, or_right, false≢true}
 use Rattle.trio_rights.specs.declared.kind.Kind.{Kind}
 use Rattle.trio_rights.specs.declared.kind.Kind.TheVariants.{Regular, Directory}
 use Rattle.trio_rights.specs.Kind.{same_kind}
-use Rattle.trio_lists.specs.Lists.{In, is_among}
-use Rattle.trio_lists.proofs.Members.{In-is_among, list_all-each, list_all-In, In-map}
+use Rattle.trio_lists.proofs.Members.{In-is_among, list_all-each, list_all-In}
 use Rattle.trio_lists.proofs.Filters.{list_any-In}
 use Rattle.trio_layout.specs.Allowed.{all_up_to}
-use Rattle.trio_rights.specs.Row.{Row, row_in, is_child}
-use Rattle.trio_layout.specs.Listing.{Listing, ListedEntry, ListedFile}
-use Rattle.trio_layout.specs.Edges.{climbs_clear, comes_to_root, has_file, is_listed, keeps_children, leaves_none, meets_edges, stays_listed}
+use Rattle.trio_rights.specs.Row.{Row, is_child}
+use Rattle.trio_layout.specs.Listing.{Listing, ListedEntry}
+use Rattle.trio_layout.specs.Edges.{has_file, keeps_children, leaves_none, meets_edges}
 use Rattle.trio_layout.specs.Broken.{BreaksEdges}
-use Rattle.trio_edges.specs.inner.Steps.{drops_parent, is_clear, is_regular, IsLost}
-use Rattle.trio_tables.specs.Row.{as_row}
+use Rattle.trio_edges.specs.inner.Steps.{drops_parent, IsLost}
 use Rattle.trio_case.specs.declared.listing.ListedFile.{ListedFile as FileData}
 use Rattle.trio_edges.specs.Leaves.{RegularFilesAreLeaves}
 

@@ -1,18 +1,6 @@
 -- What a session may do goes by neither its indexes, its look-ups and its room, nor by what else its desk has out.
-use Rattle.std.proofs.Common.{◌≡◌, ℕ, List, sym, ◌∙◌, subst}
-use Rattle.trio_lists.specs.Lists.{In}
-use Rattle.trio_nodes.specs.declared.call.Done.{Done}
-use Rattle.trio_desk.specs.Call.{DeskSeen}
-use Rattle.trio_desk.specs.Out.{ino_numbers}
-use Rattle.trio_desk.specs.Ready.{ComesToShown}
-use Rattle.trio_laws.proofs.session.ListedPages.{taking_keeps}
-use Rattle.trio_session.specs.Asked.{IsAlike, SameDesk}
-use Rattle.trio_session.specs.Seen.{Room, SessionSeen, in_hand, spare_numbers, spare_pages}
-use Rattle.trio_session.proofs.Alike.{alike_by, desk_same}
-use Rattle.trio_edit_laws.specs.Calls.{MayCall, MayGoOn}
-use Rattle.trio_edit_laws.specs.EditLaws.{AreSpare}
-use Rattle.trio_edit_laws.specs.TakingLaws.{TookMore}
-use Rattle.trio_edit_laws.specs.Written.{MayEdit}
+use Rattle.trio_edit_laws.proofs.Words.{◌∙◌, ◌≡◌, AreSpare, ComesToShown, DeskSeen, Done, In, IsAlike, List, MayCall, MayEdit, MayGoOn, Room, SameDesk, SessionSeen, TookMore, desk_same, in_hand, ino_numbers, spare_numbers, spare_pages, subst, sym, taking_keeps, ℕ}
+use Rattle.trio_session.proofs.Alike.{alike_by}
 use Rattle.trio_edit_laws.proofs.Shown.{comes_now}
 
 -- what a session keeps doesn't go by its calls either

@@ -1,47 +1,17 @@
 -- Pages and numbers that are wanted: what comes of it, and what an allotment leaves as it was.
-use Rattle.std.proofs.Common.{◌≡◌, ℕ, true, false, cond, eqb, List, [], ◌∷◌, ◌++◌, length, ◌+◌, Option, Some, None, Result, Ok, Err, sym, refl, ap, ◌∙◌, subst, inl, inr}
-use Rattle.std.specs.Prelude.{is_some, map, not, slice_get, slice_index_or}
-use Rattle.std.specs.List.{find, flat_map, position}
-use Rattle.std.specs.Option.{option_and_then, option_map, option_map_or, option_or}
-use Rattle.std.proofs.lemmas.Bool.{eqb-true, false≢true}
-use Rattle.std.proofs.lemmas.List.{append-nil, length-map, map-append}
-use Rattle.trio_rights.specs.Bundle.{Written}
-use Rattle.trio_rights.specs.Sheets.{Sheet}
-use Rattle.trio_rights.specs.declared.kind.Kind.{Kind}
-use Rattle.trio_lists.specs.Lists.{In, are_new, is_among}
-use Rattle.trio_lists.proofs.Filters.{filter-In, find-In}
-use Rattle.trio_lists.proofs.Members.{In-cases, In-is_among, In-left, In-map, In-right}
-use Rattle.trio_layout.specs.Entries.{body_in_slot}
-use Rattle.trio_layout.specs.Entries.{slot_bytes}
-use Rattle.trio_layout.specs.Slot.{slot_of}
-use Rattle.trio_auxdir.specs.Slots.{slots_of}
-use Rattle.trio_layout.specs.Chain.{Chain}
-use Rattle.trio_auxdir.specs.Places.{first_empty}
-use Rattle.trio_lease.specs.Shown.{LentFile, Shown}
-use Rattle.trio_lease.specs.Views.{fresh_sheet}
+use Rattle.trio_edit_laws.proofs.Words.{◌++◌, ◌+◌, ◌∙◌, ◌∷◌, ◌≡◌, ArePossible, AreSpare, Ask, Chain, ComesToShown, DeskSeen, FreshParts, HoldParts, In, In-cases, In-is_among, In-left, In-map, In-right, InoParts, IsAlike, IsFreshAllotment, IsOn, Kind, Lent, LentFile, List, Made, MadeFile, MayCall, MayEdit, MayGoOn, NamesStay, None, NotMade, NotSettled, Ok, OneCall, Option, Result, Room, SameDesk, SeenAfter, SessionSeen, Settled, Sheet, Shown, Some, Told, TookMore, Written, [], ap, append-nil, are_new, block_shown, block_shown-open, block_shown-read, body_in, body_in_slot, bundle_of, chain_in, cleared_file, cond, entry_in, eqb, eqb-true, every_number, false, false≢true, files_out, filter-In, find, find-In, first_empty, flat_map, fresh_sheet, grant_in, growth, held_file, hold_numbers, in_hand, inl, ino_numbers, inr, is_among, is_some, kind_shown, length, length-map, made_body, made_file, map, map-append, no_chain, open_kind, option_and_then, option_map, option_map_or, option_or, page_in, page_numbers, pages_in_hand, pages_shown, pages_shown-open, pages_shown-read, place_of, position, read_file, refl, same_seen, slice_get, slice_get-In, slice_index_or, slot_bytes, slot_growth, slot_of, slots_of, slots_shown, spare_numbers, spare_pages, subst, sym, taking_keeps, true, used_numbers, with_allotted, written_file, zero_page, ℕ}
+use Rattle.std.proofs.Common.{Err}
+use Rattle.std.specs.Prelude.{not}
 use Rattle.trio_lease.specs.declared.fresh.Allotted.{Allotted as AllottedPages}
-use Rattle.trio_lease.specs.declared.parts.FreshParts.{FreshParts}
-use Rattle.trio_lease.specs.declared.parts.HoldParts.{HoldParts}
-use Rattle.trio_lease.specs.declared.parts.InoParts.{InoParts}
 use Rattle.trio_nodes.specs.declared.answers.AllotFault.{AllotFault}
 use Rattle.trio_nodes.specs.declared.answers.AllotFault.TheVariants.{NoMemory}
-use Rattle.trio_desk.specs.Call.{Allot, Ask, DeskSeen, SeenAfter, Told, Lent, NotLent, Given, NotGiven, Judged, NotJudged, Settled, NotSettled, ModeSet, NotModeSet, Done as GivenBack}
-use Rattle.trio_desk.specs.Calls.{Call, Calls, Made, NotMade, OneCall}
-use Rattle.trio_desk.specs.Out.{IsFreshAllotment, files_out, hold_numbers, ino_numbers, new_ino, page_numbers, zero_page}
-use Rattle.trio_desk.specs.Ready.{ArePossible, ComesToShown, bundle_of}
-use Rattle.trio_laws.specs.session.Takes.{pages_in_hand}
-use Rattle.trio_laws.proofs.session.ListedPages.{taking_keeps}
+use Rattle.trio_desk.specs.Call.{Allot, NotLent, Given, NotGiven, Judged, NotJudged, ModeSet, NotModeSet, Done as GivenBack}
+use Rattle.trio_desk.specs.Calls.{Call, Calls}
+use Rattle.trio_desk.specs.Out.{new_ino}
 use Rattle.trio_laws.proofs.session.Starts.{map-each}
-use Rattle.trio_session.specs.Asked.{AfterWant, Allots, IsAlike, IsSame, NoWant, NoneWanted, SameDesk, SomeWanted, TellsAllotment, allot_asks, took, with_allotted}
-use Rattle.trio_session.specs.Deeds.{slot_growth}
-use Rattle.trio_session.specs.Layout.{growth, page_in}
-use Rattle.trio_session.specs.Seen.{IsOn, MadeFile, Room, SessionSeen, block_shown, body_in, chain_in, cleared_file, entry_in, every_number, grant_in, held_file, in_hand, kind_shown, made_body, made_file, no_chain, open_kind, pages_shown, place_of, read_file, room_in, slots_shown, spare_numbers, spare_pages, used_numbers, written_file}
-use Rattle.trio_session.proofs.Lists.{slice_get-In}
-use Rattle.trio_edit_laws.specs.Allotting.{AllotEnds, Allotted, FilesStay, IsToldFault, IsUngiven, NamesStay, Wanted}
-use Rattle.trio_edit_laws.specs.Calls.{MayCall, MayGoOn}
-use Rattle.trio_edit_laws.specs.EditLaws.{AreSpare}
-use Rattle.trio_edit_laws.specs.TakingLaws.{TookMore}
-use Rattle.trio_edit_laws.specs.Written.{MayEdit}
+use Rattle.trio_session.specs.Asked.{AfterWant, Allots, IsSame, NoWant, NoneWanted, SomeWanted, TellsAllotment, allot_asks, took}
+use Rattle.trio_session.specs.Seen.{room_in}
+use Rattle.trio_edit_laws.specs.Allotting.{AllotEnds, Allotted, FilesStay, IsToldFault, IsUngiven, Wanted}
 use Rattle.trio_edit_laws.proofs.Alike.{comes_same, go_on_alike, may_go_on, spare_alike}
 use Rattle.trio_edit_laws.proofs.Called.{may_same}
 use Rattle.trio_edit_laws.proofs.Keeps.{slot_held}
@@ -50,8 +20,7 @@ use Rattle.trio_edit_laws.proofs.OpenChain.{open_chain}
 use Rattle.trio_edit_laws.proofs.directories.Mades.{find-absent, number_of}
 use Rattle.trio_edit_laws.proofs.directories.Stays.{grant-none}
 use Rattle.trio_edit_laws.proofs.TakenAllotment.{keeps_allotment}
-use Rattle.trio_session.proofs.Alike.{alike_back, alike_room, alike_then, on_alike, same_seen, took_alike}
-use Rattle.trio_session.proofs.Shows.{block_shown-open, block_shown-read, pages_shown-open, pages_shown-read}
+use Rattle.trio_session.proofs.Alike.{alike_back, alike_room, alike_then, on_alike, took_alike}
 
 -- ---- what stays
 

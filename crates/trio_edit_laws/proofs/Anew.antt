@@ -1,24 +1,7 @@
 -- What an edit of one open file leaves of the others: which files are open, by which chains, with which bodies.
-use Rattle.std.proofs.Common.{◌≡◌, ℕ, ◌<◌, Bool, eqb, [], length, Option, Some, None, sym, refl, ap, ◌∙◌, inl, inr, arith}
-use Rattle.std.specs.Prelude.{map, slice_get, slice_index_or, slice_set}
-use Rattle.std.specs.List.{find, position}
-use Rattle.std.specs.Option.{option_map, option_map_or, option_or}
-use Rattle.std.proofs.lemmas.Bool.{cases_eq, eqb-true}
-use Rattle.std.proofs.lemmas.List.{get_or-set_other, get_or-set_same, length-map}
-use Rattle.std.proofs.lemmas.Option.{slice_get-get_or, slice_get-map, slice_get_within}
-use Rattle.std.proofs.lemmas.Simd.{map-map}
-use Rattle.trio_rights.specs.Bundle.{Written}
-use Rattle.trio_rights.specs.declared.kind.Kind.{Kind}
-use Rattle.trio_lists.proofs.Filters.{find-In, some_one}
-use Rattle.trio_layout.specs.Chain.{Chain}
-use Rattle.trio_lease.specs.Shown.{Shown, LentFile}
-use Rattle.trio_desk.specs.Out.{Parcel, file_numbers}
-use Rattle.trio_laws.specs.session.FileEdits.{bare_file}
-use Rattle.trio_laws.proofs.session.EditedWalk.{find-same}
-use Rattle.trio_laws.proofs.session.Namings.{find_map}
-use Rattle.trio_session.specs.Seen.{MadeFile, SessionSeen, body_in, chain_in, made_body, made_file, no_chain, open_kind, place_in, with_chain, written_file}
-use Rattle.trio_session.proofs.Found.{find-position, position-map}
-use Rattle.trio_session.proofs.Lists.{map_alike}
+use Rattle.trio_edit_laws.proofs.Words.{◌<◌, ◌∙◌, ◌≡◌, Bool, Chain, Kind, LentFile, MadeFile, None, Option, Parcel, SessionSeen, Shown, Some, Written, [], ap, arith, bare_file, body_in, cases_eq, chain_in, eqb, eqb-true, file_numbers, find, find-In, find-position, find-same, find_map, inl, inr, length, length-map, made_body, made_file, map, map-map, map_alike, no_chain, open_kind, option_map, option_map_or, option_or, place_in, position, refl, slice_get, slice_get-get_or, slice_get-map, slice_get_within, slice_index_or, slice_set, some_one, sym, with_chain, written_file, ℕ}
+use Rattle.std.proofs.lemmas.List.{get_or-set_other, get_or-set_same}
+use Rattle.trio_session.proofs.Found.{position-map}
 use Rattle.trio_edit_laws.proofs.Opens.{OpenWritten, chain-made, chain-written, chains-made, chains-written, made-written, made_file-here, made_file-other, opened, with_chain-written}
 use Rattle.trio_edit_laws.proofs.Touches.{bare_files}
 

@@ -1,19 +1,11 @@
 -- A session that has nothing yet.
-use Rattle.std.proofs.Common.{◌≡◌, ℕ, zero, suc, ◌≤◌, List, [], None, Some, refl, sym, ap, subst, arith}
+use Rattle.trio_edit_laws.proofs.Words.{◌≡◌, ◌≤◌, ComesToShown, DeskSeen, HandsInAll, In, List, MayEdit, Met, None, SessionSeen, Shown, Some, [], ap, arith, case_as_stands, emptied, nothing_is_ready, refl, subst, suc, sym, zero, ℕ}
 use native.Mathlib.Omega.{arith}
-use Rattle.trio_lists.specs.Lists.{In}
 use Rattle.trio_layout.specs.JudgedFiles.{fronts, judged_files}
-use Rattle.trio_layout.specs.Survey.{Met, descend}
-use Rattle.trio_lease.specs.Shown.{Shown}
-use Rattle.trio_desk.specs.Call.{DeskSeen}
+use Rattle.trio_layout.specs.Survey.{descend}
 use Rattle.trio_desk.specs.Out.{OutAlike, nothing_out}
-use Rattle.trio_desk.specs.Ready.{ComesToShown, HandsInAll}
 use Rattle.trio_desk.specs.Edits.{nothing}
-use Rattle.trio_laws.specs.session.Takes.{case_as_stands}
-use Rattle.trio_laws.proofs.session.Calls.{nothing_is_ready}
 use Rattle.trio_laws.proofs.session.TakenMore.{nothing_is_in_order}
-use Rattle.trio_session.specs.Seen.{SessionSeen, emptied}
-use Rattle.trio_edit_laws.specs.Written.{MayEdit}
 use Rattle.trio_edit_laws.specs.TakingLaws.{Begins, BeginsToEdit}
 
 -- where nothing is out nothing is handed in

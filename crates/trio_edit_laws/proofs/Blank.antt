@@ -1,15 +1,8 @@
 -- A directory that has blank pages behind its others: they list nothing.
-use Rattle.std.proofs.Common.{◌≡◌, ℕ, zero, suc, ◌<◌, List, [], ◌∷◌, ◌++◌, Some, Result, Ok, refl, ap, ◌∙◌, inl, inr, arith}
-use Rattle.trio_page.specs.Field.{zeros}
+use Rattle.trio_edit_laws.proofs.Words.{◌++◌, ◌<◌, ◌∙◌, ◌∷◌, ◌≡◌, Core, Directory, Empty, In, List, Ok, Result, Some, [], ap, arith, body_in_slot, empty_value, entries_within, gathered, gathered_below, inl, inr, listed_at, page_of, refl, slot_bytes, slot_entries, slot_of, suc, zero, zeros, ℕ}
 use Rattle.trio_page.proofs.Zeros.{number32_zeros, slice-zeros}
-use Rattle.trio_rights.specs.declared.kind.Kind.TheVariants.{Directory}
-use Rattle.trio_lists.specs.Lists.{In, both, gathered, gathered_below}
-use Rattle.trio_layout.specs.declared.slot.SlotRead.TheVariants.{Empty}
-use Rattle.trio_layout.specs.Core.{Core, page_of}
-use Rattle.trio_layout.specs.Entries.{body_in_slot, entries_on, listed_at, slot_bytes, slot_entries}
-use Rattle.trio_layout.specs.Slot.{slot_of}
-use Rattle.trio_layout.specs.Within.{entries_within}
-use Rattle.trio_layout.proofs.SlotLemmas.{empty_value}
+use Rattle.trio_lists.specs.Lists.{both}
+use Rattle.trio_layout.specs.Entries.{entries_on}
 
 -- each slot of a page of zeros is empty
 pub slot_of-zeros : (inodes t : ℕ) → t < 16 → slot_of inodes (slot_bytes t (zeros 4096)) ≡ Empty

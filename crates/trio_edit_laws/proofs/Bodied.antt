@@ -1,21 +1,9 @@
 -- A file whose pages were written, and then its body, where it stands: with its lease, or in the slot of a file that was made.
-use Rattle.std.proofs.Common.{◌≡◌, ℕ, ◌+◌, ◌*◌, ◌<◌, length, List, Option, Some, None, sym, refl, ap, ◌∙◌, subst, inl, inr, ◌⊎◌, arith}
-use Rattle.std.specs.Prelude.{map}
-use Rattle.std.specs.Option.{option_map_or}
-use Rattle.trio_page.specs.Field.{with_part}
-use Rattle.trio_page.proofs.Fields.{length-with_part}
-use Rattle.trio_lists.specs.Lists.{In}
-use Rattle.trio_layout.specs.Accept.{with_body_in}
-use Rattle.trio_desk.specs.Call.{DeskSeen}
-use Rattle.trio_desk.specs.Out.{Parcel}
-use Rattle.trio_laws.specs.session.FileEdits.{with_body as written_with}
-use Rattle.trio_session.specs.Layout.{Home, InSlot, Leased, page_in, with_body, with_body_at, with_part_in}
-use Rattle.trio_session.specs.Seen.{MadeFile, SessionSeen, home_in, made_file}
-use Rattle.trio_edit_laws.specs.Written.{MayEdit}
+use Rattle.trio_edit_laws.proofs.Words.{◌*◌, ◌+◌, ◌<◌, ◌∙◌, ◌≡◌, ◌⊎◌, DeskSeen, In, List, MadeFile, MayEdit, None, Option, Parcel, SessionSeen, Some, ap, arith, home_in, inl, inr, length, length-with_part, made_file, map, option_map_or, page_in, page_in-with_body, page_in-with_page_else, page_in-with_page_same, refl, subst, sym, with_body_at, with_body_in, with_part, with_part_in, written_with, ℕ}
+use Rattle.trio_session.specs.Layout.{Home, InSlot, Leased, with_body}
 use Rattle.trio_edit_laws.proofs.Keeps.{IsSlotPage, bodied_files, made_at, slot_held}
 use Rattle.trio_edit_laws.proofs.Pages.{length-page_in}
 use Rattle.trio_edit_laws.proofs.Touches.{Alters, Touches, alters_bodied, alters_more, bare_files, touches_page, touches_then}
-use Rattle.trio_session.proofs.Pages.{page_in-with_body, page_in-with_page_else, page_in-with_page_same}
 
 -- where the body of a file stands
 abbrev home_of : Option MadeFile → ℕ → Home

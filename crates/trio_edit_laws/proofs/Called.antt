@@ -1,14 +1,8 @@
 -- A session that may make calls: how it begins, and that it may always settle.
-use Rattle.std.proofs.Common.{◌≡◌, ℕ, [], Result, refl, sym, subst}
-use Rattle.trio_desk.specs.Call.{Ask, DeskSeen, NotSettled, SeenAfter, Settle, Settled, Told}
-use Rattle.trio_desk.specs.Calls.{Made, NotMade, OneCall}
-use Rattle.trio_desk.specs.Out.{LibOut}
-use Rattle.trio_laws.proofs.session.Calls.{nothing_is_ready}
-use Rattle.trio_session.specs.Asked.{AfterSettle, SameDesk}
-use Rattle.trio_session.specs.Seen.{IsOn, SessionSeen, emptied, in_hand}
-use Rattle.trio_session.proofs.Alike.{desk_same, same_seen}
-use Rattle.trio_edit_laws.specs.Written.{MayEdit}
-use Rattle.trio_edit_laws.specs.Calls.{BeginsToCall, MayBeSettled, MayCall}
+use Rattle.trio_edit_laws.proofs.Words.{◌≡◌, Ask, DeskSeen, IsOn, LibOut, Made, MayCall, MayEdit, NotMade, NotSettled, OneCall, Result, SameDesk, SeenAfter, SessionSeen, Settled, Told, [], desk_same, emptied, in_hand, nothing_is_ready, refl, same_seen, subst, sym, ℕ}
+use Rattle.trio_desk.specs.Call.{Settle}
+use Rattle.trio_session.specs.Asked.{AfterSettle}
+use Rattle.trio_edit_laws.specs.Calls.{BeginsToCall, MayBeSettled}
 use Rattle.trio_edit_laws.proofs.Beginning.{begins_to_edit}
 use Rattle.trio_edit_laws.proofs.HandsIn.{hands_in, sound}
 use Rattle.trio_edit_laws.proofs.Shown.{comes_now, order_now}

@@ -1,14 +1,5 @@
 -- Numbers that the elements of a list have, each once, where one element is replaced.
-use Rattle.std.proofs.Common.{◌≡◌, ℕ, zero, suc, true, List, [], ◌∷◌, ◌++◌, Some, sym, refl, ap, ◌∙◌, subst, inl, inr, ◌⊎◌, arith}
-use Rattle.std.specs.Prelude.{slice_get, slice_set}
-use Rattle.std.specs.List.{flat_map}
-use Rattle.std.proofs.lemmas.Bool.{and_from, and_parts}
-use Rattle.trio_lists.specs.Lists.{In, are_new}
-use Rattle.trio_lists.proofs.Gathered.{new_beside}
-use Rattle.trio_lists.proofs.Marked.{are_new-append}
-use Rattle.trio_lists.proofs.Members.{In-cases, In-left, In-right, In-flat}
-use Rattle.trio_lists.proofs.New.{are_new-before, are_new-fewer}
-use Rattle.trio_session.proofs.Lists.{slice_get-In}
+use Rattle.trio_edit_laws.proofs.Words.{◌++◌, ◌∙◌, ◌∷◌, ◌≡◌, ◌⊎◌, In, In-cases, In-flat, In-left, In-right, List, Some, [], and_from, and_parts, ap, are_new, are_new-append, are_new-before, are_new-fewer, arith, flat_map, inl, inr, new_beside, refl, slice_get, slice_get-In, slice_set, subst, suc, sym, true, zero, ℕ}
 
 -- numbers of two lists differ, and those of one are none of the other
 pub record AreApart (xs ys : List ℕ) : Type 0 where

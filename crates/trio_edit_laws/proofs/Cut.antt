@@ -1,14 +1,5 @@
 -- The index pages of a file that was cut.
-use Rattle.std.proofs.Common.{◌≡◌, ℕ, suc, ◌+◌, ◌-◌, ◌*◌, ◌/◌, ◌%◌, ◌<◌, ◌≤◌, true, List, [], length, take, drop, get_or, sym, ap, ◌∙◌, subst, arith}
-use Rattle.std.specs.Int.{w64}
-use Rattle.std.proofs.lemmas.Bool.{cases_lt}
-use Rattle.std.proofs.lemmas.List.{get_or-take, get_or_past, length-take}
-use Rattle.trio_page.specs.Field.{number_at}
-use Rattle.trio_page.proofs.Cursor.{IsBytes}
-use Rattle.trio_lists.specs.Lists.{are_new}
-use Rattle.trio_layout.specs.Chain.{index_count}
-use Rattle.trio_desk.specs.Out.{Parcel}
-use Rattle.trio_session.specs.Layout.{page_in, unlinked, unnamed}
+use Rattle.trio_edit_laws.proofs.Words.{◌%◌, ◌*◌, ◌+◌, ◌-◌, ◌/◌, ◌<◌, ◌∙◌, ◌≡◌, ◌≤◌, IsBytes, List, Parcel, [], ap, are_new, arith, cases_lt, drop, get_or, get_or-take, get_or_past, index_count, length, length-take, number_at, page_in, subst, suc, sym, take, true, unlinked, unnamed, w64, ℕ}
 use Rattle.trio_edit_laws.proofs.IndexFields.{In-drop, IndexSays}
 use Rattle.trio_edit_laws.proofs.Links.{AreInHand, AreWhole, Kept, in_hand-through, kept-through, kept_then, says-unlinked, says-unnamed, unlinked-through, unnamed-through}
 

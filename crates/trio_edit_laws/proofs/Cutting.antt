@@ -1,23 +1,6 @@
 -- A file that is cut.
-use Rattle.std.proofs.Common.{◌≡◌, ℕ, ◌^◌, ◌<◌, ◌≤◌, List, [], length, take, Some, refl, sym, ap, ◌∙◌, subst, inl, inr, ◌⊎◌, arith}
-use Rattle.std.specs.List.{flat_map}
-use Rattle.std.proofs.lemmas.Bool.{cases_lt}
-use Rattle.std.proofs.lemmas.List.{get_or-take, get_or_past, length-take}
-use Rattle.trio_rights.specs.declared.kind.Kind.TheVariants.{Regular, Directory}
-use Rattle.trio_lists.specs.Lists.{In}
-use Rattle.trio_lists.proofs.Members.{In-cases, In-left, In-right, flat_map-same}
-use Rattle.trio_lists.proofs.New.{are_new-take}
-use Rattle.trio_layout.specs.declared.body.Body.{Body}
-use Rattle.trio_layout.specs.Body.{block_count}
-use Rattle.trio_layout.specs.Chain.{index_count}
-use Rattle.trio_nodes.specs.Apply.{resized}
-use Rattle.trio_desk.specs.Call.{DeskSeen}
-use Rattle.trio_desk.specs.Out.{Parcel}
-use Rattle.trio_session.specs.Layout.{page_in, size_in}
-use Rattle.trio_session.specs.Seen.{IsOpen, MadeFile, SessionSeen, body_in, chain_in, cut, made_file}
-use Rattle.trio_session.proofs.Lists.{In-take}
-use Rattle.trio_edit_laws.specs.Written.{MayEdit, bytes_in}
-use Rattle.trio_edit_laws.specs.EditLaws.{GetsBytes}
+use Rattle.trio_edit_laws.proofs.Words.{◌<◌, ◌^◌, ◌∙◌, ◌≡◌, ◌≤◌, ◌⊎◌, Body, DeskSeen, Directory, GetsBytes, In, In-cases, In-left, In-right, In-take, IsOpen, List, MadeFile, MayEdit, Parcel, Regular, SessionSeen, Some, [], ap, are_new-take, arith, block_count, body_in, bytes_in, cases_lt, chain_in, flat_map, flat_map-same, get_or-take, get_or_past, index_count, inl, inr, length, length-take, made_file, page_in, refl, resized, size_in, subst, sym, take, ℕ}
+use Rattle.trio_session.specs.Seen.{cut}
 use Rattle.trio_edit_laws.proofs.Chained.{AreApart, apart_from, apart_to}
 use Rattle.trio_edit_laws.proofs.Cut.{chain_unnamed, kept-cut, says-cut}
 use Rattle.trio_edit_laws.proofs.Gets.{edit_gets}

@@ -1,48 +1,11 @@
 -- An edit of one open file: the nodes that it shows, and that all that a session keeps holds after it.
-use Rattle.std.proofs.Common.{◌≡◌, ◌≢◌, ℕ, true, false, eqb, Bool, List, [], take, Option, Some, Ok, sym, refl, ap, ◌∙◌, subst, inl, inr, arith}
-use Rattle.std.specs.Prelude.{is_some, map, if◌then◌else◌}
-use Rattle.std.specs.List.{find, flat_map}
-use Rattle.std.specs.Option.{unwrap_or}
-use Rattle.std.proofs.lemmas.Bool.{cases_eq}
-use Rattle.trio_rights.specs.Row.{Row}
-use Rattle.trio_rights.specs.declared.kind.Kind.{Kind}
-use Rattle.trio_rights.specs.declared.kind.Kind.TheVariants.{Regular, Directory}
-use Rattle.trio_lists.specs.Lists.{In, is_among}
-use Rattle.trio_lists.proofs.Gathered.{one_of}
-use Rattle.trio_lists.proofs.Members.{In-flat, In-map, In-right, flat_map-same, is_among-In, map-In}
-use Rattle.trio_layout.specs.Accept.{with_body_in}
-use Rattle.trio_layout.specs.Body.{body_at, body_of}
-use Rattle.trio_layout.specs.Chain.{Chain}
-use Rattle.trio_layout.specs.Core.{Core, page_of}
-use Rattle.trio_layout.specs.Entries.{Listed, body_in_slot}
-use Rattle.trio_layout.specs.Survey.{FileRead, Met, pages_in}
-use Rattle.trio_layout.specs.Case.{Case, file_in}
-use Rattle.trio_layout.specs.JudgedFiles.{judged_files, pages_within}
-use Rattle.trio_layout.specs.Within.{entries_within}
-use Rattle.trio_surveys.proofs.Images.{same_met, some_of}
-use Rattle.trio_layout.proofs.WithinCore.{within_from, within_to}
-use Rattle.trio_lease.specs.declared.parts.InoParts.{InoParts}
-use Rattle.trio_lease.specs.declared.parts.HoldParts.{HoldParts}
-use Rattle.trio_lease.specs.Shown.{Shown}
-use Rattle.trio_nodes.specs.Nodes.{Nodes}
-use Rattle.trio_desk.specs.Call.{DeskSeen}
-use Rattle.trio_desk.specs.Edits.{MayShow}
-use Rattle.trio_desk.specs.Out.{ino_numbers}
-use Rattle.trio_desk.specs.Ready.{ArePossible}
-use Rattle.trio_laws.specs.session.FileEdits.{SameRights, bytes_listed, core_in_hand, pages_listed, with_body as written_with}
-use Rattle.trio_laws.specs.session.JudgedEdits.{HasBodyByLease, HasBodyInSlot, HasBodyNow, IsJudgedEdit, content_of, file_beside, listed_with, met_with}
-use Rattle.trio_laws.specs.session.Sees.{IsView}
-use Rattle.trio_laws.specs.session.Takes.{Becomes, case_as_stands}
-use Rattle.trio_laws.proofs.session.Again.{hand_files_once}
-use Rattle.trio_laws.proofs.session.FileEdits.{body_stands, regular_entries}
+use Rattle.trio_edit_laws.proofs.Words.{if◌then◌else◌, ◌∙◌, ◌≡◌, ◌≢◌, AreMade, ArePossible, Becomes, Bool, Case, Chain, Core, DeskSeen, Directory, EntriesHaveRights, FileRead, HoldParts, In, In-flat, In-map, In-right, InoParts, IsUnlent, IsView, Kind, List, Listed, MadeFile, MayEdit, MayShow, Met, Nodes, Ok, Option, Regular, Row, SameRights, SessionSeen, Shown, Some, [], ap, arith, body_at, body_in, body_in_slot, body_of, body_stands, bytes_listed, case_as_stands, cases_eq, chain_in, content_of, core_in_hand, entries_within, eqb, false, file_in, find, flat_map, flat_map-same, hand_files_once, if_other, if_same, in_hand, inl, ino_numbers, inr, is_among, is_among-In, is_some, judged_files, judged_once, listed_are_in_hand, made_body, made_file, made_met, map, map-In, one_of, open_kind, page_in, page_of, pages_in, pages_within, refl, same_met, slice_get-In, some_of, subst, sym, take, true, unwrap_or, with_body_in, within_from, written_with, ℕ}
+use Rattle.trio_layout.proofs.WithinCore.{within_to}
+use Rattle.trio_laws.specs.session.FileEdits.{pages_listed}
+use Rattle.trio_laws.specs.session.JudgedEdits.{HasBodyByLease, HasBodyInSlot, HasBodyNow, IsJudgedEdit, file_beside, listed_with, met_with}
+use Rattle.trio_laws.proofs.session.FileEdits.{regular_entries}
 use Rattle.trio_laws.proofs.session.JudgedEdits.{judged_after_edit, judged_edit_shows, reads_after_edit}
 use Rattle.trio_laws.proofs.session.JudgedReads.{met_with-number}
-use Rattle.trio_laws.proofs.session.ListedPages.{listed_are_in_hand}
-use Rattle.trio_laws.proofs.session.Starts.{judged_once}
-use Rattle.trio_session.specs.Layout.{page_in}
-use Rattle.trio_session.specs.Seen.{MadeFile, SessionSeen, body_in, chain_in, in_hand, made_body, made_file, open_kind}
-use Rattle.trio_session.proofs.Lists.{if_other, if_same, slice_get-In}
-use Rattle.trio_edit_laws.specs.Written.{IsUnlent, AreMade, EntriesHaveRights, MayEdit, made_met}
 use Rattle.trio_edit_laws.proofs.Anew.{made_here, made_other, none_anew}
 use Rattle.trio_edit_laws.proofs.Blank.{entries_within-blank}
 use Rattle.trio_edit_laws.proofs.Hand.{hand_page}

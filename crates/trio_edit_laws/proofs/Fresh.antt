@@ -1,12 +1,5 @@
 -- What a desk gives now is none of what a session has in hand.
-use Rattle.std.proofs.Common.{ℕ, List, ◌++◌, sym, ◌∙◌, subst, arith}
-use Rattle.std.specs.Prelude.{map}
-use Rattle.trio_lists.specs.Lists.{In}
-use Rattle.trio_lists.proofs.Members.{In-left, In-map, In-right, map-In}
-use Rattle.trio_lease.specs.Shown.{Shown, LentFile}
-use Rattle.trio_lease.specs.declared.parts.HoldParts.{HoldParts}
-use Rattle.trio_desk.specs.Out.{LibOut, Parcel, file_numbers, files_out, hold_numbers}
-use Rattle.trio_desk.specs.Ready.{HandsInAll}
+use Rattle.trio_edit_laws.proofs.Words.{◌++◌, ◌∙◌, HandsInAll, HoldParts, In, In-left, In-map, In-right, LentFile, LibOut, List, Parcel, Shown, arith, file_numbers, files_out, hold_numbers, map, map-In, subst, sym, ℕ}
 
 module _ (out : LibOut) (b : Parcel) (back : List Shown) (all : HandsInAll out b back) where
   abbrev writes : List ℕ

@@ -1,17 +1,5 @@
 -- A regular file that is edited has these bytes, and the session reads them.
-use Rattle.std.proofs.Common.{◌≡◌, ℕ, length, List, take, ap, ◌∙◌, subst}
-use Rattle.std.specs.List.{flat_map}
-use Rattle.trio_rights.specs.declared.kind.Kind.TheVariants.{Regular}
-use Rattle.trio_layout.specs.declared.body.Body.{Body}
-use Rattle.trio_layout.specs.Chain.{Chain}
-use Rattle.trio_desk.specs.Call.{DeskSeen}
-use Rattle.trio_laws.specs.session.JudgedEdits.{content_of}
-use Rattle.trio_laws.specs.session.Takes.{Becomes}
-use Rattle.trio_laws.proofs.session.FileEdits.{body_stands}
-use Rattle.trio_session.specs.Layout.{page_in, size_in}
-use Rattle.trio_session.specs.Seen.{IsOpen, SessionSeen, chain_in, in_hand}
-use Rattle.trio_edit_laws.specs.Written.{MayEdit}
-use Rattle.trio_edit_laws.specs.EditLaws.{GetsBytes}
+use Rattle.trio_edit_laws.proofs.Words.{◌∙◌, ◌≡◌, Becomes, Body, Chain, DeskSeen, GetsBytes, IsOpen, List, MayEdit, Regular, SessionSeen, ap, body_stands, chain_in, content_of, flat_map, in_hand, length, page_in, size_in, subst, take, ℕ}
 use Rattle.trio_edit_laws.proofs.Edited.{becomes_now, may_now}
 use Rattle.trio_edit_laws.proofs.SlotsShown.{leaves_others}
 use Rattle.trio_edit_laws.proofs.Keeps.{IsEdit, body_now, chain_now, open_now}

@@ -1,36 +1,8 @@
 -- A file that grows, regular or a directory, written or made.
-use Rattle.std.proofs.Common.{◌≡◌, ℕ, suc, ◌+◌, ◌-◌, ◌*◌, ◌%◌, ◌^◌, ◌<◌, ◌≤◌, true, List, [], ◌++◌, length, take, drop, get_or, Some, refl, sym, ap, ◌∙◌, subst, inl, inr, ◌⊎◌, arith, take-append-drop}
-use Rattle.std.specs.List.{flat_map}
-use Rattle.std.proofs.lemmas.Bool.{cases_lt, eqb-true}
-use Rattle.std.proofs.lemmas.List.{get_or_past, length-append, length-drop, length-map, length-take-le}
-use Rattle.std.proofs.lemmas.List.Concat.{flat_map-append}
-use Rattle.std.proofs.lemmas.Simd.{map-map}
-use Rattle.trio_page.specs.Field.{with_part, zeros}
-use Rattle.trio_page.proofs.Cursor.{length-zeros}
-use Rattle.trio_rights.specs.Bundle.{bundle_pages}
-use Rattle.trio_rights.specs.Sheets.{Sheet}
-use Rattle.trio_rights.specs.declared.kind.Kind.{Kind}
-use Rattle.trio_rights.specs.declared.kind.Kind.TheVariants.{Regular, Directory}
-use Rattle.trio_lists.specs.Lists.{In, are_new}
-use Rattle.trio_lists.proofs.Filters.{get_or-In}
-use Rattle.trio_lists.proofs.Members.{In-cases, In-left, In-right, flat_map-same}
-use Rattle.trio_lists.proofs.New.{are_new-take}
-use Rattle.trio_layout.specs.declared.body.Body.{Body}
-use Rattle.trio_layout.specs.Body.{block_count, size_fits}
-use Rattle.trio_layout.specs.Chain.{index_count}
-use Rattle.trio_lease.specs.Views.{fresh_sheet}
-use Rattle.trio_nodes.specs.Apply.{largest_size, resized}
-use Rattle.trio_desk.specs.Call.{DeskSeen}
-use Rattle.trio_desk.specs.Contents.{AreWithinLimits}
-use Rattle.trio_desk.specs.Out.{Parcel, page_numbers}
-use Rattle.trio_desk.specs.Ready.{bundle_of}
-use Rattle.trio_laws.specs.session.Takes.{pages_in_hand}
+use Rattle.trio_edit_laws.proofs.Words.{◌%◌, ◌*◌, ◌++◌, ◌+◌, ◌-◌, ◌<◌, ◌^◌, ◌∙◌, ◌≡◌, ◌≤◌, ◌⊎◌, AreSpare, AreWithinLimits, Body, DeskSeen, Directory, GetsBytes, In, In-cases, In-left, In-right, In-take, IsOpen, Kind, List, MadeFile, MayEdit, Parcel, Regular, SessionSeen, Sheet, Some, [], ap, are_new, are_new-take, arith, block_count, body_in, bundle_of, bundle_pages, bytes_in, cases_lt, chain_in, drop, eqb-true, flat_map, flat_map-append, flat_map-same, fresh_sheet, gap, get_or, get_or-In, get_or_past, growth, in_hand, index_count, inl, inr, length, length-append, length-drop, length-map, length-take-le, length-zeros, made_file, map-map, new_index, open_kind, page_in, page_numbers, pages_in_hand, put_bytes, refl, resized, size_fits, size_in, spare_pages, subst, suc, sym, take, take-append-drop, true, with_part, zeros, ℕ}
+use Rattle.trio_nodes.specs.Apply.{largest_size}
 use Rattle.trio_laws.proofs.Accepting.{allotted_in}
-use Rattle.trio_session.specs.Layout.{gap, growth, new_index, page_in, put_bytes, size_in}
-use Rattle.trio_session.specs.Seen.{IsOpen, MadeFile, SessionSeen, body_in, chain_in, grown, in_hand, made_file, open_kind, spare_pages}
-use Rattle.trio_session.proofs.Lists.{In-take}
-use Rattle.trio_edit_laws.specs.Written.{MayEdit, bytes_in}
-use Rattle.trio_edit_laws.specs.EditLaws.{AreSpare, GetsBytes}
+use Rattle.trio_session.specs.Seen.{grown}
 use Rattle.trio_edit_laws.proofs.Chained.{AreApart, apart_from, apart_to}
 use Rattle.trio_edit_laws.proofs.Gets.{edit_gets}
 use Rattle.trio_edit_laws.proofs.Grown.{chain_named, kept-grown, says-grown}

@@ -1,30 +1,11 @@
 -- A directory, written or made, that grows by a block of empty slots.
-use Rattle.std.proofs.Common.{◌≡◌, ℕ, ◌+◌, ◌%◌, ◌^◌, ◌<◌, ◌≤◌, true, List, [], ◌∷◌, ◌++◌, append-nil, length, replicate, take, drop, Some, None, refl, sym, ap, ◌∙◌, subst, inl, inr, ◌⊎◌, arith, take-append-drop}
-use Rattle.std.specs.Prelude.{map, slice_get}
-use Rattle.std.proofs.lemmas.Bool.{eq-eqb, eqb-true}
-use Rattle.std.proofs.lemmas.List.{drop-drop, get_or_append_left, length-append, map-append}
-use Rattle.std.proofs.lemmas.Option.{slice_get-get_or}
-use Rattle.std.proofs.lemmas.List.Concat.{flat_map-append}
-use Rattle.trio_page.specs.Field.{zeros}
-use Rattle.trio_rights.specs.declared.kind.Kind.TheVariants.{Directory}
-use Rattle.trio_lists.specs.Lists.{In, are_new}
-use Rattle.trio_lists.proofs.Members.{In-cases, In-flat, In-left, In-right}
-use Rattle.trio_layout.specs.declared.body.Body.{Body}
-use Rattle.trio_layout.specs.Body.{block_count, size_fits}
-use Rattle.trio_layout.specs.Chain.{Chain}
-use Rattle.trio_layout.specs.JudgedFiles.{judged_files, pages_within}
-use Rattle.trio_auxdir.specs.declared.place.Place.{Place}
-use Rattle.trio_auxdir.specs.Slots.{slots_of, slots_on}
+use Rattle.trio_edit_laws.proofs.Words.{◌%◌, ◌++◌, ◌+◌, ◌<◌, ◌^◌, ◌∙◌, ◌∷◌, ◌≡◌, ◌≤◌, ◌⊎◌, AreSpare, AreWithinLimits, Body, Chain, DeskSeen, Directory, GetsSlots, In, In-cases, In-flat, In-left, In-right, IsOpenDir, List, MayEdit, None, Place, SessionSeen, Some, [], ap, are_new, arith, block_count, body_in, case_as_stands, chain_in, chained, drop, drop-drop, entry_shown, eq-eqb, eqb-true, every_number, flat_map-append, get_or_append_left, growth, in_hand, inl, inr, judged_files, length, length-append, map, map-append, new_index, open_kind, page_in, page_numbers, pages_shown-open, pages_within, refl, replicate, size_fits, size_in, slice_get, slice_get-get_or, slots_of, slots_shown, spare_pages, subst, sym, take, take-append-drop, true, zeros, ℕ}
+use Rattle.std.proofs.Common.{append-nil}
+use Rattle.trio_auxdir.specs.Slots.{slots_on}
 use Rattle.trio_auxdir.proofs.PageSlots.{zeros_empty}
-use Rattle.trio_desk.specs.Call.{DeskSeen}
-use Rattle.trio_desk.specs.Contents.{AreWithinLimits}
-use Rattle.trio_desk.specs.Out.{page_numbers}
-use Rattle.trio_laws.specs.session.Takes.{case_as_stands}
 use Rattle.trio_laws.proofs.session.JudgedEdits.{listed_after_judged_edit}
-use Rattle.trio_session.specs.Layout.{growth, new_index, page_in, size_in}
-use Rattle.trio_session.specs.Seen.{IsOpenDir, SessionSeen, body_in, chain_in, entry_shown, every_number, grown, in_hand, open_kind, slots_shown, spare_pages}
-use Rattle.trio_edit_laws.specs.Written.{MayEdit, chained}
-use Rattle.trio_edit_laws.specs.EditLaws.{AreSpare, GetsSlots, GrowDirShows, IsSpare}
+use Rattle.trio_session.specs.Seen.{grown}
+use Rattle.trio_edit_laws.specs.EditLaws.{GrowDirShows, IsSpare}
 use Rattle.trio_edit_laws.proofs.Chained.{apart_from}
 use Rattle.trio_edit_laws.proofs.Edited.{becomes_now, edit_is, may_now, r}
 use Rattle.trio_edit_laws.proofs.Growing.{blank_after, blocks_more_many, edit_grown, in_blocks, in_index, new-drop}
@@ -38,7 +19,6 @@ use Rattle.trio_edit_laws.proofs.Resized.{few_core}
 use Rattle.trio_edit_laws.proofs.Sized.{size_fits-body_of}
 use Rattle.trio_edit_laws.proofs.SlotsShown.{block_slots, entry_same, leaves_others, slots_of-same}
 use Rattle.trio_edit_laws.proofs.Whole.{view_then}
-use Rattle.trio_session.proofs.Shows.{pages_shown-open}
 
 -- of one element more there is just one
 one_more : (xs : List ℕ) → length xs ≡ 1 → (x : ℕ) × (xs ≡ x ∷ [])

@@ -1,15 +1,8 @@
 -- The index pages of a file that grew.
-use Rattle.std.proofs.Common.{◌≡◌, ℕ, suc, ◌+◌, ◌-◌, ◌*◌, ◌/◌, ◌%◌, ◌^◌, ◌<◌, ◌≤◌, true, List, [], ◌++◌, length, drop, get_or, refl, sym, ap, ◌∙◌, subst, inl, inr, arith}
-use Rattle.std.specs.Int.{w64}
-use Rattle.std.proofs.lemmas.Bool.{cases_lt}
-use Rattle.std.proofs.lemmas.List.{get_or-append_right, get_or-replicate, get_or_append_left, get_or_past, length-append}
-use Rattle.trio_page.specs.Field.{number_at, zeros}
-use Rattle.trio_page.proofs.Cursor.{IsBytes, length-zeros}
+use Rattle.trio_edit_laws.proofs.Words.{◌%◌, ◌*◌, ◌++◌, ◌+◌, ◌-◌, ◌/◌, ◌<◌, ◌^◌, ◌∙◌, ◌≡◌, ◌≤◌, In, IsBytes, List, Parcel, [], ap, are_new, arith, cases_lt, drop, get_or, get_or-In, get_or-append_right, get_or_append_left, get_or_past, inl, inr, length, length-append, length-zeros, linked, number_at, numbered, page_in, refl, subst, suc, sym, true, w64, ℕ}
+use Rattle.std.proofs.lemmas.List.{get_or-replicate}
+use Rattle.trio_page.specs.Field.{zeros}
 use Rattle.trio_page.proofs.Zeros.{number64_zeros}
-use Rattle.trio_lists.specs.Lists.{In, are_new}
-use Rattle.trio_lists.proofs.Filters.{get_or-In}
-use Rattle.trio_desk.specs.Out.{Parcel}
-use Rattle.trio_session.specs.Layout.{linked, numbered, page_in}
 use Rattle.trio_edit_laws.proofs.IndexFields.{In-drop, IndexSays}
 use Rattle.trio_edit_laws.proofs.Links.{AreInHand, AreWhole, Kept, in_hand-through, kept-through, kept_then, linked-through, numbered-through, says-linked, says-numbered}
 

@@ -1,35 +1,14 @@
 -- A file that is taken is had: its body, and as many whole blocks as its size says.
-use Rattle.std.proofs.Common.{◌≡◌, ℕ, ◌≤◌, true, eqb, List, [], length, map, Option, Some, None, sym, refl, ap, ◌∙◌, subst, arith}
-use Rattle.std.specs.Prelude.{is_some, unwrap_or, ◌||◌, ◌&&◌, nat_le}
-use Rattle.std.specs.Option.{option_map_or}
-use Rattle.std.specs.Str.{bytes_eq}
-use Rattle.std.proofs.lemmas.Bool.{and_parts, false≢true, leb-true}
-use Rattle.std.proofs.lemmas.Option.{cond_some}
-use Rattle.std.proofs.lemmas.List.{length-map}
-use Rattle.trio_rights.specs.declared.kind.Kind.{Kind}
-use Rattle.trio_lists.specs.Lists.{In}
-use Rattle.trio_lists.proofs.Filters.{find-In}
-use Rattle.trio_lists.proofs.Members.{In-right, map-In}
-use Rattle.trio_layout.specs.declared.body.Body.{Body}
-use Rattle.trio_layout.specs.declared.range.CoreRange.{CoreRange}
-use Rattle.trio_layout.specs.Body.{block_count, body_at, body_bytes, body_fits, body_of, head_fits, size_fits}
-use Rattle.trio_layout.specs.Chain.{index_count}
-use Rattle.trio_layout.specs.Range.{core_count}
-use Rattle.trio_surveys.proofs.Owned.{body_sized}
-use Rattle.trio_lease.specs.Shown.{Shown}
-use Rattle.trio_lease.specs.declared.parts.LentPage.{LentPage}
+use Rattle.trio_edit_laws.proofs.Words.{◌||◌, ◌∙◌, ◌≡◌, ◌≤◌, AreWithinLimits, Body, CoreRange, DeskSeen, Hold, In, In-right, IsWellLent, Kind, LentPage, List, MayEdit, None, Option, Read, SessionSeen, Shown, Sizes, Some, Write, [], and_parts, ap, arith, block_count, body_at, body_fits, body_in, body_sized, bytes_eq, chain_in, cond_some, core_count, dir_pages, eqb, false≢true, find-In, head_fits, index_count, is_some, leb-true, length, length-map, lent_core, lent_numbers, map-In, nat_le, open_kind, option_map_or, page_in, pages_shown, pages_shown-open, pages_shown-read, read_file, refl, serves, size_fits, size_in, subst, sym, true, ℕ}
+use Rattle.std.proofs.Common.{map}
+use Rattle.std.specs.Prelude.{unwrap_or, ◌&&◌}
+use Rattle.trio_layout.specs.Body.{body_bytes, body_of}
 use Rattle.trio_nodes.specs.declared.grant.GrantKind.{GrantKind}
-use Rattle.trio_nodes.specs.declared.grant.GrantKind.TheVariants.{Read, Write, Hold}
-use Rattle.trio_desk.specs.Call.{DeskSeen}
-use Rattle.trio_desk.specs.Contents.{AreWithinLimits, Sizes}
-use Rattle.trio_desk.specs.Out.{IsWellLent, lent_core, lent_numbers}
 use Rattle.trio_laws.proofs.history.Blocks.{chain_long}
-use Rattle.trio_session.specs.Layout.{page_in, size_in}
-use Rattle.trio_session.specs.Seen.{SessionSeen, body_in, body_shown, chain_in, dir_pages, open_kind, read_file, serves, pages_shown}
+use Rattle.trio_session.specs.Seen.{body_shown}
 use Rattle.trio_edit_laws.proofs.OpenChain.{open_chain}
-use Rattle.trio_edit_laws.specs.Written.{MayEdit}
 use Rattle.trio_session.specs.Deeds.{IsHad, body_had}
-use Rattle.trio_session.proofs.Shows.{body_had-open, body_had-read, body_shown-open, body_shown-read, pages_shown-open, pages_shown-read}
+use Rattle.trio_session.proofs.Shows.{body_had-open, body_had-read, body_shown-open, body_shown-read}
 
 -- no file has more blocks than there are core pages
 blocks_few : (kind : Kind) (range : CoreRange) (bytes : List ℕ) (b : Body) → body_of kind range bytes ≡ Some b → block_count b.size ≤ core_count range

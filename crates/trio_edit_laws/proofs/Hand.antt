@@ -1,34 +1,9 @@
 -- The pages in hand of a session that may go on: they are core pages, each there with its bytes.
-use Rattle.std.proofs.Common.{◌≡◌, ℕ, true, List, ◌++◌, Some, refl, sym, ap, ◌∙◌, subst, inl, inr}
-use Rattle.std.specs.Prelude.{map}
-use Rattle.std.specs.List.{flat_map}
-use Rattle.std.proofs.lemmas.List.{map-append}
-use Rattle.std.proofs.lemmas.Simd.{map-map}
+use Rattle.trio_edit_laws.proofs.Words.{◌++◌, ◌∙◌, ◌≡◌, DeskSeen, FreshParts, In, In-cases, In-left, In-map, In-right, IsWellLent, LentFile, LentPage, List, MayEdit, Met, SessionSeen, Sheet, Shown, Sizes, Some, Written, ap, bundle_of, core_in_hand, flat_map, flat_map-In, fresh_sheet, in_hand, inl, inr, is_core, lent_core, lent_numbers, lent_sheet, map, map-In, map-append, map-map, numbers_of_file, page_in, page_numbers, page_of, pages_in_hand, refl, sheet_at, subst, sym, true, written_in, ℕ}
 use Rattle.trio_page.specs.declared.page.PageNo.{PageNo}
-use Rattle.trio_rights.specs.Bundle.{Written}
-use Rattle.trio_rights.specs.Sheets.{Sheet}
-use Rattle.trio_lists.specs.Lists.{In}
-use Rattle.trio_lists.proofs.Members.{In-cases, In-left, In-map, In-right, flat_map-In, map-In}
-use Rattle.trio_layout.specs.Core.{page_of}
-use Rattle.trio_layout.specs.Range.{is_core}
-use Rattle.trio_layout.specs.Survey.{Met}
 use Rattle.trio_surveys.proofs.Sheets.{page_there}
-use Rattle.trio_lease.specs.Shown.{Shown, LentFile}
-use Rattle.trio_lease.specs.Views.{fresh_sheet, lent_sheet, written_in}
-use Rattle.trio_lease.specs.declared.parts.FreshParts.{FreshParts}
-use Rattle.trio_lease.specs.declared.parts.LentPage.{LentPage}
-use Rattle.trio_desk.specs.Call.{DeskSeen}
-use Rattle.trio_desk.specs.Contents.{Sizes}
-use Rattle.trio_desk.specs.Out.{IsWellLent, lent_core, lent_numbers, numbers_of_file, page_numbers}
-use Rattle.trio_desk.specs.Ready.{bundle_of}
-use Rattle.trio_laws.specs.session.Takes.{pages_in_hand}
-use Rattle.trio_laws.specs.session.FileEdits.{core_in_hand}
 use Rattle.trio_laws.proofs.session.LentFiles.{lent_page}
-use Rattle.trio_session.specs.Layout.{page_in}
-use Rattle.trio_session.specs.Seen.{SessionSeen, in_hand}
-use Rattle.trio_edit_laws.specs.Written.{MayEdit}
 use Rattle.trio_edit_laws.proofs.Pages.{page_of-hand}
-use Rattle.trio_session.proofs.Pages.{sheet_at}
 
 pub lent_is_core : (sizes : Sizes) (f : Shown) (n : ℕ) → IsWellLent sizes f → In n (numbers_of_file f) → is_core sizes.range n ≡ true
 lent_is_core sizes f n well i =

@@ -1,28 +1,7 @@
 -- All that is in hand stays, but for bytes: what is possible, that it is in order, and that it is all that is out.
-use Rattle.std.proofs.Common.{◌≡◌, ℕ, ◌≤◌, length, List, [], Some, sym, ap, ◌∙◌, subst, inl, inr, arith}
-use Rattle.std.specs.Prelude.{◌↔◌, map}
-use Rattle.std.proofs.lemmas.List.{length-map}
-use Rattle.std.proofs.lemmas.Simd.{map-map}
-use Rattle.trio_rights.specs.Bundle.{Written}
-use Rattle.trio_lists.specs.Lists.{In, are_new}
-use Rattle.trio_layout.specs.Core.{page_of}
-use Rattle.trio_lease.specs.Shown.{Shown}
-use Rattle.trio_lease.specs.declared.parts.FreshParts.{FreshParts}
-use Rattle.trio_lease.specs.declared.parts.HoldParts.{HoldParts}
-use Rattle.trio_lease.specs.declared.parts.InoParts.{InoParts}
-use Rattle.trio_surveys.proofs.Sheets.{among_cases}
-use Rattle.trio_desk.specs.Among.{IsAmong}
-use Rattle.trio_desk.specs.Call.{DeskSeen}
-use Rattle.trio_desk.specs.Edits.{TakesMore}
-use Rattle.trio_desk.specs.Out.{LibOut, WasGiven, file_numbers, hold_numbers, ino_numbers, page_numbers}
-use Rattle.trio_desk.specs.Ready.{HandsInAll, bundle_of, lent_files}
-use Rattle.trio_laws.specs.session.FileEdits.{core_in_hand}
-use Rattle.trio_laws.specs.session.Sees.{IsLeftAlone}
-use Rattle.trio_laws.specs.session.Takes.{IsInOrder, case_in_hand, pages_in_hand}
-use Rattle.trio_laws.proofs.session.Again.{possible_with_less}
-use Rattle.trio_session.specs.Layout.{page_in}
-use Rattle.trio_session.specs.Seen.{IsOn, SessionSeen, in_hand}
-use Rattle.trio_edit_laws.specs.Written.{IsWellGiven, MayEdit}
+use Rattle.trio_edit_laws.proofs.Words.{◌∙◌, ◌≡◌, ◌≤◌, DeskSeen, FreshParts, HandsInAll, HoldParts, In, InoParts, IsAmong, IsInOrder, IsLeftAlone, IsOn, LibOut, List, MayEdit, SessionSeen, Shown, Some, TakesMore, WasGiven, Written, [], among_cases, ap, are_new, arith, bundle_of, case_in_hand, core_in_hand, file_numbers, hold_numbers, in_hand, inl, ino_numbers, inr, length, length-map, lent_files, map, map-map, page_in, page_numbers, page_of, pages_in_hand, possible_with_less, subst, sym, ℕ}
+use Rattle.std.specs.Prelude.{◌↔◌}
+use Rattle.trio_edit_laws.specs.Written.{IsWellGiven}
 use Rattle.trio_edit_laws.proofs.Hand.{hand_is_core, hand_page}
 use Rattle.trio_edit_laws.proofs.Pages.{page_of-elsewhere, page_of-hand}
 

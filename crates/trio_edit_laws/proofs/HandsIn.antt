@@ -1,25 +1,7 @@
 -- All that is out is in hand, each thing once: on its desk a session has it so, by what it has alone.
-use Rattle.std.proofs.Common.{◌≡◌, ℕ, true, List, [], ◌++◌, length, sym, ◌∙◌, subst, inl, inr, arith}
-use Rattle.std.specs.Prelude.{map}
-use Rattle.std.specs.List.{flat_map}
-use Rattle.std.proofs.lemmas.List.{map-append}
-use Rattle.std.proofs.lemmas.Bool.{and_from}
-use Rattle.trio_page.proofs.Cursor.{length-zeros}
-use Rattle.trio_rights.specs.declared.rights.LibNo.{LibNo}
-use Rattle.trio_lists.specs.Lists.{In, are_new}
-use Rattle.trio_lists.proofs.Members.{In-map, In-right, In-cases, map-In}
-use Rattle.trio_lists.proofs.Marked.{are_new-append}
-use Rattle.trio_lists.proofs.New.{are_new-fewer}
-use Rattle.trio_lease.specs.Shown.{Shown, LentFile}
-use Rattle.trio_lease.specs.declared.fresh.Allotted.{Allotted}
+use Rattle.trio_edit_laws.proofs.Words.{◌++◌, ◌∙◌, ◌≡◌, Allotted, AreWhole, DeskSeen, FreshParts, HandsInAll, In, In-cases, In-map, In-right, InoParts, IsFreshAllotment, IsFreshLease, IsOn, LentFile, LibNo, LibOut, List, Parcel, SessionSeen, Shown, Sizes, [], and_from, are_new, are_new-append, are_new-fewer, arith, file_numbers, flat_map, hold_numbers, inl, ino_numbers, inr, length, length-zeros, map, map-In, map-append, numbers_of_file, page_numbers, pages_out, subst, sym, true, ℕ}
 use Rattle.trio_lease.specs.declared.lease.Lease.TheVariants.{Write}
-use Rattle.trio_lease.specs.declared.parts.FreshParts.{FreshParts}
-use Rattle.trio_lease.specs.declared.parts.InoParts.{InoParts}
-use Rattle.trio_desk.specs.Call.{DeskSeen}
-use Rattle.trio_desk.specs.Contents.{Sizes}
-use Rattle.trio_desk.specs.Out.{AreWhole, IsFreshAllotment, IsFreshLease, LibOut, Parcel, SameFile, file_numbers, hold_numbers, ino_numbers, numbers_of_file, page_numbers, pages_out}
-use Rattle.trio_desk.specs.Ready.{HandsInAll}
-use Rattle.trio_session.specs.Seen.{SessionSeen, IsOn}
+use Rattle.trio_desk.specs.Out.{SameFile}
 
 -- the file stands as it was lent, but for bytes
 pub record StandsAsLent (f : LentFile) : Type 0 where

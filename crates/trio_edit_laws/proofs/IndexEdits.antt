@@ -1,13 +1,7 @@
 -- What index pages say after numbers and links were written into them.
-use Rattle.std.proofs.Common.{◌≡◌, ℕ, zero, suc, ◌+◌, ◌*◌, ◌/◌, ◌%◌, ◌^◌, ◌<◌, ◌≤◌, true, cond, eqb, List, [], ◌∷◌, length, get_or, refl, sym, ap, ◌∙◌, subst, inl, inr, ◌⊎◌, arith, eq-eqb}
-use Rattle.std.specs.Int.{w64}
-use Rattle.std.proofs.lemmas.Bool.{cases_eq, cases_lt, ne_eqb}
-use Rattle.trio_page.specs.Field.{number_at, with_number}
-use Rattle.trio_page.proofs.Fields.{length-with_number, number64_again, number_at-above, number_at-below}
-use Rattle.trio_page.proofs.Cursor.{IsBytes}
-use Rattle.trio_lists.specs.Lists.{In, are_new}
-use Rattle.trio_lists.proofs.Filters.{get_or-In}
-use Rattle.trio_lists.proofs.New.{are_new-first}
+use Rattle.trio_edit_laws.proofs.Words.{◌%◌, ◌*◌, ◌+◌, ◌/◌, ◌<◌, ◌^◌, ◌∙◌, ◌∷◌, ◌≡◌, ◌≤◌, ◌⊎◌, In, IsBytes, List, [], ap, are_new, are_new-first, arith, cases_eq, cases_lt, cond, eqb, get_or, get_or-In, inl, inr, length, length-with_number, ne_eqb, number_at, refl, subst, suc, sym, true, w64, with_number, zero, ℕ}
+use Rattle.std.proofs.Common.{eq-eqb}
+use Rattle.trio_page.proofs.Fields.{number64_again, number_at-above, number_at-below}
 use Rattle.trio_edit_laws.proofs.IndexFields.{IndexSays, small-with_number}
 
 -- one page gets these bytes, and every other page has those that it had

@@ -1,43 +1,6 @@
 -- An edit of one open file, written or made: what it shows, and that the session may go on.
-use Rattle.std.proofs.Common.{◌≡◌, ℕ, ◌<◌, ◌≤◌, true, false, eqb, length, List, [], ◌++◌, get_or, Option, Some, None, sym, refl, ap, ◌∙◌, subst, inl, inr, ◌⊎◌, arith}
-use Rattle.std.specs.Prelude.{map, slice_set, if◌then◌else◌}
-use Rattle.std.specs.List.{find, flat_map}
-use Rattle.std.specs.Option.{option_map, option_map_or}
-use Rattle.std.proofs.lemmas.Bool.{cases_eq, eq-eqb, eqb-true}
-use Rattle.std.proofs.lemmas.List.{map-append}
-use Rattle.trio_rights.specs.Bundle.{Written}
-use Rattle.trio_rights.specs.Row.{Row}
-use Rattle.trio_rights.specs.declared.kind.Kind.{Kind}
-use Rattle.trio_rights.specs.declared.kind.Kind.TheVariants.{Directory}
-use Rattle.trio_page.specs.Field.{zeros}
-use Rattle.trio_lists.specs.Lists.{In, are_new}
-use Rattle.trio_lists.proofs.Filters.{In-find, find-In, get_or-In, some_one}
-use Rattle.trio_lists.proofs.Gathered.{one_keyed}
-use Rattle.trio_lists.proofs.Members.{In-left, In-right, map-In}
-use Rattle.trio_layout.specs.declared.body.Body.{Body}
-use Rattle.trio_layout.specs.declared.slot.EntryPart.{EntryPart}
-use Rattle.trio_layout.specs.declared.slot.SlotRead.TheVariants.{Entry}
-use Rattle.trio_layout.specs.Accept.{with_body_in}
-use Rattle.trio_layout.specs.Body.{block_count, body_at, body_of}
-use Rattle.trio_layout.specs.Chain.{Chain}
-use Rattle.trio_layout.specs.Core.{page_of}
-use Rattle.trio_layout.specs.Entries.{body_in_slot, slot_bytes}
-use Rattle.trio_layout.specs.Slot.{slot_of}
-use Rattle.trio_lease.specs.Shown.{Shown, LentFile}
-use Rattle.trio_nodes.specs.Nodes.{Nodes}
+use Rattle.trio_edit_laws.proofs.Words.{if◌then◌else◌, ◌++◌, ◌<◌, ◌∙◌, ◌≡◌, ◌≤◌, ◌⊎◌, ArePossible, Body, Chain, ChainsRead, DeskSeen, Directory, Entry, EntryPart, In, In-find, In-left, In-right, IsInSlot, IsNamed, Kind, LentFile, List, MadeFile, MayEdit, Nodes, None, Option, ReadsBy, Row, SameRights, SessionSeen, Shown, Some, Written, [], ap, are_new, arith, block_count, body_at, body_in, body_in_slot, body_of, cases_eq, chain_in, chained, core_in_hand, eq-eqb, eqb, eqb-true, every_number, false, file_numbers, find, find-In, flat_map, get_or, get_or-In, if_other, if_same, in_hand, inl, inr, length, listed_in_hand, made_body, made_chained, made_file, map, map-In, map-append, map-fixed, one_keyed, open_kind, option_map, option_map_or, page_in, page_of, pages_in_hand, refl, slice_set, slot_bytes, slot_of, some_one, subst, sym, true, with_body_in, written_file, written_with, zeros, ℕ}
 use Rattle.trio_surveys.proofs.Slots.{slot_by_front, with_body-body, with_body-front, with_body-other}
-use Rattle.trio_desk.specs.Call.{DeskSeen}
-use Rattle.trio_desk.specs.Out.{file_numbers}
-use Rattle.trio_desk.specs.Ready.{ArePossible}
-use Rattle.trio_laws.specs.session.Chains.{IsNamed}
-use Rattle.trio_laws.specs.session.FileEdits.{SameRights, core_in_hand, with_body as written_with}
-use Rattle.trio_laws.specs.session.Listed.{listed_in_hand}
-use Rattle.trio_laws.specs.session.Takes.{pages_in_hand}
-use Rattle.trio_laws.proofs.session.JudgedReads.{map-fixed}
-use Rattle.trio_session.specs.Layout.{page_in}
-use Rattle.trio_session.specs.Seen.{MadeFile, SessionSeen, body_in, chain_in, every_number, in_hand, made_body, made_chained, made_file, open_kind, written_file}
-use Rattle.trio_session.proofs.Lists.{if_other, if_same}
-use Rattle.trio_edit_laws.specs.Written.{ChainsRead, IsInSlot, MayEdit, ReadsBy, chained}
 use Rattle.trio_edit_laws.proofs.Anew.{FilesAnew, IsAnew, bare_anew, bare_of, body-made, body_other, chain_here, chain_other, made_here, made_none, number_is, numbers_anew, open_anew, written_body}
 use Rattle.trio_edit_laws.proofs.Chained.{apart_from, set_from, set_new}
 use Rattle.trio_edit_laws.proofs.HandStays.{HandStays, page_same}

@@ -46,3 +46,4 @@ pub mod Walkable
 pub mod directories
 pub mod Allotting
 pub mod WithSlot
+mod Words

@@ -1,21 +1,9 @@
 -- The index pages of a file after their numbers and links were written, page after page.
-use Rattle.std.proofs.Common.{◌≡◌, ℕ, zero, suc, ◌+◌, ◌-◌, ◌*◌, ◌/◌, ◌%◌, ◌^◌, ◌<◌, ◌≤◌, true, List, [], ◌∷◌, ◌++◌, length, drop, get_or, refl, sym, ap, ◌∙◌, subst, inl, inr, ◌⊎◌, append_assoc, arith}
-use Rattle.std.specs.Int.{w64}
-use Rattle.std.proofs.lemmas.Bool.{cases_eq, cases_lt}
-use Rattle.std.proofs.lemmas.List.{append-nil, drop_all, get_or_append_left, get_or-append_right, get_or_past, length-append}
-use Rattle.std.proofs.Math.Seq.{drop-cons}
-use Rattle.trio_page.specs.Field.{with_number}
-use Rattle.trio_page.proofs.Fields.{length-with_number}
-use Rattle.trio_rights.specs.Bundle.{bundle_pages}
-use Rattle.trio_lists.specs.Lists.{In, are_new}
-use Rattle.trio_lists.proofs.Filters.{get_or-In}
-use Rattle.trio_desk.specs.Out.{Parcel}
-use Rattle.trio_desk.specs.Ready.{bundle_of}
-use Rattle.trio_session.specs.Layout.{linked, numbered, page_in, unlinked, unnamed, with_block_number, with_number_in, with_page}
+use Rattle.trio_edit_laws.proofs.Words.{◌%◌, ◌*◌, ◌++◌, ◌+◌, ◌-◌, ◌/◌, ◌<◌, ◌^◌, ◌∙◌, ◌∷◌, ◌≡◌, ◌≤◌, ◌⊎◌, In, List, Parcel, [], ap, append-nil, append_assoc, are_new, arith, bundle_of, bundle_pages, cases_eq, cases_lt, drop, drop-cons, drop_all, get_or, get_or-In, get_or-append_right, get_or_append_left, get_or_past, inl, inr, length, length-append, length-with_number, linked, numbered, page_in, page_in-with_page_else, page_in-with_page_same, pages-with_page, refl, subst, suc, sym, true, unlinked, unnamed, w64, with_number, with_page, zero, ℕ}
+use Rattle.trio_session.specs.Layout.{with_block_number, with_number_in}
 use Rattle.trio_edit_laws.proofs.IndexFields.{IndexSays}
 use Rattle.trio_edit_laws.proofs.IndexEdits.{Puts, says-link, says-number, with_at, with_at-here, with_at-other}
 use Rattle.trio_edit_laws.proofs.Touches.{Touches, touches_nothing, touches_page, touches_then}
-use Rattle.trio_session.proofs.Pages.{page_in-with_page_else, page_in-with_page_same, pages-with_page}
 
 -- what holds through writes of these pages, one after another, each as long as it was
 pub record IsThrough (own : List ℕ) (R : Parcel → Parcel → Type 0) : Type 0 where

@@ -1,26 +1,7 @@
 -- More is in hand: the pages that were there are there still, with their bytes, and files that are open read by their chains.
-use Rattle.std.proofs.Common.{◌≡◌, ℕ, true, List, [], length, get_or, sym, ap, ◌∙◌, subst}
-use Rattle.trio_rights.specs.Bundle.{bundle_sheets}
-use Rattle.trio_rights.specs.Sheets.{Sheet}
-use Rattle.trio_rights.specs.declared.kind.Kind.{Kind}
-use Rattle.trio_lists.specs.Lists.{In, are_new}
-use Rattle.trio_lists.proofs.Filters.{get_or-In}
-use Rattle.trio_lists.proofs.Gathered.{one_keyed}
-use Rattle.trio_lists.proofs.Members.{In-left, In-map, map-In}
-use Rattle.trio_layout.specs.Body.{body_of}
-use Rattle.trio_layout.specs.Chain.{Chain}
-use Rattle.trio_desk.specs.Call.{DeskSeen}
-use Rattle.trio_desk.specs.Edits.{InHand}
-use Rattle.trio_desk.specs.Ready.{bundle_of}
-use Rattle.trio_laws.specs.session.Chains.{IsNamed}
-use Rattle.trio_laws.specs.session.FileEdits.{core_in_hand}
-use Rattle.trio_laws.specs.session.Takes.{pages_in_hand}
+use Rattle.trio_edit_laws.proofs.Words.{◌∙◌, ◌≡◌, Chain, DeskSeen, In, In-left, In-map, InHand, IsNamed, Kind, List, ReadsBy, SessionSeen, Sheet, [], ap, are_new, body_in, body_of, bundle_of, bundle_sheets, chain_in, core_in_hand, get_or, get_or-In, in_hand, length, map-In, one_keyed, page_in, pages_in_hand, sheet_at, sheets_of, subst, sym, true, ℕ}
 use Rattle.trio_laws.proofs.session.Reading.{page_kept}
-use Rattle.trio_session.specs.Layout.{page_in}
-use Rattle.trio_session.specs.Seen.{SessionSeen, body_in, chain_in, in_hand}
-use Rattle.trio_edit_laws.specs.Written.{ReadsBy}
 use Rattle.trio_edit_laws.proofs.Opens.{pages_of_chain}
-use Rattle.trio_session.proofs.Pages.{sheet_at, sheets_of}
 
 -- what has all the pages of the first
 abbrev pub HasPagesOf : InHand → InHand → Type 0

@@ -1,22 +1,9 @@
 -- A call that is done or refused is noted: what the calls come to, and that the session may make calls still.
-use Rattle.std.proofs.Common.{◌≡◌, List, [], ◌∷◌, ◌++◌, Option, refl, sym, ap, ◌∙◌, subst, inl, inr}
+use Rattle.trio_edit_laws.proofs.Words.{◌++◌, ◌∙◌, ◌∷◌, ◌≡◌, ArePossible, ComesToShown, DeskSeen, Done, In, In-cases, List, MayCall, MayEdit, Nodes, Option, Row, SessionSeen, Shows, TakesMore, [], ap, batch_nodes, in_hand, inl, ino_numbers, inr, parcel_case, refl, spare_numbers, spare_pages, subst, sym}
 use Rattle.std.specs.Prelude.{◌≢◌}
-use Rattle.trio_rights.specs.Row.{Row}
-use Rattle.trio_lists.specs.Lists.{In}
-use Rattle.trio_lists.proofs.Members.{In-cases}
-use Rattle.trio_nodes.specs.declared.call.Done.{Done}
 use Rattle.trio_nodes.specs.Legal.{LegalCalls}
-use Rattle.trio_nodes.specs.Nodes.{Nodes}
-use Rattle.trio_nodes.specs.After.{batch_nodes}
-use Rattle.trio_desk.specs.Call.{DeskSeen}
-use Rattle.trio_desk.specs.Edits.{DoesCall, EditShows, TakesMore}
-use Rattle.trio_desk.specs.Out.{ino_numbers}
-use Rattle.trio_desk.specs.Ready.{ArePossible, ComesToShown, parcel_case}
-use Rattle.trio_desk.specs.Shows.{Shows}
+use Rattle.trio_desk.specs.Edits.{DoesCall, EditShows}
 use Rattle.trio_laws.proofs.session.Calls.{batch_more, reply_more}
-use Rattle.trio_session.specs.Seen.{SessionSeen, in_hand, spare_numbers, spare_pages}
-use Rattle.trio_edit_laws.specs.Calls.{MayCall}
-use Rattle.trio_edit_laws.specs.Written.{MayEdit}
 use Rattle.trio_edit_laws.proofs.Alike.{edit_but}
 use Rattle.trio_edit_laws.proofs.Shown.{shown_by}
 

@@ -1,21 +1,5 @@
 -- What is known of the chain of a file that is open.
-use Rattle.std.proofs.Common.{◌≡◌, ℕ, suc, true, [], length, get_or, Some, ap, ◌∙◌}
-use Rattle.trio_rights.specs.declared.kind.Kind.{Kind}
-use Rattle.trio_rights.specs.declared.kind.Kind.TheVariants.{Regular, Directory}
-use Rattle.trio_lists.specs.Lists.{In, are_new}
-use Rattle.trio_lists.proofs.Filters.{some_one}
-use Rattle.trio_lists.proofs.Members.{In-left, In-right}
-use Rattle.trio_layout.specs.declared.body.Body.{Body}
-use Rattle.trio_layout.specs.Body.{block_count, body_at, body_of}
-use Rattle.trio_layout.specs.Chain.{Chain}
-use Rattle.trio_desk.specs.Call.{DeskSeen}
-use Rattle.trio_laws.specs.session.Takes.{pages_in_hand}
-use Rattle.trio_laws.specs.session.Chains.{IsNamed}
-use Rattle.trio_laws.specs.session.FileEdits.{core_in_hand}
-use Rattle.trio_laws.proofs.session.FileEdits.{body_stands}
-use Rattle.trio_session.specs.Layout.{page_in, size_in}
-use Rattle.trio_session.specs.Seen.{MadeFile, SessionSeen, body_in, chain_in, in_hand, open_kind}
-use Rattle.trio_edit_laws.specs.Written.{MayEdit, chained}
+use Rattle.trio_edit_laws.proofs.Words.{◌∙◌, ◌≡◌, Body, Chain, DeskSeen, Directory, In, In-left, In-right, IsNamed, Kind, MadeFile, MayEdit, Regular, SessionSeen, Some, [], ap, are_new, block_count, body_at, body_in, body_of, body_stands, chain_in, chained, core_in_hand, get_or, in_hand, length, open_kind, page_in, pages_in_hand, size_in, some_one, suc, true, ℕ}
 use Rattle.trio_edit_laws.proofs.Hand.{hand_page}
 use Rattle.trio_edit_laws.proofs.IndexFields.{AreAt, IndexSays, says-named}
 use Rattle.trio_edit_laws.proofs.Keeps.{place_of_open}

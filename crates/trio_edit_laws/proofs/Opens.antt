@@ -1,30 +1,8 @@
 -- Files that are open: where each stands among those that a session writes or made, and what stays of the others where one has another chain.
-use Rattle.std.proofs.Common.{◌≡◌, ℕ, ◌+◌, ◌-◌, ◌<◌, Bool, true, false, eqb, List, [], ◌++◌, length, Option, Some, None, sym, refl, ap, ◌∙◌, subst, inl, inr, ◌⊎◌, arith}
-use Rattle.std.specs.Prelude.{map, is_some, slice_get, slice_index_or, slice_set, if◌then◌else◌}
-use Rattle.std.specs.List.{find, position}
-use Rattle.std.specs.Option.{option_map, option_map_or}
-use Rattle.std.proofs.lemmas.Bool.{cases_eq, eqb-true}
-use Rattle.std.proofs.lemmas.List.{length-map, length-set, map-set, set-append_left, set-append_right}
-use Rattle.std.proofs.lemmas.Option.{slice_get-get_or, slice_get-map, slice_get_within}
-use Rattle.std.proofs.lemmas.Simd.{map-map}
-use Rattle.trio_rights.specs.declared.kind.Kind.{Kind}
-use Rattle.trio_lists.specs.Lists.{In, are_new}
-use Rattle.trio_lists.proofs.Filters.{find-In, some_one}
-use Rattle.trio_lists.proofs.Gathered.{one_keyed}
-use Rattle.trio_lists.proofs.Members.{In-flat}
+use Rattle.trio_edit_laws.proofs.Words.{if◌then◌else◌, ◌++◌, ◌+◌, ◌-◌, ◌<◌, ◌∙◌, ◌≡◌, ◌⊎◌, Bool, Chain, In, In-flat, Kind, LentFile, List, MadeFile, None, Option, SessionSeen, Shown, Some, [], ap, are_new, arith, cases_eq, chain_in, chained, eqb, eqb-true, false, file_numbers, find, find-In, find-position, find-same, find_map, if_other, if_same, inl, inr, is_some, left_at, length, length-map, made_chained, made_file, map, map-fixed, map-map, map_alike, no_chain, once_at, one_keyed, open_kind, option_map, option_map_or, place_in, position, position-some, refl, right_at, slice_get, slice_get-In, slice_get-get_or, slice_get-map, slice_get_within, slice_index_or, slice_set, some_of, some_one, subst, sym, true, with_chain, written_file, ℕ}
+use Rattle.std.proofs.lemmas.List.{length-set, map-set, set-append_left, set-append_right}
 use Rattle.trio_lease.proofs.Places.{set_same}
-use Rattle.trio_laws.proofs.session.JudgedReads.{map-fixed}
-use Rattle.trio_layout.specs.Chain.{Chain}
-use Rattle.trio_lease.specs.Shown.{Shown, LentFile}
-use Rattle.trio_desk.specs.Out.{file_numbers}
-use Rattle.trio_surveys.proofs.Images.{some_of}
-use Rattle.trio_laws.proofs.session.EditedWalk.{find-same}
-use Rattle.trio_laws.proofs.session.Namings.{find_map}
-use Rattle.trio_session.specs.Seen.{MadeFile, SessionSeen, chain_in, made_chained, made_file, no_chain, open_kind, place_in, with_chain, written_file}
-use Rattle.trio_session.proofs.Found.{find-position, position-some}
-use Rattle.trio_session.proofs.Given.{left_at, right_at}
-use Rattle.trio_session.proofs.Lists.{In-slice_get, if_other, if_same, map_alike, once_at, set_map, slice_get-In}
-use Rattle.trio_edit_laws.specs.Written.{chained}
+use Rattle.trio_session.proofs.Lists.{In-slice_get, set_map}
 use Rattle.trio_edit_laws.proofs.Chained.{place_new, places_apart}
 
 -- the pages of a chain

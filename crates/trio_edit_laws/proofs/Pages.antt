@@ -1,26 +1,8 @@
 -- Pages in hand by their numbers: which bytes they have, and what a write of one or of a body leaves.
-use Rattle.std.proofs.Common.{◌≡◌, ℕ, true, List, [], ◌++◌, length, Some, sym, ap, ◌∙◌, subst, inl, inr, arith}
-use Rattle.std.specs.Prelude.{map}
-use Rattle.std.specs.List.{flat_map}
-use Rattle.trio_rights.specs.Bundle.{Written, bundle_pages}
-use Rattle.trio_rights.specs.Sheets.{Sheet}
-use Rattle.trio_lists.specs.Lists.{In, are_new}
-use Rattle.trio_lists.proofs.Members.{In-cases, flat_map-In, map-In}
-use Rattle.trio_layout.specs.Range.{is_core}
-use Rattle.trio_layout.specs.Core.{page_of}
+use Rattle.trio_edit_laws.proofs.Words.{◌++◌, ◌∙◌, ◌≡◌, DeskSeen, In, In-cases, InHand, LentFile, LibOut, List, Parcel, Sheet, Some, WasGiven, Written, [], ap, are_new, arith, bundle_of, bundle_pages, core_in_hand, flat_map, flat_map-In, fresh_sheet, inl, inr, is_core, length, lent_sheet, map, map-In, page_in, page_of, pages_in_hand, sheet_at, sheets_of, subst, sym, true, written_in, ℕ}
 use Rattle.trio_surveys.proofs.SheetLaws.{page_of_at}
 use Rattle.trio_surveys.proofs.Sheets.{with_pages_apart}
-use Rattle.trio_lease.specs.Shown.{LentFile}
-use Rattle.trio_lease.specs.Views.{fresh_sheet, lent_sheet, written_in}
-use Rattle.trio_desk.specs.Call.{DeskSeen}
-use Rattle.trio_desk.specs.Out.{LibOut, Parcel, WasGiven}
-use Rattle.trio_desk.specs.Ready.{bundle_of}
-use Rattle.trio_desk.specs.Edits.{InHand}
-use Rattle.trio_laws.specs.session.Takes.{pages_in_hand}
-use Rattle.trio_laws.specs.session.FileEdits.{core_in_hand}
 use Rattle.trio_laws.proofs.session.Reading.{sheet_there}
-use Rattle.trio_session.specs.Layout.{page_in}
-use Rattle.trio_session.proofs.Pages.{sheet_at, sheets_of}
 
 -- among the core's pages in hand it has these bytes
 pub page_of-hand : (desk : DeskSeen) (h : InHand) (n : ℕ) → are_new [] (pages_in_hand h) ≡ true → In n (pages_in_hand h) → is_core desk.sizes.range n ≡ true → page_of (core_in_hand desk h) n ≡ Some (page_in h.parcel n)

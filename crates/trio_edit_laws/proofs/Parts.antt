@@ -1,14 +1,7 @@
 -- Parts that are written into bytes, one behind another and among others, and pages one after another.
-use Rattle.std.proofs.Common.{◌≡◌, ℕ, suc, ◌+◌, ◌*◌, ◌<◌, ◌≤◌, true, List, [], ◌∷◌, ◌++◌, append_assoc, drop, get_or, length, take, sym, refl, ap, ◌∙◌, subst, inl, inr, arith, take-append-drop}
-use Rattle.std.specs.List.{flat_map}
-use Rattle.std.proofs.Math.Seq.{drop-append-add, drop-cons, take-append-add, take-append_seam}
-use Rattle.std.proofs.lemmas.List.{drop-append-le, drop-drop, length-append, length-take-le, take-append-le}
-use Rattle.std.proofs.lemmas.List.Concat.{flat_map-append}
+use Rattle.trio_edit_laws.proofs.Words.{◌*◌, ◌++◌, ◌+◌, ◌<◌, ◌∙◌, ◌∷◌, ◌≡◌, ◌≤◌, In, In-left, In-right, List, [], ap, append_assoc, are_new, are_new-first, arith, drop, drop-append-le, drop-cons, drop-drop, flat_map, flat_map-append, flat_map-same, get_or, inl, inr, length, length-append, length-take-le, length-with_part, refl, subst, suc, sym, take, take-append-add, take-append-drop, take-append-le, true, ℕ}
+use Rattle.std.proofs.Math.Seq.{drop-append-add, take-append_seam}
 use Rattle.trio_page.specs.Field.{with_part}
-use Rattle.trio_page.proofs.Fields.{length-with_part}
-use Rattle.trio_lists.specs.Lists.{In, are_new}
-use Rattle.trio_lists.proofs.Members.{In-left, In-right, flat_map-same}
-use Rattle.trio_lists.proofs.New.{are_new-first}
 use Rattle.trio_edit_laws.proofs.Chained.{apart_from}
 
 -- no bytes change nothing

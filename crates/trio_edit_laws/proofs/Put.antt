@@ -1,22 +1,12 @@
 -- Bytes that are put into the blocks of a file: what they leave, and the bytes of the blocks then.
-use Rattle.std.proofs.Common.{◌≡◌, ℕ, zero, suc, ◌+◌, ◌-◌, ◌*◌, ◌/◌, ◌<◌, ◌≤◌, true, List, [], ◌++◌, append_assoc, get_or, length, max, min, take, sym, refl, ap, ◌∙◌, subst, arith}
-use Rattle.std.specs.Prelude.{slice_range}
-use Rattle.std.specs.List.{flat_map}
-use Rattle.std.proofs.lemmas.Bool.{cases_eq, eq-eqb, ne_eqb}
-use Rattle.std.proofs.lemmas.List.{length-take-le, take-append-le, take_all}
+use Rattle.trio_edit_laws.proofs.Words.{◌*◌, ◌++◌, ◌+◌, ◌-◌, ◌/◌, ◌<◌, ◌∙◌, ◌≡◌, ◌≤◌, In, LibOut, List, Parcel, WasGiven, [], ap, append_assoc, are_new, arith, bundle_of, bundle_pages, cases_eq, eq-eqb, flat_map, get_or, get_or-In, length, length-take-le, length-with_part, min, ne_eqb, page_in, page_in-with_page_else, page_in-with_page_same, put_at, put_bytes, refl, slice_range, subst, suc, sym, take, take-append-le, take_all, true, with_page, zero, ℕ}
+use Rattle.std.proofs.Common.{max}
 use Rattle.trio_page.specs.Field.{with_part, zeros}
-use Rattle.trio_page.proofs.Fields.{length-slice, length-with_part, slice-split}
-use Rattle.trio_rights.specs.Bundle.{bundle_pages}
-use Rattle.trio_lists.specs.Lists.{In, are_new}
-use Rattle.trio_lists.proofs.Filters.{get_or-In}
-use Rattle.trio_nodes.specs.Apply.{put_at}
-use Rattle.trio_desk.specs.Out.{LibOut, Parcel, WasGiven}
-use Rattle.trio_desk.specs.Ready.{bundle_of}
-use Rattle.trio_session.specs.Layout.{blocks_under, page_in, put_block, put_blocks, put_bytes, with_page}
+use Rattle.trio_page.proofs.Fields.{length-slice, slice-split}
+use Rattle.trio_session.specs.Layout.{blocks_under, put_block, put_blocks}
 use Rattle.trio_edit_laws.proofs.Pages.{length-page_in}
 use Rattle.trio_edit_laws.proofs.Parts.{length-pages, pages-part, with_part-behind, with_part-none}
 use Rattle.trio_edit_laws.proofs.Touches.{Touches, touches_nothing, touches_page, touches_then}
-use Rattle.trio_session.proofs.Pages.{page_in-with_page_else, page_in-with_page_same}
 
 -- the blocks have the bytes that they had, but for these, from an offset on
 pub record HasPut (blocks : List ℕ) (at : ℕ) (new : List ℕ) (b b' : Parcel) : Type 0 where

@@ -1,32 +1,9 @@
 -- Bytes that are put within the size of a file, written or made, stand in the node.
-use Rattle.std.proofs.Common.{◌≡◌, ℕ, ◌+◌, ◌-◌, ◌*◌, ◌<◌, ◌≤◌, List, [], ◌++◌, drop, get_or, length, length-take-le, take, take-append-drop, Option, Some, None, sym, refl, ap, ◌∙◌, subst, inl, inr, ◌⊎◌, arith}
-use Rattle.std.specs.Prelude.{slice_range}
-use Rattle.std.specs.List.{flat_map}
-use Rattle.std.proofs.lemmas.List.{drop-drop, length-drop}
+use Rattle.trio_edit_laws.proofs.Words.{◌*◌, ◌++◌, ◌+◌, ◌-◌, ◌<◌, ◌∙◌, ◌≡◌, ◌≤◌, ◌⊎◌, Body, Chain, DeskSeen, Directory, GetsBytes, In, In-left, In-right, IsNamed, IsOpen, LentFile, List, MadeFile, MayEdit, None, Option, Parcel, Regular, SessionSeen, Some, [], ap, are_new, arith, block_count, body_in, bytes_in, chain_in, core_in_hand, drop, drop-drop, flat_map, get_or, get_or-In, in_hand, inl, inr, length, length-drop, length-with_part, made_file, one_keyed, page_in, page_of, pages_in_hand, put_at, put_bytes, refl, size_in, slice_get-In, slice_range, subst, sym, take, take-append-drop, with_body_in, ℕ}
+use Rattle.std.proofs.Common.{length-take-le}
 use Rattle.trio_page.specs.Field.{with_part}
-use Rattle.trio_page.proofs.Fields.{length-with_part}
-use Rattle.trio_rights.specs.declared.kind.Kind.TheVariants.{Regular, Directory}
-use Rattle.trio_lists.specs.Lists.{In, are_new}
-use Rattle.trio_lists.proofs.Filters.{get_or-In}
-use Rattle.trio_lists.proofs.Gathered.{one_keyed}
-use Rattle.trio_lists.proofs.Members.{In-left, In-right}
-use Rattle.trio_layout.specs.declared.body.Body.{Body}
-use Rattle.trio_layout.specs.Accept.{with_body_in}
-use Rattle.trio_layout.specs.Body.{block_count}
-use Rattle.trio_layout.specs.Chain.{Chain}
-use Rattle.trio_layout.specs.Core.{page_of}
-use Rattle.trio_lease.specs.Shown.{LentFile}
-use Rattle.trio_nodes.specs.Apply.{put_at}
-use Rattle.trio_desk.specs.Call.{DeskSeen}
-use Rattle.trio_desk.specs.Out.{Parcel}
-use Rattle.trio_laws.specs.session.Chains.{IsNamed}
-use Rattle.trio_laws.specs.session.Takes.{pages_in_hand}
-use Rattle.trio_laws.specs.session.FileEdits.{core_in_hand}
-use Rattle.trio_session.specs.Layout.{page_in, put_bytes, size_in}
-use Rattle.trio_session.specs.Seen.{IsOpen, MadeFile, SessionSeen, body_in, chain_in, in_hand, made_file, put}
-use Rattle.trio_session.proofs.Lists.{slice_get-In}
-use Rattle.trio_edit_laws.specs.Written.{MayEdit, bytes_in}
-use Rattle.trio_edit_laws.specs.EditLaws.{GetsBytes, PutShows}
+use Rattle.trio_session.specs.Seen.{put}
+use Rattle.trio_edit_laws.specs.EditLaws.{PutShows}
 use Rattle.trio_edit_laws.proofs.Anew.{body-made, body-written}
 use Rattle.trio_edit_laws.proofs.Chained.{AreApart, apart_from}
 use Rattle.trio_edit_laws.proofs.Gets.{edit_gets}

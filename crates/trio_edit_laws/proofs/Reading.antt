@@ -1,45 +1,10 @@
 -- A file that is open has, as a node that is shown, the rights of its body; a regular one the bytes that the session reads.
-use Rattle.std.proofs.Common.{◌≡◌, ℕ, ◌*◌, eqb, List, [], length, length-take-le, take, Option, Some, None, Ok, sym, ap, ◌∙◌, subst, inl, inr, arith}
-use Rattle.std.specs.Prelude.{map}
-use Rattle.std.specs.List.{find, flat_map}
-use Rattle.std.specs.Option.{option_map, unwrap_or}
-use Rattle.std.proofs.lemmas.Bool.{eq-eqb, eqb-true}
-use Rattle.trio_rights.specs.Row.{Row}
-use Rattle.trio_rights.specs.declared.kind.Kind.TheVariants.{Regular}
-use Rattle.trio_lists.specs.Lists.{In}
-use Rattle.trio_lists.proofs.Filters.{In-find, find-In}
-use Rattle.trio_lists.proofs.Members.{In-right, flat_map-same}
-use Rattle.trio_layout.specs.declared.body.Body.{Body}
-use Rattle.trio_layout.specs.Chain.{Chain}
-use Rattle.trio_layout.specs.Core.{Core, page_of}
-use Rattle.trio_layout.specs.Survey.{Met}
-use Rattle.trio_layout.specs.Case.{Case}
-use Rattle.trio_layout.specs.JudgedFiles.{judged_files, written_at}
-use Rattle.trio_layout.specs.Within.{file_within}
-use Rattle.trio_surveys.proofs.Images.{same_met}
-use Rattle.trio_lease.specs.Shown.{LentFile}
-use Rattle.trio_nodes.specs.declared.node.Node.{Node}
-use Rattle.trio_nodes.specs.Nodes.{Nodes, node_at}
-use Rattle.trio_desk.specs.Call.{DeskSeen}
-use Rattle.trio_desk.specs.Agrees.{HasRights}
-use Rattle.trio_desk.specs.Contents.{rights_in}
-use Rattle.trio_desk.specs.Out.{ino_numbers}
-use Rattle.trio_desk.specs.Ready.{bundle_of}
+use Rattle.trio_edit_laws.proofs.Words.{◌*◌, ◌∙◌, ◌≡◌, Body, Case, Chain, Core, DeskSeen, HasRights, In, In-find, In-right, IsOpen, IsView, LentFile, List, MayEdit, Met, Node, Nodes, None, Ok, Option, Regular, Row, SessionSeen, Some, [], ap, arith, bare_file, body_in, body_stands, bundle_of, bytes_in, bytes_listed, case_in_hand, chain_in, core_in_hand, eq-eqb, eqb, eqb-true, file_within, find, find-In, flat_map, flat_map-same, hand_files_once, held_by, in_hand, inl, ino_numbers, inr, judged_files, judged_once, judged_there, length, map, node_at, option_map, page_in, page_of, rights_in, same_met, sees_made, sees_written, size_in, slice_get-In, subst, sym, take, unwrap_or, written_at, ℕ}
+use Rattle.std.proofs.Common.{length-take-le}
 use Rattle.trio_desk.specs.Shows.{bytes_now, pages_bytes}
-use Rattle.trio_laws.specs.session.FileEdits.{bare_file, bytes_listed, core_in_hand, read_in_hand}
-use Rattle.trio_laws.specs.session.Sees.{IsView}
-use Rattle.trio_laws.specs.session.Takes.{case_in_hand}
-use Rattle.trio_laws.proofs.session.Again.{hand_files_once}
-use Rattle.trio_laws.proofs.session.FileEdits.{body_stands}
+use Rattle.trio_laws.specs.session.FileEdits.{read_in_hand}
 use Rattle.trio_laws.proofs.session.JudgedReads.{file_within-alike}
-use Rattle.trio_laws.proofs.session.Sees.{sees_made, sees_written}
-use Rattle.trio_laws.proofs.session.Stands.{Read, judged_there}
-use Rattle.trio_laws.proofs.session.Starts.{judged_once}
-use Rattle.trio_laws.proofs.session.TakenHold.{held_by}
-use Rattle.trio_session.specs.Layout.{page_in, size_in}
-use Rattle.trio_session.specs.Seen.{IsOpen, SessionSeen, body_in, chain_in, in_hand}
-use Rattle.trio_session.proofs.Lists.{slice_get-In}
-use Rattle.trio_edit_laws.specs.Written.{MayEdit, bytes_in}
+use Rattle.trio_laws.proofs.session.Stands.{Read}
 use Rattle.trio_edit_laws.specs.EditLaws.{SeesBytes}
 use Rattle.trio_edit_laws.proofs.Anew.{body-made, body-written}
 use Rattle.trio_edit_laws.proofs.Hand.{hand_page}

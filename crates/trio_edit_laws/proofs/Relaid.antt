@@ -1,20 +1,6 @@
 -- A file whose chain was written anew, and then its body.
-use Rattle.std.proofs.Common.{◌≡◌, ℕ, suc, ◌^◌, ◌<◌, ◌≤◌, true, List, [], ◌++◌, length, get_or, Some, refl, sym, ap, ◌∙◌, subst, inl, inr, ◌⊎◌, arith}
-use Rattle.trio_lists.specs.Lists.{In, are_new}
-use Rattle.trio_lists.proofs.Members.{In-left, In-right}
-use Rattle.trio_rights.specs.declared.kind.Kind.{Kind}
-use Rattle.trio_rights.specs.declared.kind.Kind.TheVariants.{Directory}
-use Rattle.trio_layout.specs.declared.body.Body.{Body}
-use Rattle.trio_layout.specs.Body.{block_count, body_of, size_fits}
-use Rattle.trio_layout.specs.Chain.{index_count}
-use Rattle.trio_desk.specs.Call.{DeskSeen}
-use Rattle.trio_desk.specs.Out.{Parcel}
-use Rattle.trio_laws.specs.session.Takes.{pages_in_hand}
-use Rattle.trio_laws.specs.session.Chains.{IsNamed}
-use Rattle.trio_laws.specs.session.FileEdits.{core_in_hand}
-use Rattle.trio_session.specs.Layout.{body_sized, page_in, with_body_at}
-use Rattle.trio_session.specs.Seen.{MadeFile, SessionSeen, body_in, chain_in, home_in, in_hand, made_file, open_kind}
-use Rattle.trio_edit_laws.specs.Written.{MayEdit}
+use Rattle.trio_edit_laws.proofs.Words.{◌++◌, ◌<◌, ◌^◌, ◌∙◌, ◌≡◌, ◌≤◌, ◌⊎◌, Body, DeskSeen, Directory, In, In-left, In-right, IsNamed, Kind, List, MadeFile, MayEdit, Parcel, SessionSeen, Some, [], ap, are_new, arith, block_count, body_in, body_of, chain_in, core_in_hand, get_or, home_in, in_hand, index_count, inl, inr, length, made_file, open_kind, page_in, pages_in_hand, refl, size_fits, subst, suc, sym, true, with_body_at, ℕ}
+use Rattle.trio_session.specs.Layout.{body_sized}
 use Rattle.trio_edit_laws.proofs.Anew.{IsAnew}
 use Rattle.trio_edit_laws.proofs.Bodied.{alters_home, page_bodied, slot_bodied}
 use Rattle.trio_edit_laws.proofs.Chained.{apart_from}

@@ -1,23 +1,11 @@
 -- The bytes of a file that grew or was cut, and how many core pages there are.
-use Rattle.std.proofs.Common.{◌≡◌, ℕ, zero, suc, ◌+◌, ◌-◌, ◌*◌, ◌<◌, ◌≤◌, true, List, [], ◌∷◌, ◌++◌, length, take, drop, refl, sym, ap, ◌∙◌, inl, inr, append_assoc, arith}
-use Rattle.std.specs.Prelude.{map, nat_le, nat_lt, replicate}
-use Rattle.std.specs.List.{flat_map}
-use Rattle.std.proofs.lemmas.Bool.{and_parts, cases_lt, leb-true, ltb-true}
-use Rattle.std.proofs.lemmas.List.{drop_all, length-append, length-map, length-replicate, length-take, replicate-append-replicate, take-append-le, take-take, take_all, take_at}
-use Rattle.std.proofs.Math.Seq.{take-append-add}
+use Rattle.trio_edit_laws.proofs.Words.{◌*◌, ◌++◌, ◌+◌, ◌-◌, ◌<◌, ◌∙◌, ◌∷◌, ◌≡◌, ◌≤◌, CoreRange, In, List, [], and_parts, ap, append_assoc, are_new, are_new-first, arith, block_count, cases_lt, core_count, drop, drop_all, flat_map, gap, inl, inr, is_core, leb-true, length, length-append, length-map, length-take, length-zeros, map, map-In, nat_le, new_beside, refl, resized, suc, sym, take, take-append-add, take-append-le, take_all, true, zero, ℕ}
+use Rattle.std.specs.Prelude.{nat_lt, replicate}
+use Rattle.std.proofs.lemmas.Bool.{ltb-true}
+use Rattle.std.proofs.lemmas.List.{length-replicate, replicate-append-replicate, take-take, take_at}
 use Rattle.trio_page.specs.Field.{with_part, zeros}
-use Rattle.trio_page.proofs.Cursor.{length-zeros}
 use Rattle.trio_page.proofs.Zeros.{take-zeros}
-use Rattle.trio_lists.specs.Lists.{In, are_new}
-use Rattle.trio_lists.proofs.Gathered.{new_beside}
-use Rattle.trio_lists.proofs.Members.{map-In}
-use Rattle.trio_lists.proofs.New.{are_new-first}
-use Rattle.trio_layout.specs.declared.range.CoreRange.{CoreRange}
-use Rattle.trio_layout.specs.Body.{block_count}
-use Rattle.trio_layout.specs.Range.{core_count, is_core}
 use Rattle.trio_layout.proofs.Walks.{pigeons}
-use Rattle.trio_nodes.specs.Apply.{resized}
-use Rattle.trio_session.specs.Layout.{gap}
 use Rattle.trio_edit_laws.proofs.IndexFields.{AreCore}
 use Rattle.trio_edit_laws.proofs.Parts.{length-pages}
 

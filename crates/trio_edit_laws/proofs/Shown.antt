@@ -1,16 +1,6 @@
 -- What is in hand shows the nodes after its calls; and what stays of it where a desk has other things out.
-use Rattle.std.proofs.Common.{◌≡◌, List, Option, arith}
-use Rattle.trio_rights.specs.Row.{Row}
-use Rattle.trio_lease.specs.Shown.{Shown, LentFile}
-use Rattle.trio_nodes.specs.declared.call.Done.{Done}
-use Rattle.trio_nodes.specs.Nodes.{Nodes}
-use Rattle.trio_nodes.specs.After.{batch_nodes}
+use Rattle.trio_edit_laws.proofs.Words.{◌≡◌, ArePossible, Ask, ComesToShown, DeskSeen, Done, InHand, IsInOrder, IsUntouched, LentFile, LibOut, List, MayShow, Nodes, Option, Parcel, Row, SeenAfter, Shown, TakesMore, Told, arith, batch_nodes}
 use Rattle.trio_onetree.proofs.TreeStays.{tree_stays_through}
-use Rattle.trio_desk.specs.Call.{Ask, DeskSeen, SeenAfter, Told}
-use Rattle.trio_desk.specs.Edits.{InHand, MayShow, TakesMore}
-use Rattle.trio_desk.specs.Out.{LibOut, Parcel}
-use Rattle.trio_desk.specs.Ready.{ArePossible, ComesToShown}
-use Rattle.trio_laws.specs.session.Takes.{IsInOrder, IsUntouched}
 
 -- where calls come to what was in hand, it may show the nodes after them, whatever is possible now
 pub shown_by : (desk : DeskSeen) (h h' : InHand) (calls : List Done) (nodes : Nodes) (rows : List (Option Row))

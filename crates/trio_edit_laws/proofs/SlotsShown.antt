@@ -1,28 +1,8 @@
 -- What an edit of one open file leaves of all others, and of what directories show.
-use Rattle.std.proofs.Common.{◌≡◌, ◌≢◌, ℕ, ◌<◌, eqb, List, [], ◌∷◌, ◌++◌, Option, Some, None, sym, refl, ap, ◌∙◌, subst, inl, inr, arith}
-use Rattle.std.specs.Prelude.{map, not, slice_get, if◌then◌else◌}
-use Rattle.std.specs.List.{filter, find}
-use Rattle.std.specs.Option.{option_and_then, option_map, option_map_or}
-use Rattle.trio_rights.specs.declared.kind.Kind.{Kind}
-use Rattle.trio_rights.specs.declared.kind.Kind.TheVariants.{Regular, Directory}
-use Rattle.trio_lists.specs.Lists.{In, is_among}
-use Rattle.trio_lists.proofs.Members.{In-right}
-use Rattle.trio_layout.specs.Chain.{Chain}
-use Rattle.trio_layout.specs.Entries.{slot_bytes}
-use Rattle.trio_layout.specs.declared.slot.EntryPart.{EntryPart}
-use Rattle.trio_auxdir.specs.declared.place.Place.{Place}
-use Rattle.trio_desk.specs.Out.{ino_numbers}
-use Rattle.trio_lease.specs.declared.parts.InoParts.{InoParts}
-use Rattle.trio_layout.specs.Slot.{slot_of}
-use Rattle.trio_lease.specs.Shown.{Shown, page_at}
-use Rattle.trio_auxdir.specs.Slots.{name_in, slot_on, slots_of, slots_on}
+use Rattle.trio_edit_laws.proofs.Words.{if◌then◌else◌, ◌++◌, ◌<◌, ◌∙◌, ◌∷◌, ◌≡◌, ◌≢◌, Chain, DeskSeen, Directory, EntryPart, In, In-right, InoParts, Kind, List, MayEdit, None, Option, Place, Regular, SessionSeen, Shown, Some, [], ap, arith, block_shown-open, block_shown-read, chain_in, dir_pages, entry_in, entry_shown, eqb, every_number, filter, find, inl, ino_numbers, inr, is_among, map, name_in, open_kind, option_and_then, option_map, option_map_or, page_at, page_in, pages_shown-open, pages_shown-read, refl, slice_get, slice_get-In, slot_bytes, slot_of, slot_on, slots_of, slots_shown, spare_numbers, subst, sym, used_numbers, ℕ}
+use Rattle.std.specs.Prelude.{not}
+use Rattle.trio_auxdir.specs.Slots.{slots_on}
 use Rattle.trio_auxdir.proofs.PageSlots.{tabulated-same_below}
-use Rattle.trio_desk.specs.Call.{DeskSeen}
-use Rattle.trio_session.specs.Layout.{page_in}
-use Rattle.trio_session.specs.Seen.{SessionSeen, chain_in, dir_pages, entry_in, entry_shown, every_number, open_kind, slots_shown, spare_numbers, used_numbers}
-use Rattle.trio_session.proofs.Lists.{slice_get-In}
-use Rattle.trio_session.proofs.Shows.{block_shown-open, block_shown-read, pages_shown-open, pages_shown-read}
-use Rattle.trio_edit_laws.specs.Written.{MayEdit}
 use Rattle.trio_edit_laws.specs.EditLaws.{LeavesOthers}
 use Rattle.trio_edit_laws.proofs.Keeps.{IsEdit, body_else, chain_else, front_stays, made_at, made_numbers_now, open_now, other_untouched, page_stays}
 use Rattle.trio_edit_laws.proofs.OpenChain.{regular_is_none}

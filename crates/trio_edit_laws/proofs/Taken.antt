@@ -1,31 +1,5 @@
 -- What a session keeps where more was taken: of the files that it made, of the entries of its directories, and of what its desk knows.
-use Rattle.std.proofs.Common.{◌≡◌, ℕ, Bool, true, eqb, List, [], ◌++◌, Option, Some, None, sym, refl, ap, ◌∙◌, subst, inl, inr, arith}
-use Rattle.std.specs.Prelude.{is_some, map}
-use Rattle.std.specs.List.{find}
-use Rattle.std.specs.Option.{option_map_or, option_or}
-use Rattle.std.proofs.lemmas.Bool.{eq-eqb}
-use Rattle.std.proofs.lemmas.List.Folds.{find-append}
-use Rattle.trio_rights.specs.Row.{Row}
-use Rattle.trio_rights.specs.declared.kind.Kind.{Kind}
-use Rattle.trio_rights.specs.declared.kind.Kind.TheVariants.{Directory}
-use Rattle.trio_lists.specs.Lists.{In, are_new}
-use Rattle.trio_lists.proofs.Filters.{In-find, find-In}
-use Rattle.trio_layout.specs.Chain.{Chain}
-use Rattle.trio_layout.specs.Entries.{body_in_slot, slot_bytes}
-use Rattle.trio_layout.specs.Slot.{slot_of}
-use Rattle.trio_layout.specs.JudgedFiles.{judged_files}
-use Rattle.trio_lease.specs.Shown.{Shown}
-use Rattle.trio_lease.specs.declared.parts.HoldParts.{HoldParts}
-use Rattle.trio_nodes.specs.Nodes.{Nodes}
-use Rattle.trio_desk.specs.Call.{DeskSeen}
-use Rattle.trio_desk.specs.Out.{LibOut, ino_numbers}
-use Rattle.trio_desk.specs.Ready.{ArePossible}
-use Rattle.trio_laws.specs.session.Listed.{JudgesSame}
-use Rattle.trio_laws.specs.session.Sees.{AboveIsOpen, IsView}
-use Rattle.trio_laws.specs.session.Takes.{IsInOrder, Takes, case_as_stands}
-use Rattle.trio_session.specs.Layout.{page_in}
-use Rattle.trio_session.specs.Seen.{MadeFile, SessionSeen, body_in, chain_in, every_number, in_hand, made_file, open_kind, written_file}
-use Rattle.trio_edit_laws.specs.Written.{AreMade, ChainsRead, EntriesHaveRights, IsInSlot, IsUnlent, ShowsTrees, made_met}
+use Rattle.trio_edit_laws.proofs.Words.{◌++◌, ◌∙◌, ◌≡◌, AboveIsOpen, AreMade, ArePossible, Bool, Chain, ChainsRead, DeskSeen, Directory, EntriesHaveRights, HoldParts, In, In-find, IsInOrder, IsInSlot, IsUnlent, IsView, JudgesSame, Kind, LibOut, List, MadeFile, Nodes, None, Option, Row, SessionSeen, Shown, ShowsTrees, Some, Takes, [], ap, are_new, arith, body_in, body_in_slot, case_as_stands, chain_in, eq-eqb, eqb, every_number, find, find-In, find-append, in_hand, inl, ino_numbers, inr, is_some, judged_files, made_file, made_met, map, open_kind, option_map_or, option_or, page_in, refl, slot_bytes, slot_of, subst, sym, true, written_file, ℕ}
 use Rattle.trio_edit_laws.proofs.Shown.{possible_before}
 
 -- ---- a desk that has other things out

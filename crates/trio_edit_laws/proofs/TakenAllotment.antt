@@ -1,41 +1,12 @@
 -- Pages and numbers that a session takes leave it able to go on, and the pages are spare.
-use Rattle.std.proofs.Common.{◌≡◌, ℕ, ◌<◌, ◌≤◌, true, List, [], ◌++◌, Option, refl, sym, ap, ◌∙◌, subst, inl, inr, arith, Bool}
+use Rattle.trio_edit_laws.proofs.Words.{◌++◌, ◌<◌, ◌∙◌, ◌≡◌, ◌≤◌, Allotted, ArePossible, AreSpare, Bool, Bundle, ComesToShown, DeskSeen, In, In-cases, In-left, In-map, In-right, InoParts, IsFreshAllotment, IsInOrder, IsOn, IsView, JudgesSame, LibNo, LibOut, List, MadeFile, MayEdit, Nodes, Option, Row, SessionSeen, Sheet, ShowsTrees, Sizes, Takes, TookMore, [], ap, are_new, are_new-before, arith, batch_nodes, bundle_of, bundle_sheets, drop-append-le, filter, filter-all, filter-append, fresh_sheet, in_hand, inl, ino_numbers, inr, is_among, is_among-In, length-append, length-map, listed_are_in_hand, listed_in_hand, map-In, map-append, one_keyed, page_in, page_numbers, pages_in_hand, refl, sheet_at, spare_numbers, spare_pages, subst, sym, true, used_numbers, with_allotted, zero_page, zeros, ℕ}
 use Rattle.std.specs.Prelude.{not}
-use Rattle.std.specs.List.{filter}
 use Rattle.std.proofs.lemmas.Bool.{false_from_ne_true}
-use Rattle.std.proofs.lemmas.List.Elements.{filter-append}
-use Rattle.std.proofs.lemmas.List.{drop-append-le, length-append, length-map, map-append}
-use Rattle.trio_page.specs.Field.{zeros}
-use Rattle.trio_rights.specs.Bundle.{Bundle, bundle_sheets}
-use Rattle.trio_rights.specs.Row.{Row}
-use Rattle.trio_rights.specs.Sheets.{Sheet}
-use Rattle.trio_lists.specs.Lists.{In, are_new, is_among}
-use Rattle.trio_lists.proofs.Members.{In-cases, In-left, In-map, In-right, is_among-In, map-In}
-use Rattle.trio_lists.proofs.Gathered.{one_keyed}
-use Rattle.trio_lists.proofs.New.{are_new-before}
-use Rattle.trio_lease.specs.Views.{fresh_sheet}
-use Rattle.trio_lease.specs.declared.fresh.Allotted.{Allotted}
-use Rattle.trio_lease.specs.declared.parts.InoParts.{InoParts}
-use Rattle.trio_rights.specs.declared.rights.LibNo.{LibNo}
-use Rattle.trio_nodes.specs.Nodes.{Nodes}
-use Rattle.trio_nodes.specs.After.{batch_nodes}
-use Rattle.trio_desk.specs.Call.{DeskSeen}
-use Rattle.trio_desk.specs.Contents.{Sizes}
-use Rattle.trio_desk.specs.Out.{IsFreshAllotment, LibOut, ino_numbers, page_numbers, zero_page}
-use Rattle.trio_desk.specs.Ready.{ArePossible, ComesToShown, bundle_of}
-use Rattle.trio_laws.specs.session.Listed.{JudgesSame, listed_in_hand}
-use Rattle.trio_laws.specs.session.Sees.{IsView}
-use Rattle.trio_laws.specs.session.Takes.{IsInOrder, Takes, pages_in_hand}
 use Rattle.trio_laws.proofs.session.Fresh.{fresh_is_new}
 use Rattle.trio_laws.proofs.session.JudgedAllotments.{judged_after_allotment}
-use Rattle.trio_laws.proofs.session.ListedPages.{listed_after_allotment, listed_are_in_hand}
+use Rattle.trio_laws.proofs.session.ListedPages.{listed_after_allotment}
 use Rattle.trio_laws.proofs.session.TakenMore as more
-use Rattle.trio_session.specs.Layout.{page_in}
-use Rattle.trio_session.specs.Seen.{IsOn, MadeFile, SessionSeen, in_hand, spare_numbers, spare_pages, used_numbers}
-use Rattle.trio_session.specs.Asked.{with_allotted}
-use Rattle.trio_edit_laws.specs.Written.{MayEdit, ShowsTrees}
-use Rattle.trio_edit_laws.specs.EditLaws.{AreSpare}
-use Rattle.trio_edit_laws.specs.TakingLaws.{KeepsAllotment, TookMore}
+use Rattle.trio_edit_laws.specs.TakingLaws.{KeepsAllotment}
 use Rattle.trio_edit_laws.proofs.Shown.{comes_now, desk_after, order_now, shown_by}
 use Rattle.trio_edit_laws.proofs.HandsIn.{hands_in, sound_allotted}
 use Rattle.trio_edit_laws.proofs.Keeps.{place_of_open, slot_held}
@@ -43,8 +14,6 @@ use Rattle.trio_edit_laws.proofs.MorePages.{HasPagesOf, page_in-more, pages_of_m
 use Rattle.trio_edit_laws.proofs.Opens.{open_chained}
 use Rattle.trio_edit_laws.proofs.Taken.{HasMadeOf, body-taken, chains_now, entries_now, entries_taken, held_now, made_now, made_taken, shows_now}
 use Rattle.trio_edit_laws.proofs.Whole.{shows_after}
-use Rattle.trio_session.proofs.Pages.{sheet_at}
-use Rattle.trio_session.proofs.Numbers.{filter-all}
 
 -- the session with what is given
 abbrev given_to : SessionSeen → Allotted → SessionSeen

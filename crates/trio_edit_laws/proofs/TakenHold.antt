@@ -1,40 +1,12 @@
 -- A hold that a session takes leaves it able to go on.
-use Rattle.std.proofs.Common.{◌≡◌, ℕ, true, eqb, List, [], ◌∷◌, ◌++◌, Option, None, Some, sym, refl, ap, ◌∙◌, subst, inl, inr}
-use Rattle.std.specs.Prelude.{is_some}
-use Rattle.std.proofs.lemmas.Bool.{and_from, eq-eqb, eqb-true}
-use Rattle.std.proofs.lemmas.List.{map-append}
-use Rattle.trio_rights.specs.Row.{Row}
-use Rattle.trio_lists.specs.Lists.{In, are_new}
-use Rattle.trio_lists.proofs.Filters.{In-find}
-use Rattle.trio_lists.proofs.Gathered.{new_beside}
-use Rattle.trio_lists.proofs.Marked.{are_new-append}
-use Rattle.trio_lists.proofs.Members.{In-cases, In-flat, In-left, In-map}
-use Rattle.trio_layout.specs.Body.{body_at, body_of}
-use Rattle.trio_layout.specs.Case.{Case, file_in}
-use Rattle.trio_layout.specs.Entries.{Listed}
-use Rattle.trio_layout.specs.JudgedFiles.{judged_files}
-use Rattle.trio_layout.specs.Survey.{Met}
-use Rattle.trio_lease.specs.Shown.{Shown}
+use Rattle.trio_edit_laws.proofs.Words.{◌++◌, ◌∙◌, ◌∷◌, ◌≡◌, AboveIsOpen, ArePossible, Case, ComesToShown, DeskSeen, HoldParts, In, In-cases, In-find, In-flat, In-left, In-map, IsFreshLease, IsInOrder, IsLeftAlone, IsListedNow, IsOn, IsView, JudgesSame, LibOut, List, Listed, MayEdit, Met, Naming, Nodes, None, Option, Parcel, Row, SessionSeen, Shown, ShowsTrees, Some, Takes, TakesMore, TookMore, [], and_from, ap, are_new, are_new-append, body_at, body_of, case_as_stands, eq-eqb, eqb, eqb-true, file_in, file_numbers, files_out, hold_numbers, in_hand, inl, inr, is_some, judged_files, made_file, map-append, naming_of, new_beside, possible_with_less, refl, subst, sym, true, with_lease, ℕ}
 use Rattle.trio_lease.specs.declared.lease.Lease.TheVariants.{Hold}
-use Rattle.trio_lease.specs.declared.parts.HoldParts.{HoldParts}
-use Rattle.trio_nodes.specs.Nodes.{Nodes}
-use Rattle.trio_desk.specs.Call.{DeskSeen}
-use Rattle.trio_desk.specs.Edits.{TakesMore}
-use Rattle.trio_desk.specs.Out.{IsFreshLease, LibOut, Parcel, file_numbers, files_out, hold_numbers}
-use Rattle.trio_desk.specs.Ready.{ArePossible, ComesToShown}
-use Rattle.trio_desk.specs.Shows.{Naming, naming_of, namings_in}
-use Rattle.trio_laws.specs.session.Listed.{JudgesSame}
-use Rattle.trio_laws.specs.session.Sees.{AboveIsOpen, IsLeftAlone, IsView}
-use Rattle.trio_laws.specs.session.Takes.{IsInOrder, Takes, case_as_stands}
-use Rattle.trio_laws.proofs.session.Again.{possible_with_less}
+use Rattle.trio_desk.specs.Shows.{namings_in}
 use Rattle.trio_laws.proofs.session.Fresh.{fresh_is_free}
 use Rattle.trio_laws.proofs.session.JudgedTakings.{judged_after_hold}
 use Rattle.trio_laws.proofs.session.TakenHold.{takes_hold}
 use Rattle.trio_session.specs.Layout.{page_in}
-use Rattle.trio_session.specs.Seen.{SessionSeen, IsOn, in_hand, made_file}
-use Rattle.trio_session.specs.Asked.{with_lease}
-use Rattle.trio_edit_laws.specs.Written.{MayEdit, ShowsTrees}
-use Rattle.trio_edit_laws.specs.TakingLaws.{IsListedBy, IsListedNow, KeepsHold, TookMore}
+use Rattle.trio_edit_laws.specs.TakingLaws.{IsListedBy, KeepsHold}
 use Rattle.trio_edit_laws.proofs.Fresh.{read_out}
 use Rattle.trio_edit_laws.proofs.HandsIn.{hands_in, sound}
 use Rattle.trio_edit_laws.proofs.Keeps.{place_of_open}

@@ -1,29 +1,8 @@
 -- Read leases that a session takes leave it able to go on.
-use Rattle.std.proofs.Common.{◌≡◌, ℕ, true, eqb, List, [], ◌∷◌, ◌++◌, Option, None, refl, sym, ap, ◌∙◌, subst, inl, inr}
-use Rattle.std.specs.Prelude.{map}
-use Rattle.std.proofs.lemmas.Bool.{and_from, eqb-true}
-use Rattle.std.proofs.lemmas.List.{map-append}
-use Rattle.trio_lists.specs.Lists.{In, are_new}
-use Rattle.trio_lists.proofs.Gathered.{new_beside}
-use Rattle.trio_lists.proofs.Marked.{are_new-append}
-use Rattle.trio_lists.proofs.Members.{In-cases}
-use Rattle.trio_rights.specs.declared.rights.LibNo.{LibNo}
-use Rattle.trio_lease.specs.Shown.{Shown}
+use Rattle.trio_edit_laws.proofs.Words.{◌++◌, ◌∙◌, ◌∷◌, ◌≡◌, DeskSeen, HandsInAll, In, In-cases, IsFreshLease, IsInOrder, IsLeftAlone, IsOn, IsView, JudgesSame, LibNo, LibOut, List, MayEdit, Nodes, None, Option, Parcel, Row, SessionSeen, Shown, ShowsTrees, Sizes, Takes, TookMore, [], and_from, ap, are_new, are_new-append, eqb, eqb-true, files_out, in_hand, inl, inr, made_file, map, map-append, new_beside, refl, subst, sym, true, with_lease, ℕ}
 use Rattle.trio_lease.specs.declared.lease.Lease.TheVariants.{Read}
-use Rattle.trio_desk.specs.Call.{DeskSeen}
-use Rattle.trio_desk.specs.Contents.{Sizes}
-use Rattle.trio_desk.specs.Out.{IsFreshLease, LibOut, Parcel, files_out}
-use Rattle.trio_desk.specs.Ready.{HandsInAll}
-use Rattle.trio_laws.specs.session.Takes.{IsInOrder, Takes}
-use Rattle.trio_laws.specs.session.Listed.{JudgesSame}
-use Rattle.trio_laws.specs.session.Sees.{IsLeftAlone, IsView}
-use Rattle.trio_nodes.specs.Nodes.{Nodes}
-use Rattle.trio_rights.specs.Row.{Row}
 use Rattle.trio_laws.proofs.session.TakenMore.{takes_reads}
-use Rattle.trio_session.specs.Seen.{SessionSeen, IsOn, in_hand, made_file}
-use Rattle.trio_session.specs.Asked.{with_lease}
-use Rattle.trio_edit_laws.specs.Written.{MayEdit, ShowsTrees}
-use Rattle.trio_edit_laws.specs.TakingLaws.{KeepsReads, TookMore}
+use Rattle.trio_edit_laws.specs.TakingLaws.{KeepsReads}
 use Rattle.trio_edit_laws.proofs.Shown.{desk_after, order_now}
 use Rattle.trio_edit_laws.proofs.HandsIn.{hands_in, sound}
 use Rattle.trio_edit_laws.proofs.Fresh.{held_out, read_out, written_out}

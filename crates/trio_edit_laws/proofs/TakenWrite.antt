@@ -1,41 +1,9 @@
 -- A write lease that a session takes leaves it able to go on.
-use Rattle.std.proofs.Common.{◌≡◌, ℕ, ◌+◌, ◌<◌, Bool, true, cond, List, [], ◌∷◌, ◌++◌, get_or, length, Option, Some, None, sym, refl, ap, ◌∙◌, subst, inl, inr, arith, slice_get, slice_index_or}
-use Rattle.std.specs.Prelude.{is_some, map}
-use Rattle.std.specs.List.{find, flat_map, position}
-use Rattle.std.specs.Option.{option_map, option_or}
-use Rattle.std.proofs.lemmas.List.Folds.{find-append}
-use Rattle.std.proofs.lemmas.List.{append-nil, get_or_append_left, length-append, map-append}
+use Rattle.trio_edit_laws.proofs.Words.{◌++◌, ◌+◌, ◌<◌, ◌∙◌, ◌∷◌, ◌≡◌, Bool, Bundle, Chain, ChainsRead, Core, DeskSeen, In, In-cases, In-find, In-left, In-map, In-right, IsFreshLease, IsInOrder, IsLeftAlone, IsNamed, IsOn, IsUntouched, IsView, JudgesSame, Kind, LentFile, LibOut, List, MadeFile, MayEdit, Met, Nodes, None, Option, ReadsBy, Row, SessionSeen, Sheet, Shown, ShowsTrees, Some, Takes, TookMore, [], ap, append-nil, are_new, arith, bare_file, body_in, body_of, bundle_of, bundle_sheets, chain_in, chained, cond, core_in_hand, eq-eqb, eqb-true, file_numbers, files_out, find, find-In, find-append, find-position, flat_map, get_or, get_or_append_left, in_hand, inl, inr, is_some, left_at, length, length-append, lent_numbers, made_file, map, map-In, map-append, ne_eqb, new_between, no_chain, numbers_of_file, once_at, open_kind, option_map, option_or, pages_in_hand, place_in, position, position-some, refl, right_at, sheet_numbers, slice_get-In, slice_get_within, some_of, subst, sym, true, with_lease, within_from, written_at, written_file, written_in, ℕ}
+use Rattle.std.proofs.Common.{slice_get, slice_index_or}
 use Rattle.std.proofs.lemmas.Grind.{flat_map-append}
-use Rattle.std.proofs.lemmas.Option.{slice_get_within}
-use Rattle.std.proofs.lemmas.Bool.{eq-eqb, eqb-true, ne_eqb}
 use Rattle.std.proofs.Math.Seq.{get_or-append_seam}
-use Rattle.trio_rights.specs.Bundle.{Bundle, bundle_sheets}
-use Rattle.trio_rights.specs.Sheets.{Sheet, sheet_numbers}
-use Rattle.trio_rights.specs.Row.{Row}
-use Rattle.trio_rights.specs.declared.kind.Kind.{Kind}
-use Rattle.trio_lists.specs.Lists.{In, are_new}
-use Rattle.trio_lists.proofs.Filters.{In-find, find-In}
-use Rattle.trio_lists.proofs.Members.{In-left, In-right, In-cases, In-map, map-In}
-use Rattle.trio_layout.specs.Body.{body_of}
-use Rattle.trio_layout.specs.Chain.{Chain}
-use Rattle.trio_layout.specs.Core.{Core}
-use Rattle.trio_layout.specs.JudgedFiles.{written_at}
-use Rattle.trio_layout.specs.Survey.{Met}
-use Rattle.trio_layout.proofs.WithinCore.{within_from}
-use Rattle.trio_surveys.proofs.Images.{some_of}
-use Rattle.trio_nodes.specs.Nodes.{Nodes}
-use Rattle.trio_lease.specs.Shown.{Shown, LentFile}
-use Rattle.trio_lease.specs.Views.{written_in}
 use Rattle.trio_lease.specs.declared.lease.Lease.TheVariants.{Write}
-use Rattle.trio_desk.specs.Call.{DeskSeen}
-use Rattle.trio_desk.specs.Out.{IsFreshLease, LibOut, file_numbers, files_out, lent_numbers, numbers_of_file}
-use Rattle.trio_desk.specs.Ready.{bundle_of}
-use Rattle.trio_laws.specs.session.Chains.{IsNamed}
-use Rattle.trio_laws.specs.session.FileEdits.{bare_file, core_in_hand}
-use Rattle.trio_laws.specs.session.Listed.{JudgesSame}
-use Rattle.trio_laws.specs.session.Sees.{IsLeftAlone, IsView}
-use Rattle.trio_laws.specs.session.Takes.{IsInOrder, IsUntouched, Takes, pages_in_hand}
-use Rattle.trio_laws.proofs.session.Again.{new_between}
 use Rattle.trio_laws.proofs.session.Chains.{named_reads}
 use Rattle.trio_laws.proofs.session.JudgedTakings.{judged_after_write}
 use Rattle.trio_laws.proofs.session.Fresh.{fresh_is_untouched}
@@ -43,13 +11,8 @@ use Rattle.trio_laws.proofs.session.LentFiles.{lent_sheet_numbers, lent_sheets}
 use Rattle.trio_laws.proofs.session.Sees.{untouched_reads}
 use Rattle.trio_laws.proofs.session.TakenWrite as write
 use Rattle.trio_laws.proofs.session.TakenWrite.{find-skip}
-use Rattle.trio_session.specs.Seen.{MadeFile, SessionSeen, IsOn, body_in, chain_in, in_hand, made_file, no_chain, open_kind, place_in, written_file}
-use Rattle.trio_session.specs.Asked.{lent_chain, with_lease}
-use Rattle.trio_session.proofs.Found.{find-position, position-some}
-use Rattle.trio_session.proofs.Given.{left_at, right_at}
-use Rattle.trio_session.proofs.Lists.{once_at, slice_get-In}
-use Rattle.trio_edit_laws.specs.Written.{ChainsRead, MayEdit, ReadsBy, ShowsTrees, chained}
-use Rattle.trio_edit_laws.specs.TakingLaws.{KeepsWrite, TookMore}
+use Rattle.trio_session.specs.Asked.{lent_chain}
+use Rattle.trio_edit_laws.specs.TakingLaws.{KeepsWrite}
 use Rattle.trio_edit_laws.proofs.Shown.{desk_after, order_now, untouched_now}
 use Rattle.trio_edit_laws.proofs.HandsIn.{IsSound, StandsAsLent, fresh_stands, hands_in, sound}
 use Rattle.trio_edit_laws.proofs.Anew.{body-written}

@@ -1,22 +1,10 @@
 -- Writes of pages of a parcel, and of a body: what they leave.
-use Rattle.std.proofs.Common.{◌≡◌, ℕ, Bool, true, false, inl, inr, eqb, length, List, [], ◌∷◌, sym, refl, ap, ◌∙◌, subst, arith}
-use Rattle.std.specs.Prelude.{map, if◌then◌else◌}
-use Rattle.std.proofs.lemmas.Bool.{eqb-true}
-use Rattle.std.proofs.lemmas.Simd.{map-map}
-use Rattle.trio_rights.specs.Bundle.{Written, bundle_pages}
-use Rattle.trio_rights.specs.Sheets.{sheet_numbers}
-use Rattle.trio_lists.specs.Lists.{In, are_new}
-use Rattle.trio_lists.proofs.Members.{map-In}
-use Rattle.trio_lease.specs.Shown.{LentFile}
-use Rattle.trio_lease.specs.declared.parts.LentPage.{LentPage}
-use Rattle.trio_desk.specs.Out.{AreWhole, IsAllotted, IsLent, LibOut, Parcel, WasGiven, page_numbers}
-use Rattle.trio_desk.specs.Ready.{bundle_of, lent_files}
-use Rattle.trio_laws.specs.session.FileEdits.{bare_file, with_body as written_with}
-use Rattle.trio_session.specs.Layout.{block_with, body_with, file_with, fresh_with, index_with, page_in, with_body, with_page}
-use Rattle.trio_session.proofs.Lists.{map_alike}
+use Rattle.trio_edit_laws.proofs.Words.{if◌then◌else◌, ◌∙◌, ◌∷◌, ◌≡◌, AreWhole, Bool, In, LentFile, LentPage, LibOut, List, Parcel, WasGiven, Written, [], ap, are_new, arith, bare_file, bundle_of, bundle_pages, eqb, eqb-true, false, inl, inr, length, lent_files, map, map-In, map-map, map_alike, page_in, page_in-with_body, page_in-with_page_else, page_numbers, pages-with_page, refl, sheet_numbers, subst, sym, true, written_with, ℕ}
+use Rattle.trio_desk.specs.Out.{IsAllotted, IsLent}
+use Rattle.trio_session.specs.Layout.{block_with, body_with, file_with, fresh_with, index_with, with_body, with_page}
 use Rattle.trio_session.proofs.Places.{index_with-no, block_with-no}
 use Rattle.trio_session.proofs.Stays.{fresh_numbers}
-use Rattle.trio_session.proofs.Pages.{page_in-with_body, sheets_of-with_body, page_in-with_page_else, pages-with_page}
+use Rattle.trio_session.proofs.Pages.{sheets_of-with_body}
 
 -- the numbers, kinds and bodies of the written files
 abbrev pub bare_files : Parcel → List Written

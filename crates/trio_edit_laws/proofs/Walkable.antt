@@ -1,31 +1,10 @@
 -- What a session that may make calls shows and has in hand, and that it may with one lease more.
-use Rattle.std.proofs.Common.{◌≡◌, ℕ, true, false, List, ◌++◌, Option, Some, None, sym, refl, ap, ◌∙◌, subst, inl, inr}
-use Rattle.std.specs.Prelude.{◌||◌, is_some, map}
-use Rattle.std.specs.List.{flat_map}
-use Rattle.std.specs.Option.{option_map, option_or}
-use Rattle.trio_rights.specs.Row.{Row}
-use Rattle.trio_rights.specs.declared.kind.Kind.{Kind}
-use Rattle.trio_lists.specs.Lists.{In}
-use Rattle.trio_lists.proofs.Members.{In-cases, In-flat, In-left, In-right, flat_map-In, map-In}
-use Rattle.trio_layout.specs.Chain.{Chain}
-use Rattle.trio_lease.specs.Shown.{LentFile, Shown}
+use Rattle.trio_edit_laws.proofs.Words.{◌++◌, ◌||◌, ◌∙◌, ◌≡◌, AboveIsOpen, ArePossible, Chain, DeskSeen, Directory, Hold, HoldParts, In, In-cases, In-flat, In-left, In-right, IsFreshLease, IsListedNow, IsOn, IsView, Kind, Lent, LentFile, List, MadeFile, MayCall, MayShow, Node, Nodes, None, Option, Read, Rights, Row, SeenAfter, SessionSeen, Shown, Some, Write, ap, batch_nodes, body_in, false, flat_map, flat_map-In, held_file, in_hand, inl, inr, is_some, made_file, map, map-In, node_at, numbers_of_file, open_kind, option_map, option_or, pages_in_hand, pages_out, read_file, refl, rights_in, rights_of, same_seen, serves, subst, sym, true, with_lease, written_file, ℕ}
 use Rattle.trio_lease.specs.declared.lease.Lease.TheVariants.{Write as WriteLease, Read as ReadLease, Hold as HoldLease}
-use Rattle.trio_nodes.specs.declared.grant.GrantKind.TheVariants.{Read, Write, Hold}
-use Rattle.trio_nodes.specs.declared.node.Node.{Node}
-use Rattle.trio_nodes.specs.Nodes.{Nodes, node_at}
-use Rattle.trio_nodes.specs.After.{batch_nodes}
-use Rattle.trio_desk.specs.Call.{DeskSeen, Grant, Lent, SeenAfter}
-use Rattle.trio_desk.specs.Contents.{Rights, rights_in, rights_of}
-use Rattle.trio_desk.specs.Edits.{MayShow}
-use Rattle.trio_desk.specs.Out.{IsFreshLease, numbers_of_file, pages_out}
-use Rattle.trio_desk.specs.Ready.{ArePossible}
-use Rattle.trio_laws.specs.session.Sees.{AboveIsOpen, IsView}
-use Rattle.trio_laws.specs.session.Takes.{pages_in_hand}
+use Rattle.trio_desk.specs.Call.{Grant}
 use Rattle.trio_laws.proofs.session.Fresh.{page_out}
 use Rattle.trio_laws.proofs.session.LentNodes.{mapped}
-use Rattle.trio_session.specs.Seen.{IsOn, MadeFile, SessionSeen, body_in, has_out, held_file, in_hand, made_file, open_kind, read_file, serves, written_file}
-use Rattle.trio_edit_laws.specs.Calls.{MayCall}
-use Rattle.trio_edit_laws.specs.TakingLaws.{IsListedNow}
+use Rattle.trio_session.specs.Seen.{has_out}
 use Rattle.trio_edit_laws.proofs.Keeps.{slot_held}
 use Rattle.trio_edit_laws.proofs.Shown.{shown_by}
 use Rattle.trio_edit_laws.proofs.TakenHold.{keeps_hold}
@@ -33,10 +12,6 @@ use Rattle.trio_edit_laws.proofs.TakenReads.{keeps_reads}
 use Rattle.trio_edit_laws.proofs.TakenWrite.{keeps_write}
 use Rattle.trio_edit_laws.proofs.directories.Sees.{lists, open_rights, r as reads_open}
 use Rattle.trio_edit_laws.proofs.Alike.{may_took}
-use Rattle.trio_rights.specs.declared.kind.Kind.TheVariants.{Directory}
-use Rattle.trio_lease.specs.declared.parts.HoldParts.{HoldParts}
-use Rattle.trio_session.specs.Asked.{with_lease}
-use Rattle.trio_session.proofs.Alike.{same_seen}
 
 -- ---- what is shown
 

@@ -1,48 +1,19 @@
 -- Where nodes are possible: what a session shows in their place, and that each file that is open is judged, and reads by its chain.
-use Rattle.std.proofs.Common.{◌≡◌, ℕ, is_ok, List, [], ◌++◌, length, get_or, Option, Some, None, Result, Ok, sym, ap, ◌∙◌, subst, inl, inr, arith}
-use Rattle.std.specs.Prelude.{is_some, map}
-use Rattle.std.specs.List.{list_all}
-use Rattle.std.proofs.lemmas.Bool.{and_parts, false≢true}
-use Rattle.trio_rights.specs.Row.{Row, row_in}
-use Rattle.trio_rights.specs.declared.kind.Kind.{Kind}
-use Rattle.trio_lists.specs.Lists.{In}
-use Rattle.trio_lists.proofs.Filters.{some_one}
-use Rattle.trio_lists.proofs.Members.{In-map, In-right, flat_map-In, is_ok-Ok, list_all-In, map-In}
-use Rattle.trio_lists.proofs.Gathered.{one_of}
-use Rattle.trio_layout.specs.declared.body.Body.{Body}
-use Rattle.trio_layout.specs.Body.{block_count, body_of}
-use Rattle.trio_layout.specs.Chain.{Chain, index_count}
-use Rattle.trio_layout.specs.Core.{Core, Location}
-use Rattle.trio_layout.specs.Entries.{Listed}
-use Rattle.trio_layout.specs.Survey.{FileRead, Met, children_in, met_in, pages_in, plain}
-use Rattle.trio_layout.specs.Case.{Case, file_in}
-use Rattle.trio_layout.specs.JudgedFiles.{entries_in, judged_entries, judged_files, pages_within, written_met}
+use Rattle.trio_edit_laws.proofs.Words.{◌++◌, ◌∙◌, ◌≡◌, ArePossible, Becomes, Body, Case, Chain, Core, DeskSeen, FileRead, In, In-map, In-right, InHand, IsAmong, IsNamed, IsView, Kind, LentFile, List, Listed, Location, MadeFile, MayEdit, MayShow, Met, Nodes, None, Ok, Option, ReadsBy, Result, Row, SessionSeen, ShowsTrees, Some, TakesMore, [], and_parts, ap, arith, block_count, body_in, body_of, bundle_of, case_as_stands, case_in_hand, chain_in, core_in_hand, false≢true, file_in, file_within, flat_map-In, get_or, held_by, in_hand, index_count, inl, inr, is_some, judged_files, judged_there, length, list_all, listed_are_in_hand, made_body, made_file, made_met, map, map-In, met_in, one_of, open_kind, pages_in, pages_within, plain, sees_judged, slice_get-In, some_one, subst, sym, within_from, written_in, ℕ}
+use Rattle.std.proofs.Common.{is_ok}
+use Rattle.trio_rights.specs.Row.{row_in}
+use Rattle.trio_lists.proofs.Members.{is_ok-Ok, list_all-In}
+use Rattle.trio_layout.specs.Survey.{children_in}
+use Rattle.trio_layout.specs.JudgedFiles.{entries_in, judged_entries, written_met}
 use Rattle.trio_layout.specs.Rules.{entry_in_grammar}
-use Rattle.trio_layout.specs.Within.{chain_within, file_within}
-use Rattle.trio_layout.proofs.WithinCore.{within_from}
-use Rattle.trio_lease.specs.Shown.{LentFile}
-use Rattle.trio_lease.specs.Views.{written_in}
-use Rattle.trio_nodes.specs.Nodes.{Nodes}
-use Rattle.trio_desk.specs.Among.{IsAmong}
-use Rattle.trio_desk.specs.Call.{DeskSeen}
-use Rattle.trio_desk.specs.Edits.{InHand, MayShow, TakesMore}
-use Rattle.trio_desk.specs.Ready.{ArePossible, bundle_of}
-use Rattle.trio_laws.specs.session.Chains.{IsNamed}
-use Rattle.trio_laws.specs.session.FileEdits.{core_in_hand}
-use Rattle.trio_laws.specs.session.Sees.{IsView}
-use Rattle.trio_laws.specs.session.Takes.{Becomes, case_as_stands, case_in_hand}
+use Rattle.trio_layout.specs.Within.{chain_within}
 use Rattle.trio_laws.proofs.judgement.JudgedFacts.{written_body_at, written_ino_at, written_kind_at}
 use Rattle.trio_laws.proofs.session.Chains.{named_chain}
 use Rattle.trio_laws.proofs.session.Climbing.{own_parent}
 use Rattle.trio_laws.proofs.session.EditedSlots.{entry-stands}
-use Rattle.trio_laws.proofs.session.ListedPages.{listed_are_in_hand}
-use Rattle.trio_laws.proofs.session.Sees.{sees_judged}
-use Rattle.trio_laws.proofs.session.Stands.{Read, judged_there}
+use Rattle.trio_laws.proofs.session.Stands.{Read}
 use Rattle.trio_laws.proofs.session.Starts.{start_judged, start_to}
-use Rattle.trio_laws.proofs.session.TakenHold.{held_by, judged_listed}
-use Rattle.trio_session.specs.Seen.{MadeFile, SessionSeen, body_in, chain_in, in_hand, made_body, made_file, open_kind}
-use Rattle.trio_session.proofs.Lists.{slice_get-In}
-use Rattle.trio_edit_laws.specs.Written.{MayEdit, ReadsBy, ShowsTrees, made_met}
+use Rattle.trio_laws.proofs.session.TakenHold.{judged_listed}
 use Rattle.trio_edit_laws.proofs.Anew.{body-made, body-written}
 use Rattle.trio_edit_laws.proofs.Opens.{OpenMade, OpenWritten, opened}
 

@@ -1,40 +1,15 @@
 -- A directory that has no empty slot grows by a block of them.
-use Rattle.std.proofs.Common.{◌≡◌, ℕ, suc, ◌+◌, ◌/◌, ◌%◌, ◌<◌, ◌≤◌, true, cond, eqb, List, [], ◌∷◌, ◌++◌, length, drop, replicate, Option, Some, None, sym, refl, ap, ◌∙◌, subst, inl, inr, arith}
-use Rattle.std.specs.Prelude.{is_none, is_some, map}
-use Rattle.std.specs.List.{find}
-use Rattle.std.specs.Option.{option_map, option_or}
-use Rattle.std.proofs.lemmas.Bool.{cases_eq, eq-eqb}
-use Rattle.std.proofs.lemmas.List.{length-drop, length-map}
+use Rattle.trio_edit_laws.proofs.Words.{◌%◌, ◌++◌, ◌+◌, ◌/◌, ◌<◌, ◌∙◌, ◌∷◌, ◌≡◌, ◌≤◌, AreSpare, AreWithinLimits, ComesToShown, DeskSeen, Directory, Done, EntryPart, GetsSlots, In, InoParts, IsOpenDir, LentFile, List, MadeFile, MayGoOn, NamesStay, None, Option, Place, SessionSeen, Shown, Some, TakesMore, [], ap, arith, block_count, body_in, cases_eq, chain_in, cond, drop, empty_shown, entry_shown, eq-eqb, eqb, every_number, find, first_slot, growth, in_hand, inl, ino_numbers, inr, is_none, is_some, kind_shown, length, length-drop, length-map, made_file, map, option_map, option_or, page_in, page_numbers, place_at, place_of, place_shown, read_file, refl, replicate, size_in, slot_growth, slot_with, slots_of, slots_shown, spare_numbers, spare_pages, subst, suc, sym, taking_keeps, true, ℕ}
 use Rattle.std.proofs.Math.ListN.{drop_of_length-le}
-use Rattle.trio_lists.specs.Lists.{In}
-use Rattle.trio_rights.specs.declared.kind.Kind.TheVariants.{Directory}
-use Rattle.trio_layout.specs.Body.{block_count}
-use Rattle.trio_layout.specs.declared.slot.EntryPart.{EntryPart}
-use Rattle.trio_lease.specs.Shown.{LentFile, Shown}
-use Rattle.trio_lease.specs.declared.parts.InoParts.{InoParts}
-use Rattle.trio_nodes.specs.declared.call.Done.{Done}
-use Rattle.trio_auxdir.specs.Places.{place_at}
-use Rattle.trio_auxdir.specs.Slots.{first_slot, slot_with, slots_of}
-use Rattle.trio_auxdir.specs.declared.place.Place.{Place}
 use Rattle.trio_auxdir.proofs.Kept.{place_of-empties}
-use Rattle.trio_desk.specs.Call.{DeskSeen}
-use Rattle.trio_desk.specs.Contents.{AreWithinLimits}
-use Rattle.trio_desk.specs.Edits.{TakesMore}
-use Rattle.trio_desk.specs.Out.{ino_numbers, page_numbers}
-use Rattle.trio_desk.specs.Ready.{ComesToShown}
-use Rattle.trio_laws.proofs.session.ListedPages.{taking_keeps}
-use Rattle.trio_session.specs.Layout.{growth, page_in, size_in}
-use Rattle.trio_session.specs.Seen.{IsOpenDir, MadeFile, SessionSeen, body_in, chain_in, empty_shown, entry_shown, every_number, grown, in_hand, kind_shown, made_file, place_of, place_shown, read_file, slots_shown, spare_numbers, spare_pages}
-use Rattle.trio_edit_laws.specs.EditLaws.{AreSpare, GetsSlots}
+use Rattle.trio_session.specs.Seen.{grown}
 use Rattle.trio_edit_laws.proofs.Growing.{edit_grown}
 use Rattle.trio_edit_laws.proofs.Keeps.{IsEdit}
 use Rattle.trio_edit_laws.proofs.directories.Sees.{pages_open, place_open}
 use Rattle.trio_edit_laws.proofs.directories.Slotted.{spot}
-use Rattle.trio_edit_laws.specs.Allotting.{NamesStay}
-use Rattle.trio_edit_laws.specs.Calls.{MayGoOn}
 use Rattle.trio_edit_laws.proofs.GrowingDir.{grow_dir_shows}
 use Rattle.trio_session.proofs.Alike.{calls-grown, placed-grown}
-use Rattle.trio_session.specs.Deeds.{slot_growth, with_slot}
+use Rattle.trio_session.specs.Deeds.{with_slot}
 
 drop-spent : (xs : List ℕ) (k more : ℕ) → length (drop k xs) ≡ more → drop (k + more) xs ≡ []
 drop-spent xs k more e = drop_of_length-le xs (omega (arith, length-drop k xs, e))

@@ -1,9 +1,6 @@
 -- Lists that grow by what each element tells.
-use Rattle.std.proofs.Common.{◌≡◌, ℕ, zero, suc, ◌+◌, ◌<◌, List, [], ◌∷◌, ◌++◌, append_assoc, length, map, get_or, take, Option, refl, sym, ap, ◌∙◌, inl, inr, arith}
-use Rattle.std.specs.List.{cons_option, filter_map}
-use Rattle.std.proofs.lemmas.List.{take_more}
+use Rattle.trio_entries.proofs.Words.{◌++◌, ◌+◌, ◌<◌, ◌∙◌, ◌∷◌, ◌≡◌, In, List, Option, [], ap, append_assoc, arith, cons_option, filter_map, get_or, inl, inr, length, map, refl, suc, sym, take, take_more, zero, ℕ}
 use Rattle.std.proofs.lemmas.List.Elements.{filter_map-append}
-use Rattle.trio_lists.specs.Lists.{In}
 
 pub get-In : {X : Type 0} (xs : List X) (i : ℕ) (d : X) → i < length xs → In (get_or xs i d) xs
 get-In [] i d within = absurd (omega (arith, within))

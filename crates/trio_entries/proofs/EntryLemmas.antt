@@ -1,25 +1,13 @@
 -- What the entry of a judged directory tells, by its slot.
-use Rattle.std.proofs.Common.{◌≡◌, ◌≤◌, ◌==◌, ℕ, Bool, true, false, not, ◌&&◌, cond, List, [], length, get_or, take, Option, None, refl, sym, ap, ◌∙◌, arith}
+use Rattle.trio_entries.proofs.Words.{◌&&◌, ◌∙◌, ◌≡◌, ◌≤◌, Bad, Bool, Case, Empty, Entry, EntryData, EntryPart, IsReadable, List, ListedEntry, Listing, None, Notes, Option, Regular, Row, [], and_parts, ap, arith, bytes_eq, cond, entry_at, entry_fits, entry_name, entry_size, false, get_or, is_untold, length, noted_name, option_map, option_map_or, refl, row_after, slot_bytes, sym, take, told_entry, told_row, true, ℕ}
+use Rattle.std.proofs.Common.{◌==◌, not}
 use Rattle.std.specs.Prelude.{slice_index}
-use Rattle.std.proofs.lemmas.Bool.{and_parts}
 use Rattle.std.proofs.lemmas.List.{get_or-take}
-use Rattle.std.specs.Option.{option_map, option_map_or}
-use Rattle.std.specs.Str.{bytes_eq}
 use Rattle.trio_names.proofs.NameFacts.{name_facts}
-use Rattle.trio_rights.specs.Row.{Row}
-use Rattle.trio_rights.specs.declared.kind.Kind.TheVariants.{Regular}
-use Rattle.trio_case.specs.declared.listing.ListedEntry.{ListedEntry as EntryData}
-use Rattle.trio_layout.specs.declared.slot.EntryPart.{EntryPart}
-use Rattle.trio_layout.specs.declared.slot.SlotRead.TheVariants.{Empty, Entry, Bad}
-use Rattle.trio_layout.specs.Case.{Case}
-use Rattle.trio_layout.specs.Entries.{slot_bytes}
-use Rattle.trio_layout.specs.Listing.{Listing, ListedEntry}
-use Rattle.trio_layout.specs.Slot.{entry_at, entry_bytes, entry_fits, slot_of}
-use Rattle.trio_layout.specs.Tables.{row_after}
+use Rattle.trio_layout.specs.Slot.{entry_bytes, slot_of}
 use Rattle.trio_layout.proofs.Reading.{bytes_eq-true}
 use Rattle.trio_layout.proofs.SlotLemmas.{entry_facts}
-use Rattle.trio_state.specs.Listed.{Notes, entry_name, entry_size, entry_slot, is_handed, is_untold, noted_name, told_entry, told_row}
-use Rattle.trio_entries.specs.inner.Slots.{IsReadable}
+use Rattle.trio_state.specs.Listed.{entry_slot, is_handed}
 use Rattle.trio_entries.proofs.FileLemmas.{entry_is}
 
 -- what stands past the end of a list of entries

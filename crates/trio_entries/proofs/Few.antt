@@ -1,33 +1,11 @@
 -- What is told is no more than the pages of the bundle.
-use Rattle.std.proofs.Common.{◌≡◌, ℕ, suc, ◌+◌, ◌≤◌, eqb, Bool, true, false, ◌&&◌, cond, List, [], ◌∷◌, ◌++◌, length, map, Option, None, Some, Result, Ok, Err, refl, sym, ap, ◌∙◌, subst, inl, inr, arith}
-use Rattle.std.specs.List.{find, flat_map, list_all}
-use Rattle.std.specs.Option.{option_map_or}
-use Rattle.std.proofs.lemmas.Bool.{and_parts}
-use Rattle.std.proofs.lemmas.Bool.Decides.{nat_tests}
-use Rattle.std.proofs.lemmas.List.{length-append, length-map, map-append}
-use Rattle.trio_rights.specs.Bundle.{Bundle, Written, bundle_pages}
-use Rattle.trio_rights.specs.Row.{Row, row_in}
-use Rattle.trio_rights.specs.Sheets.{Sheet, sheet_numbers}
-use Rattle.trio_lists.specs.Lists.{In, are_new, is_among}
-use Rattle.trio_lists.specs.Sorting.{sorted_by}
-use Rattle.trio_lists.proofs.Filters.{filter-In}
-use Rattle.trio_lists.proofs.Members.{In-left, In-right, In-map, flat_map-In, is_among-In, list_all-In, map-In}
-use Rattle.trio_lists.proofs.New.{are_new-first}
-use Rattle.trio_lists.proofs.Sorting.{sorted_in}
-use Rattle.trio_layout.specs.Case.{Case, file_in}
-use Rattle.trio_layout.specs.Core.{Location}
-use Rattle.trio_layout.specs.Edges.{meets_edges}
-use Rattle.trio_layout.specs.JudgedFiles.{entries_in, fronts, judged_entries, judged_files, judged_pages, new_entries, written_at, written_files, written_met}
-use Rattle.trio_layout.specs.Listing.{Listing, ListedFile, file_listed, listing}
-use Rattle.trio_layout.specs.Rules.{entry_is_own, meets_grammar, meets_owning, meets_rights, meets_rules}
-use Rattle.trio_layout.specs.Survey.{FileRead, Met, numbers}
-use Rattle.trio_layout.proofs.Walks.{fronts_keep}
+use Rattle.trio_entries.proofs.Words.{◌&&◌, ◌++◌, ◌+◌, ◌∙◌, ◌∷◌, ◌≡◌, ◌≤◌, Bool, Bundle, Case, Err, FileOutline, FileRead, In, In-left, In-map, List, ListedFile, Listing, Location, Met, None, Ok, Option, RawFile, Result, Row, Sheet, Some, Written, [], and_parts, ap, are_new, are_new-first, arith, blocks_listed_of, bundle_pages, cond, entries_in, entry_is_own, eqb, false, file_outline, filter-In, find, flat_map, flat_map-In, fronts, fronts_keep, inl, inr, is_among, is_among-In, judged_entries, judged_pages, length, length-append, length-map, lent_blocks, list_all, list_all-In, listing, map, map-In, map-append, meets_edges, meets_grammar, meets_owning, meets_rights, meets_rules, nat_tests, new_entries, numbers, option_map_or, outline_of, outline_pages, refl, row_in, sheet_numbers, sorted_by, sorted_in, subst, suc, sym, true, written_at, written_files, written_met, ℕ}
+use Rattle.trio_lists.proofs.Members.{In-right}
+use Rattle.trio_layout.specs.Case.{file_in}
+use Rattle.trio_layout.specs.JudgedFiles.{judged_files}
+use Rattle.trio_layout.specs.Listing.{file_listed}
 use Rattle.trio_case.proofs.Listings.{listed_pages}
 use Rattle.trio_case.proofs.Distinct.{no_more}
-use Rattle.trio_nodes.specs.declared.entry.RawFile.{RawFile}
-use Rattle.trio_state.specs.Listed.{blocks_listed_of, lent_blocks}
-use Rattle.trio_state.specs.Moves.{file_outline, outline_of, FileOutline}
-use Rattle.trio_entries.specs.Drafts.{outline_pages}
 
 -- ---- what is found of distinct numbers is no more than there is
 

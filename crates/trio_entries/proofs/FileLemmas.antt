@@ -1,23 +1,7 @@
 -- What a release tells of a file, by what was found of it.
-use Rattle.std.proofs.Common.{◌≡◌, ℕ, zero, suc, eqb, Bool, true, false, ◌&&◌, cond, List, [], ◌∷◌, map, take, Option, None, Some, refl, sym, ap, ◌∙◌}
-use Rattle.std.specs.Prelude.{slice_get, is_some}
-use Rattle.std.specs.List.{find}
-use Rattle.std.specs.Option.{option_and_then, option_map, option_map_or}
-use Rattle.std.specs.Str.{bytes_eq}
-use Rattle.trio_rights.specs.Row.{Row, row_in}
-use Rattle.trio_rights.specs.Bundle.{Written}
-use Rattle.trio_lists.specs.Lists.{is_among}
-use Rattle.trio_lease.specs.Bundles.{Bundled}
-use Rattle.trio_lease.specs.Shown.{LentFile}
-use Rattle.trio_lease.specs.Views.{bundle_in, written_in}
-use Rattle.trio_layout.specs.declared.slot.EntryPart.{EntryPart}
-use Rattle.trio_layout.specs.declared.slot.SlotRead.TheVariants.{Empty, Entry, Bad}
-use Rattle.trio_layout.specs.Edges.{is_listed}
-use Rattle.trio_layout.specs.Listing.{Listing, ListedEntry, ListedFile}
-use Rattle.trio_layout.specs.Slot.{entry_at, entry_bytes, entry_fits, slot_of}
-use Rattle.trio_layout.specs.Tables.{placed_row, row_after}
-use Rattle.trio_case.specs.Order.{place_of}
-use Rattle.trio_state.specs.Listed.{size_in, written_size}
+use Rattle.trio_entries.proofs.Words.{◌&&◌, ◌∙◌, ◌∷◌, ◌≡◌, Bad, Bool, Bundled, Empty, Entry, EntryPart, LentFile, List, ListedEntry, ListedFile, Listing, None, Option, Row, Some, Written, [], ap, bundle_in, bytes_eq, cond, entry_at, entry_fits, eqb, false, find, is_among, is_listed, is_some, map, option_and_then, option_map, option_map_or, place_of, refl, row_after, row_in, size_in, slice_get, suc, sym, take, true, written_in, written_size, zero, ℕ}
+use Rattle.trio_layout.specs.Slot.{entry_bytes, slot_of}
+use Rattle.trio_layout.specs.Tables.{placed_row}
 use Rattle.trio_entries.proofs.Finding.{find-any, find-map, place_found}
 
 -- ---- options

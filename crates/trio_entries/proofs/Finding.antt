@@ -1,20 +1,14 @@
 -- What is found by number.
-use Rattle.std.proofs.Common.{◌≡◌, ℕ, zero, suc, ◌+◌, ◌<◌, ◌≤◌, ◌⊎◌, eqb, Bool, true, false, ◌||◌, cond, List, [], ◌∷◌, ◌++◌, length, map, get_or, set, replicate, take, Option, None, Some, Result, Ok, Err, refl, sym, ap, ◌∙◌, subst, inl, inr, arith}
-use Rattle.std.specs.Prelude.{slice_get, is_some, is_ok, MatchResult}
-use Rattle.std.specs.List.{find, list_any}
-use Rattle.std.specs.Option.{option_and_then, option_map, option_map_or, option_or}
-use Rattle.std.specs.List.Sorted.{IsBinarySearchResult, IsNonDecreasing, IsPermutation}
-use Rattle.std.specs.Ordering.{nat_cmp}
-use Rattle.std.proofs.lemmas.Bool.{cases_eq, false≢true}
-use Rattle.std.proofs.lemmas.Bool.Decides.{nat_tests}
-use Rattle.std.proofs.lemmas.List.{get_or-set_same, get_or-set_other, get_or_default, length-map, length-take-le, map-append, take_more}
+use Rattle.trio_entries.proofs.Words.{◌++◌, ◌+◌, ◌<◌, ◌||◌, ◌∙◌, ◌∷◌, ◌≡◌, ◌≤◌, Bool, Err, In, In-map, IsBinarySearchResult, IsPermutation, List, None, Ok, Option, Result, Some, [], ap, are_new, are_new-first, arith, cond, eqb, false, false≢true, find, get_or, get_or-In, get_or-set_other, get_or-set_same, get_or_default, inl, inr, is_among, is_among-In, is_among-not, is_some, length, length-map, length-take-le, list_any, map, map-append, nat_cmp, nat_tests, option_and_then, option_map, option_map_or, place_has, place_of, refl, replicate, set, slice_get, subst, suc, sym, take, take_more, true, zero, ℕ}
+use Rattle.std.proofs.Common.{◌⊎◌}
+use Rattle.std.specs.Prelude.{is_ok, MatchResult}
+use Rattle.std.specs.Option.{option_or}
+use Rattle.std.specs.List.Sorted.{IsNonDecreasing}
+use Rattle.std.proofs.lemmas.Bool.{cases_eq}
 use Rattle.std.proofs.lemmas.List.Sorted.{list_any-IsPermutation, searched}
-use Rattle.trio_lists.specs.Lists.{In, are_new, is_among}
-use Rattle.trio_lists.proofs.Filters.{get_or-In, In-get_or}
-use Rattle.trio_lists.proofs.Members.{In-is_among, In-map, is_among-In}
-use Rattle.trio_lists.proofs.New.{are_new-first, is_among-not}
-use Rattle.trio_case.specs.Order.{place_of}
-use Rattle.trio_case.proofs.Ordered.{place_has, place_none}
+use Rattle.trio_lists.proofs.Filters.{In-get_or}
+use Rattle.trio_lists.proofs.Members.{In-is_among}
+use Rattle.trio_case.proofs.Ordered.{place_none}
 
 -- ---- places
 

@@ -1,42 +1,22 @@
 -- The pages of a bundle's files in one list.
-use Rattle.std.proofs.Common.{◌≡◌, ℕ, zero, suc, ◌+◌, ◌<◌, ◌≤◌, nat_le, nat_lt, Bool, true, false, ◌&&◌, ◌||◌, eqb, cond, List, [], ◌∷◌, ◌++◌, length, get_or, set, map, take, drop, replicate, Option, Some, None, refl, sym, ap, ◌∙◌, subst, arith}
-use Rattle.std.specs.Prelude.{is_some, slice_get}
-use Rattle.std.specs.List.{flat_map, list_any}
-use Rattle.std.specs.Option.{option_map}
-use Rattle.std.proofs.Math.Seq.{drop-cons}
-use Rattle.std.proofs.lemmas.Bool.{and_parts, false≢true, ltb-true}
-use Rattle.std.proofs.lemmas.Bool.Decides.{nat_tests}
-use Rattle.std.proofs.lemmas.List.{get_or-map, get_or-set_other, get_or-set_same, length-append, length-map, length-replicate, length-set, map-append, take_more}
+use Rattle.trio_entries.proofs.Words.{◌&&◌, ◌++◌, ◌+◌, ◌<◌, ◌||◌, ◌∙◌, ◌∷◌, ◌≡◌, ◌≤◌, Bool, Bundled, CaseShown, Handed, HandedHead, In, IsRoom, LentFile, LentPage, List, None, Option, Room, Sheet, Some, Written, [], all_pages, and_parts, ap, are_new, are_new-first, arith, bundle_core, bundle_in, bundle_length, bundle_pages, case_in, cond, drop, drop-cons, eqb, false, false≢true, file_in, file_pages, flat_map, fresh_in, get_or, get_or-In, get_or-set_other, get_or-set_same, handed_in, has_mark, head_of, index_in, is_among, is_among-not, is_marked, is_some, length, length-append, length-map, length-replicate, lent_sheet, list_all-In, list_any, map, map-append, nat_le, nat_tests, option_map, page_of, place_has, place_of, refl, replicate, set, sheet_numbers, slice_get, subst, suc, sym, take, take_more, true, written_in, zero, ℕ}
+use Rattle.std.proofs.Common.{nat_lt}
+use Rattle.std.proofs.lemmas.Bool.{ltb-true}
+use Rattle.std.proofs.lemmas.List.{get_or-map, length-set}
 use Rattle.std.proofs.lemmas.List.Folds.{flat_map-map, list_any-append}
 use Rattle.std.proofs.lemmas.Option.{slice_get-get_or, slice_get-map, slice_get_past}
-use Rattle.trio_rights.specs.Bundle.{Written, bundle_pages, bundle_sheets}
-use Rattle.trio_rights.specs.Sheets.{Sheet, sheet_numbers, with_pages}
-use Rattle.trio_lists.specs.Lists.{In, are_new, is_among}
-use Rattle.trio_lists.proofs.Filters.{get_or-In}
-use Rattle.trio_lists.proofs.Members.{list_all-In}
-use Rattle.trio_lists.proofs.New.{are_new-first, is_among-not}
-use Rattle.trio_layout.specs.Case.{bundle_core}
-use Rattle.trio_layout.specs.Core.{page_of}
+use Rattle.trio_rights.specs.Bundle.{bundle_sheets}
+use Rattle.trio_rights.specs.Sheets.{with_pages}
 use Rattle.trio_layout.specs.Range.{is_core}
-use Rattle.trio_lease.specs.Bundles.{Bundled}
-use Rattle.trio_lease.specs.Shown.{LentFile}
-use Rattle.trio_lease.specs.Views.{bundle_in, fresh_sheet, lent_sheet, written_in}
-use Rattle.trio_lease.specs.declared.parts.LentPage.{LentPage}
-use Rattle.trio_case.specs.Cases.{CaseShown, IsCase, case_in}
-use Rattle.trio_case.specs.Order.{place_of}
+use Rattle.trio_lease.specs.Views.{fresh_sheet}
+use Rattle.trio_case.specs.Cases.{IsCase}
 use Rattle.trio_case.proofs.Counted.{place_some}
-use Rattle.trio_case.proofs.Making.{bundle_length, file_numbers}
-use Rattle.trio_case.proofs.Ordered.{place_has}
-use Rattle.trio_nodes.specs.Handed.{Handed, HandedFile, HasPages, all_pages, handed_from, head_of, pages_left}
+use Rattle.trio_case.proofs.Making.{file_numbers}
+use Rattle.trio_nodes.specs.Handed.{HandedFile, HasPages, handed_from, pages_left}
 use Rattle.trio_nodes.specs.Told.{page_in}
-use Rattle.trio_nodes.specs.declared.entry.HandedHead.{HandedHead}
 use Rattle.trio_nodes.specs.declared.entry.HandedPage.{HandedPage}
 use Rattle.trio_nodes.proofs.HandedPages.{files-joined, left-joined, pages-joined}
-use Rattle.trio_state.specs.Listed.{is_marked}
-use Rattle.trio_entries.specs.Handed.{block_in, file_in, file_pages, fresh_in, handed_in, index_in}
-use Rattle.trio_entries.specs.Drafts.{IsRoom}
-use Rattle.trio_entries.specs.inner.Finding.{has_mark}
-use Rattle.trio_entries.specs.declared.handed.Room.{Room}
+use Rattle.trio_entries.specs.Handed.{block_in}
 
 -- ---- how many there are
 

@@ -1,31 +1,9 @@
 -- What the rules on a bundle give of its listing.
-use Rattle.std.proofs.Common.{◌≡◌, true, ◌&&◌, List, [], ◌∷◌, length, map, Option, None, Some, refl, sym, ap, ◌∙◌, subst}
-use Rattle.std.specs.Prelude.{is_some}
-use Rattle.std.specs.List.{list_all}
-use Rattle.std.proofs.lemmas.Bool.{and_parts}
-use Rattle.std.proofs.lemmas.List.{length-map}
-use Rattle.trio_rights.specs.Bundle.{bundle_pages}
-use Rattle.trio_rights.specs.Row.{Row, row_in}
-use Rattle.trio_rights.specs.declared.kind.Kind.{Kind}
-use Rattle.trio_lists.specs.Lists.{In, are_new, is_among}
-use Rattle.trio_lists.specs.Sorting.{sorted_by}
-use Rattle.trio_lists.proofs.Members.{list_all-In}
-use Rattle.trio_lists.proofs.Sorting.{sorted_in, sorted_new}
-use Rattle.trio_lease.specs.Shown.{LentFile}
-use Rattle.trio_lease.specs.declared.parts.HoldParts.{HoldParts}
+use Rattle.trio_entries.proofs.Words.{◌&&◌, ◌∙◌, ◌∷◌, ◌≡◌, AreListedOnce, Case, CaseShown, HoldParts, In, Kind, LentFile, List, ListedEntry, Listing, Met, None, Notes, Option, Row, Some, [], and_parts, ap, are_new, bundle_pages, entry_is_own, entry_listed, is_among, is_some, judged_entries, judged_pages, length, length-map, lent_once, list_all, list_all-In, listing, map, meets_edges, meets_grammar, meets_owning, meets_rights, meets_rules, numbers, refl, row_in, sorted_by, sorted_in, sorted_new, subst, sym, true, whole_case}
 use Rattle.trio_layout.specs.Allowed.{has_kind}
-use Rattle.trio_layout.specs.Case.{Case}
-use Rattle.trio_layout.specs.Edges.{meets_edges}
-use Rattle.trio_layout.specs.JudgedFiles.{judged_entries, judged_pages}
-use Rattle.trio_layout.specs.Listing.{Listing, ListedEntry, entry_listed, listing}
-use Rattle.trio_layout.specs.Rules.{entry_is_own, meets_grammar, meets_owning, meets_rights, meets_rules}
-use Rattle.trio_layout.specs.Survey.{Met, numbers}
-use Rattle.trio_case.specs.Cases.{CaseShown}
 use Rattle.trio_case.proofs.Ordered.{order_length}
-use Rattle.trio_state.specs.Listed.{Notes}
-use Rattle.trio_entries.specs.Telling.{whole_case, AreNoted}
+use Rattle.trio_entries.specs.Telling.{AreNoted}
 use Rattle.trio_entries.specs.inner.Finding.{AreWrittenNoted, IsToldBy}
-use Rattle.trio_entries.specs.inner.Once.{lent_once, AreListedOnce}
 use Rattle.trio_entries.proofs.Finding.{find-first}
 use Rattle.trio_entries.proofs.ToldOnce.{itself, new_parts}
 use Rattle.trio_entries.proofs.Reading.{listed_readable}

@@ -1,15 +1,6 @@
 -- The blocks that a file was lent with.
-use Rattle.std.proofs.Common.{◌≡◌, ◌∙◌, ℕ, eqb, List, [], ◌∷◌, map, Option, None, Some, ap, refl}
-use Rattle.std.specs.Prelude.{slice_get}
-use Rattle.std.specs.List.{find}
-use Rattle.std.specs.Option.{option_map, option_map_or}
-use Rattle.trio_rights.specs.Bundle.{Written}
-use Rattle.trio_rights.specs.Sheets.{sheet_numbers}
-use Rattle.trio_lease.specs.Bundles.{Bundled}
-use Rattle.trio_lease.specs.Shown.{LentFile, no_at}
-use Rattle.trio_lease.specs.Views.{bundle_in, lent_sheet, written_in}
-use Rattle.trio_lease.specs.declared.parts.LentPage.{LentPage}
-use Rattle.trio_state.specs.Listed.{lent_blocks}
+use Rattle.trio_entries.proofs.Words.{◌∙◌, ◌∷◌, ◌≡◌, Bundled, LentFile, LentPage, List, None, Option, Some, Written, [], ap, bundle_in, eqb, find, lent_blocks, lent_sheet, map, option_map, option_map_or, refl, sheet_numbers, slice_get, written_in, ℕ}
+use Rattle.trio_lease.specs.Shown.{no_at}
 use Rattle.trio_entries.proofs.FileLemmas.{slice_get-map}
 use Rattle.trio_entries.proofs.Finding.{find-map}
 

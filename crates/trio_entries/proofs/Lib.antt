@@ -13,3 +13,4 @@ pub mod FlatPlaces
 pub mod Outlined
 pub mod Unlisted
 pub mod Sizes
+mod Words

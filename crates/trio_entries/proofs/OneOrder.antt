@@ -1,10 +1,8 @@
 -- Elements of distinct numbers have one order that rises.
-use Rattle.std.proofs.Common.{◌≡◌, ℕ, Bool, true, false, cond, nat_le, List, [], ◌∷◌, map, refl, sym, ap, ◌∙◌, inl, inr}
-use Rattle.std.specs.List.Sorted.{IsNonDecreasingBy, IsPermutation}
-use Rattle.trio_lists.specs.Lists.{In, are_new}
-use Rattle.trio_lists.specs.Sorting.{inserted_by, sorted_by}
+use Rattle.trio_entries.proofs.Words.{◌∙◌, ◌∷◌, ◌≡◌, Bool, In, IsPermutation, List, [], ap, are_new, cond, false, inl, inr, map, nat_le, refl, sorted_by, sorted_in, sym, true, ℕ}
+use Rattle.std.specs.List.Sorted.{IsNonDecreasingBy}
+use Rattle.trio_lists.specs.Sorting.{inserted_by}
 use Rattle.trio_lists.proofs.Gathered.{one_keyed}
-use Rattle.trio_lists.proofs.Sorting.{sorted_in}
 use Rattle.trio_case.specs.Order.{in_order}
 use Rattle.trio_case.proofs.Unstable.{permuted_in, sorted_numbers}
 

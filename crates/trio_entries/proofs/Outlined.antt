@@ -1,24 +1,11 @@
 -- Outlines of which the pages of all files stand in one list.
-use Rattle.std.proofs.Common.{◌≡◌, ◌↔◌, ℕ, ◌+◌, ◌<◌, ◌≤◌, Bool, true, List, [], ◌∷◌, ◌++◌, length, get_or, map, take, drop, refl, sym, ap, ◌∙◌, append_assoc, subst, arith}
-use Rattle.std.specs.List.{flat_map, sum_by}
+use Rattle.trio_entries.proofs.Words.{◌++◌, ◌+◌, ◌<◌, ◌↔◌, ◌∙◌, ◌∷◌, ◌≡◌, ◌≤◌, Bool, Bundled, FileOutline, FreshParts, Kind, LentFile, LentPage, List, Outline, Sheet, [], ap, append_assoc, arith, bundle_in, bundle_numbers, bundle_pages, drop, file_numbers, file_outline, flat_map, flat_map-append, get_or, head_in, length, length-append, length-map, length-take-le, lent_sheet, map, outline_of, outline_pages, refl, subst, sym, take, take-append-drop, take_all, true, written_in, ℕ}
+use Rattle.std.specs.List.{sum_by}
 use Rattle.std.proofs.Math.Seq.{drop-append_seam, take-append_seam}
-use Rattle.std.proofs.lemmas.Grind.{flat_map-append}
-use Rattle.std.proofs.lemmas.List.{append_cancel_left, drop_at, drop-drop, length-append, length-drop, length-map, length-take-le, take-append-drop, take_all}
+use Rattle.std.proofs.lemmas.List.{append_cancel_left, drop_at, drop-drop, length-drop}
 use Rattle.std.proofs.lemmas.List.Sums.{sum_by-cons}
-use Rattle.trio_rights.specs.Bundle.{bundle_pages}
-use Rattle.trio_rights.specs.Sheets.{Sheet}
-use Rattle.trio_rights.specs.declared.kind.Kind.{Kind}
-use Rattle.trio_lease.specs.Bundles.{Bundled}
-use Rattle.trio_lease.specs.Shown.{LentFile}
-use Rattle.trio_lease.specs.Views.{bundle_in, lent_sheet, written_in}
-use Rattle.trio_lease.specs.declared.parts.FreshParts.{FreshParts}
-use Rattle.trio_lease.specs.declared.parts.LentPage.{LentPage}
-use Rattle.trio_case.proofs.Making.{bundle_numbers}
-use Rattle.trio_state.specs.Moves.{FileOutline, Outline, file_outline, outline_of}
-use Rattle.trio_entries.specs.Drafts.{outline_pages}
 use Rattle.trio_entries.specs.declared.outline.FileHead.{FileHead}
-use Rattle.trio_entries.specs.inner.Outlined.{HasPages, file_from, files_from, head_in, head_of, head_pages, outline_from, pages_left}
-use Rattle.trio_entries.specs.inner.Sources.{file_numbers}
+use Rattle.trio_entries.specs.inner.Outlined.{HasPages, file_from, files_from, head_of, head_pages, outline_from, pages_left}
 use Rattle.trio_entries.proofs.Few.{pages_outlined}
 use Rattle.trio_entries.proofs.FlatPlaces.{drop_file}
 

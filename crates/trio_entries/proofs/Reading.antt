@@ -1,21 +1,14 @@
 -- The entries of a listing stand in slots of the bundle's pages.
-use Rattle.std.proofs.Common.{◌≡◌, ℕ, zero, suc, ◌<◌, List, [], ◌∷◌, Option, None, Some, Result, Ok, Err, refl, sym, ap, ◌∙◌, subst, inl, inr, arith}
-use Rattle.trio_rights.specs.declared.kind.Kind.{Kind}
-use Rattle.trio_rights.specs.declared.kind.Kind.TheVariants.{Regular, Directory}
-use Rattle.trio_lists.specs.Lists.{In, gathered, gathered_below}
-use Rattle.trio_lists.proofs.Members.{In-cases, both-Ok, flat_map-In, map-In, result_then-Ok}
+use Rattle.trio_entries.proofs.Words.{◌<◌, ◌∙◌, ◌∷◌, ◌≡◌, Bad, Case, Core, Directory, Empty, Entry, Err, FileRead, In, In-cases, IsReadable, Kind, List, ListedEntry, Location, Met, None, Ok, Option, Regular, Result, Some, [], ap, arith, bundle_core, children_in, entries_in, entry_listed, flat_map-In, inl, inr, judged_entries, listing, map-In, page_of, plain, refl, slot_bytes, slot_of, subst, suc, sym, zero, ℕ}
+use Rattle.trio_lists.specs.Lists.{gathered, gathered_below}
+use Rattle.trio_lists.proofs.Members.{both-Ok, result_then-Ok}
 use Rattle.trio_layout.specs.declared.slot.SlotRead.{SlotRead}
-use Rattle.trio_layout.specs.declared.slot.SlotRead.TheVariants.{Empty, Entry, Bad}
-use Rattle.trio_layout.specs.Case.{Case, bundle_core, file_in}
-use Rattle.trio_layout.specs.Core.{Core, Location, page_of}
-use Rattle.trio_layout.specs.Entries.{Listed, body_in_slot, entries_on, listed_at, repeated_name, slot_bytes, slot_entries, unless_repeated, with_names_apart}
-use Rattle.trio_layout.specs.JudgedFiles.{entries_in, judged_entries, judged_files}
-use Rattle.trio_layout.specs.Listing.{ListedEntry, entry_listed, listing}
-use Rattle.trio_layout.specs.Slot.{slot_of}
-use Rattle.trio_layout.specs.Survey.{FileRead, Met, children_in, met_in, plain}
+use Rattle.trio_layout.specs.Case.{file_in}
+use Rattle.trio_layout.specs.Entries.{Listed, body_in_slot, entries_on, listed_at, repeated_name, slot_entries, unless_repeated, with_names_apart}
+use Rattle.trio_layout.specs.JudgedFiles.{judged_files}
+use Rattle.trio_layout.specs.Survey.{met_in}
 use Rattle.trio_layout.specs.Within.{entries_where, entries_within}
 use Rattle.trio_layout.proofs.WithinCore.{within_from}
-use Rattle.trio_entries.specs.inner.Slots.{IsReadable}
 
 -- ---- what is gathered comes from one of the lists
 

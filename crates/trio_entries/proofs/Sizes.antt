@@ -1,18 +1,7 @@
 -- Memory for more serves less.
-use Rattle.std.proofs.Common.{◌≡◌, ℕ, Bool, ap, ◌∙◌, length, arith}
-use Rattle.std.specs.List.{list_any}
-use Rattle.std.proofs.lemmas.List.{length-map}
-use Rattle.trio_rights.specs.Bundle.{Written}
-use Rattle.trio_lists.proofs.Filters.{list_any-map}
-use Rattle.trio_lease.specs.Bundles.{Bundled}
-use Rattle.trio_lease.specs.Shown.{LentFile}
-use Rattle.trio_lease.specs.Views.{bundle_in, written_in}
-use Rattle.trio_lease.specs.declared.parts.HoldParts.{HoldParts}
-use Rattle.trio_lease.specs.declared.parts.InoParts.{InoParts}
-use Rattle.trio_case.specs.Memory.{is_directory, size_of, value_count, writes_directory, IsWithin}
-use Rattle.trio_case.specs.declared.size.BundleSize.{BundleSize}
-use Rattle.trio_state.specs.Moves.{file_outline, outline_of, FileOutline}
-use Rattle.trio_entries.specs.Drafts.{HasFinderPlaces, HasHandedPlaces, HasOutlinePlaces, HasToldPlaces, outline_size}
+use Rattle.trio_entries.proofs.Words.{◌∙◌, ◌≡◌, Bool, BundleSize, Bundled, FileOutline, HasHandedPlaces, HasToldPlaces, HoldParts, InoParts, LentFile, Written, ap, arith, bundle_in, file_outline, is_directory, length, length-map, list_any, list_any-map, outline_of, outline_size, size_of, writes_directory, written_in, ℕ}
+use Rattle.trio_case.specs.Memory.{value_count, IsWithin}
+use Rattle.trio_entries.specs.Drafts.{HasFinderPlaces, HasOutlinePlaces}
 use Rattle.trio_entries.specs.declared.draft.ToldMemory.{ToldMemory}
 use Rattle.trio_entries.specs.declared.finder.Finder.{Finder}
 use Rattle.trio_entries.specs.declared.handed.HandedRoom.{HandedRoom}

@@ -1,31 +1,9 @@
 -- Each file is told once.
-use Rattle.std.proofs.Common.{◌≡◌, ℕ, eqb, Bool, true, false, cond, List, [], ◌∷◌, ◌++◌, map, Option, None, Some, refl, sym, ap, ◌∙◌, subst, inl, inr, arith}
-use Rattle.std.specs.List.{cons_option, filter_map}
-use Rattle.std.specs.Option.{option_map}
-use Rattle.std.proofs.lemmas.Bool.{and_from, and_parts, false≢true}
-use Rattle.std.proofs.lemmas.Bool.Decides.{nat_tests}
-use Rattle.std.proofs.lemmas.List.{map-append}
-use Rattle.trio_rights.specs.Bundle.{Bundle, Written}
-use Rattle.trio_rights.specs.Row.{Row, row_in}
-use Rattle.trio_lists.specs.Lists.{In, are_new}
-use Rattle.trio_lists.proofs.Filters.{In-list_any}
+use Rattle.trio_entries.proofs.Words.{◌++◌, ◌∙◌, ◌∷◌, ◌≡◌, AreListedOnce, Bool, Bundle, Case, CaseShown, HoldParts, In, In-cases, In-list_any, In-map, LentFile, List, ListedEntry, Listing, None, Notes, Option, RawFile, Row, Some, Written, [], and_parts, ap, are_new, are_new-first, arith, bundle_in, cond, cons_option, entry_name, entry_size, eqb, false, false≢true, filter_map, inl, inr, is_listed, is_untold, lent_once, map, map-In, map-append, nat_tests, noted_name, noted_size, option_map, refl, row_after, row_in, size_in, subst, sym, told_entry, told_gone, told_row, told_same, told_written, true, whole_case, writes_of, ℕ}
+use Rattle.std.proofs.lemmas.Bool.{and_from}
 use Rattle.trio_lists.proofs.Gathered.{new_beside}
 use Rattle.trio_lists.proofs.Marked.{are_new-append}
-use Rattle.trio_lists.proofs.Members.{In-cases, In-map, map-In}
-use Rattle.trio_lists.proofs.New.{are_new-before, are_new-fewer, are_new-first}
-use Rattle.trio_lease.specs.Shown.{LentFile}
-use Rattle.trio_lease.specs.Views.{bundle_in}
-use Rattle.trio_lease.specs.declared.parts.HoldParts.{HoldParts}
-use Rattle.trio_layout.specs.Case.{Case}
-use Rattle.trio_layout.specs.Edges.{is_listed}
-use Rattle.trio_layout.specs.Listing.{Listing, ListedEntry}
-use Rattle.trio_layout.specs.Tables.{row_after}
-use Rattle.trio_case.specs.Cases.{CaseShown}
-use Rattle.trio_case.proofs.CaseRows.{writes_of}
-use Rattle.trio_nodes.specs.declared.entry.RawFile.{RawFile}
-use Rattle.trio_state.specs.Listed.{Notes, entry_name, entry_size, is_untold, noted_name, noted_size, size_in, told_entry, told_gone, told_row, told_same, told_written}
-use Rattle.trio_entries.specs.Telling.{whole_case}
-use Rattle.trio_entries.specs.inner.Once.{lent_once, AreListedOnce}
+use Rattle.trio_lists.proofs.New.{are_new-before, are_new-fewer}
 
 -- ---- lists of distinct numbers
 

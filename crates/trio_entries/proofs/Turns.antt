@@ -1,16 +1,8 @@
 -- Blocks that are told, one after another.
-use Rattle.std.proofs.Common.{◌≡◌, ℕ, zero, suc, ◌+◌, ◌<◌, ◌≤◌, Bool, true, false, cond, None, Some, List, [], ◌∷◌, ◌++◌, append_assoc, length, get_or, take, drop, refl, sym, ap, ◌∙◌, arith}
-use Rattle.std.specs.Prelude.{slice_get}
-use Rattle.std.specs.List.{flat_map}
-use Rattle.std.proofs.lemmas.List.{take_more, append-nil, length-append, take-append-drop}
-use Rattle.std.proofs.Math.Seq.{drop-cons}
-use Rattle.std.proofs.lemmas.Grind.{flat_map-append}
+use Rattle.trio_entries.proofs.Words.{◌++◌, ◌+◌, ◌<◌, ◌∙◌, ◌∷◌, ◌≡◌, ◌≤◌, Bool, Case, Handed, List, None, Notes, RawFile, Some, [], ap, append-nil, append_assoc, arith, block_told, changed_blocks, cond, drop, drop-cons, false, flat_map, flat_map-append, get_or, length, length-append, refl, slice_get, suc, sym, take, take-append-drop, take_more, true, zero, ℕ}
 use Rattle.std.proofs.lemmas.Option.{get_or_from_slice_get, slice_get_within}
-use Rattle.trio_layout.specs.Case.{Case}
-use Rattle.trio_nodes.specs.Handed.{Handed}
 use Rattle.trio_nodes.specs.Told.{ToldBlock}
-use Rattle.trio_nodes.specs.declared.entry.RawFile.{RawFile}
-use Rattle.trio_state.specs.Listed.{Notes, block_told, changed_blocks, is_block_changed}
+use Rattle.trio_state.specs.Listed.{is_block_changed}
 
 -- one file more
 pub told_more : {X Z : Type 0} (g : X → List Z) (xs : List X) (i : ℕ) (x : X) (now new : List Z) → i < length xs → x ≡ get_or xs i x → now ≡ flat_map g (take i xs) → new ≡ now ++ g x → new ≡ flat_map g (take (i + 1) xs)

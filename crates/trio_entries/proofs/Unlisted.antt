@@ -1,33 +1,15 @@
 -- Where no directory is written, nothing is listed.
-use Rattle.std.proofs.Common.{◌≡◌, ℕ, suc, ◌+◌, ◌*◌, ◌≤◌, Bool, true, false, if◌then◌else◌, List, [], ◌∷◌, ◌++◌, length, map, Option, None, Some, Result, Ok, Err, refl, sym, ap, ◌∙◌, subst, inl, inr, arith}
-use Rattle.std.specs.List.{flat_map, list_any}
+use Rattle.trio_entries.proofs.Words.{◌++◌, ◌+◌, ◌∙◌, ◌∷◌, ◌≡◌, ◌≤◌, Bool, BundleSize, Case, CaseShown, Core, Directory, Err, In, In-left, In-list_any, Kind, LentFile, List, Listing, Location, Met, None, Ok, Option, Regular, Result, Row, Some, Written, [], ap, arith, bundle_core, bundle_in, bundle_pages, children_in, entries_in, entry_listed, false, filter-In, flat_map, fronts, fronts_keep, inl, inr, is_among, is_directory, length, list_any, list_any-map, listing, map, map-In, new_entries, plain, refl, row_in, size_of, sorted_by, sorted_in, subst, suc, sym, true, whole_case, writes_directory, written_at, written_files, written_in, written_met, ℕ}
+use Rattle.std.proofs.Common.{◌*◌, if◌then◌else◌}
 use Rattle.std.proofs.lemmas.Bool.{false_from_ne_true, true≢false}
-use Rattle.trio_rights.specs.declared.kind.Kind.{Kind}
-use Rattle.trio_rights.specs.declared.kind.Kind.TheVariants.{Regular, Directory}
-use Rattle.trio_rights.specs.Bundle.{Written, bundle_pages}
-use Rattle.trio_rights.specs.Row.{Row, row_in}
-use Rattle.trio_lists.specs.Lists.{In, is_among, result_then, there_or}
-use Rattle.trio_lists.specs.Sorting.{sorted_by}
-use Rattle.trio_lists.proofs.Filters.{filter-In, In-list_any, list_any-map}
-use Rattle.trio_lists.proofs.Members.{In-left, map-In}
-use Rattle.trio_lists.proofs.Sorting.{sorted_in}
-use Rattle.trio_lease.specs.Shown.{LentFile}
-use Rattle.trio_lease.specs.Views.{bundle_in, written_in}
+use Rattle.trio_lists.specs.Lists.{result_then, there_or}
 use Rattle.trio_layout.specs.declared.body.Body.{Body}
 use Rattle.trio_layout.specs.Body.{body_of}
-use Rattle.trio_layout.specs.Case.{Case, bundle_core}
 use Rattle.trio_layout.specs.Chain.{Chain}
-use Rattle.trio_layout.specs.Core.{Core, Location, nowhere}
-use Rattle.trio_layout.specs.JudgedFiles.{entries_in, fronts, judged_files, new_entries, written_at, written_files, written_met}
-use Rattle.trio_layout.specs.Listing.{Listing, entry_listed, listing}
-use Rattle.trio_layout.specs.Survey.{Met, children_in, plain}
+use Rattle.trio_layout.specs.Core.{nowhere}
+use Rattle.trio_layout.specs.JudgedFiles.{judged_files}
 use Rattle.trio_layout.specs.Within.{chain_of_within, file_with_within, file_within}
-use Rattle.trio_layout.proofs.Walks.{fronts_keep}
-use Rattle.trio_case.specs.Cases.{CaseShown}
-use Rattle.trio_case.specs.Memory.{is_directory, size_of, writes_directory}
-use Rattle.trio_case.specs.declared.size.BundleSize.{BundleSize}
 use Rattle.trio_entries.specs.Drafts.{told_count}
-use Rattle.trio_entries.specs.Telling.{whole_case}
 
 -- ---- a regular file has no entries
 

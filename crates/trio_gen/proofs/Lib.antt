@@ -2,3 +2,4 @@ pub mod PathFacts
 pub mod LineFacts
 pub mod Scripts
 pub mod Summaries
+mod Words

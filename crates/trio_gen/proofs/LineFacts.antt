@@ -1,12 +1,9 @@
 -- The lines of the workload: how many there are, and that they are within a call's limits.
-use Rattle.std.proofs.Common.{◌≡◌, ◌≤◌, ◌+◌, ◌*◌, ◌%◌, ◌==◌, ℕ, zero, suc, Bool, true, false, List, [], ◌∷◌, ◌++◌, length, arith, refl, length-append}
+use Rattle.trio_gen.proofs.Words.{◌%◌, ◌*◌, ◌++◌, ◌+◌, ◌∷◌, ◌≡◌, ◌≤◌, AllByRecursion, Bool, HonestLine, List, SaysWithin, ScriptLine, [], arith, false, length, library_lines, numbered, refl, suc, true, zero, ℕ}
+use Rattle.std.proofs.Common.{◌==◌, length-append}
 use Rattle.std.specs.Prelude.{if◌then◌else◌}
-use Rattle.std.specs.List.{AllByRecursion}
 use Rattle.trio_lists.proofs.Tabulated.{tabulated-length}
-use Rattle.trio_script.specs.declared.honest.HonestLine.{HonestLine}
-use Rattle.trio_script.specs.declared.ScriptLine.{ScriptLine}
-use Rattle.trio_script.specs.Within.{SaysWithin}
-use Rattle.trio_gen.specs.Workload.{file_bytes, file_lines, last_lines, library_lines, numbered}
+use Rattle.trio_gen.specs.Workload.{file_bytes, file_lines, last_lines}
 
 -- ---- how many
 

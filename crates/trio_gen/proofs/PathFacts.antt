@@ -1,14 +1,11 @@
 -- The names and the paths of the workload.
-use Rattle.std.proofs.Common.{◌≡◌, ◌≢◌, ◌≤◌, ◌<◌, ◌+◌, ◌^◌, ℕ, suc, List, [], ◌∷◌, ◌++◌, length, get_or, All, arith, sym, ap, ◌∙◌, refl}
-use Rattle.std.specs.Prelude.{codes}
-use Rattle.std.specs.Fmt.{decimal}
+use Rattle.trio_gen.proofs.Words.{◌++◌, ◌+◌, ◌<◌, ◌^◌, ◌∙◌, ◌∷◌, ◌≡◌, ◌≤◌, List, [], ap, append-nil, arith, codes, decimal, file_in, get_or, home, length, part_in, refl, suc, sym, ℕ}
+use Rattle.std.proofs.Common.{◌≢◌, All}
 use Rattle.std.proofs.lemmas.Fmt.{decimal_by_steps, length-decimal-le}
-use Rattle.std.proofs.lemmas.List.{append-nil}
 use Rattle.std.proofs.lemmas.List.Elements.{All-nil, All-cons, All-append}
 use Rattle.trio_names.specs.Name.{IsName}
 use Rattle.trio_names.specs.Path.{IsPath}
 use Rattle.trio_names.proofs.NameFacts.{name_from}
-use Rattle.trio_gen.specs.Workload.{home, part_in, file_in}
 
 -- the bytes of a number are digits, none of which is below 48
 decimal_high : (n : ℕ) → n < 2 ^ 64 → All (λ b. 48 ≤ b) (decimal n)

@@ -1,10 +1,7 @@
 -- Libraries one after another.
-use Rattle.std.proofs.Common.{◌≡◌, ◌+◌, ℕ, suc, List, [], ◌∷◌, ◌++◌, length, arith, sym, ap, ◌∙◌, refl}
-use Rattle.std.specs.List.{AllByRecursion}
-use Rattle.trio_script.specs.declared.honest.HonestLine.{HonestLine}
+use Rattle.trio_gen.proofs.Words.{◌++◌, ◌+◌, ◌∙◌, ◌∷◌, ◌≡◌, AllByRecursion, AreWithin, HonestLine, List, SaysWithin, [], ap, arith, directories_of, length, libraries_at, libraries_lines, library_lines, line_behind, refl, suc, sym, ℕ}
 use Rattle.trio_script.specs.declared.ScriptLib.{ScriptLib}
-use Rattle.trio_script.specs.Within.{AreWithin, SaysWithin}
-use Rattle.trio_gen.specs.Workload.{directories_of, directories_script, files_script, library_lines, libraries_lines, libraries_at, library_at, line_behind}
+use Rattle.trio_gen.specs.Workload.{directories_script, files_script, library_at}
 use Rattle.trio_gen.proofs.LineFacts.{library_within, numbered_within}
 
 -- one library more

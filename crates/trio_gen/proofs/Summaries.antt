@@ -1,16 +1,12 @@
 -- Answers that are picked one after another, and counted.
-use Rattle.std.proofs.Common.{◌≡◌, ◌≤◌, ◌<◌, ◌+◌, ℕ, zero, suc, Bool, true, false, List, [], ◌∷◌, ◌++◌, length, map, get_or, take, min, arith, sym, ap, ◌∙◌, refl}
-use Rattle.std.specs.Prelude.{codes}
-use Rattle.std.specs.Fmt.{decimal}
-use Rattle.std.specs.List.{count_by, sum_by}
+use Rattle.trio_gen.proofs.Words.{◌++◌, ◌+◌, ◌<◌, ◌∙◌, ◌∷◌, ◌≡◌, ◌≤◌, Bool, HonestLine, List, ScriptLine, TreeLine, [], answers_where, ap, append-nil, arith, codes, decimal, false, get_or, is_call, length, map, refl, suc, sum_by, sym, take, true, zero, ℕ}
+use Rattle.std.proofs.Common.{min}
+use Rattle.std.specs.List.{count_by}
 use Rattle.std.proofs.lemmas.List.Sums.{sum_by-cons}
-use Rattle.std.proofs.lemmas.List.{append-nil, append_assoc, get_or-map, length-map}
-use Rattle.trio_script.specs.declared.honest.HonestLine.{HonestLine}
-use Rattle.trio_script.specs.declared.ScriptLine.{ScriptLine}
+use Rattle.std.proofs.lemmas.List.{append_assoc, get_or-map, length-map}
 use Rattle.trio_report.specs.declared.answer.LineAnswer.{LineAnswer}
-use Rattle.trio_layout.specs.Tree.{TreeLine}
 use Rattle.trio_gen.specs.declared.summary.Tally.{Tally}
-use Rattle.trio_gen.specs.Summary.{answer_where, answers_where, bytes_in, calls_text, is_busy, is_call, is_ok, tally_of}
+use Rattle.trio_gen.specs.Summary.{answer_where, bytes_in, calls_text, is_busy, is_ok, tally_of}
 
 answers_where-more : (calls : List Bool) (answers : List LineAnswer) (i : ℕ) (call : Bool) (answer : LineAnswer) → i < length calls → i < length answers → get_or calls i call ≡ call → get_or answers i answer ≡ answer
     → answers_where (take (suc i) calls) (take (suc i) answers) ≡ answers_where (take i calls) (take i answers) ++ answer_where call answer

@@ -1,17 +1,12 @@
 -- A file that is read a page at a time.
-use Rattle.std.proofs.Common.{◌≡◌, ℕ, ◌+◌, ◌-◌, ◌*◌, ◌/◌, ◌<◌, ◌≤◌, true, min, List, [], ◌∷◌, ◌++◌, length, take, drop, Option, Some, None, IfSome, refl, sym, ap, subst, ◌∙◌, arith}
-use Rattle.std.specs.List.{list_all}
-use Rattle.std.proofs.Math.Seq.{drop-append_seam, take-add, take-append_seam}
-use Rattle.std.proofs.lemmas.List.{drop-drop, length-append, length-drop, length-take, take-append-drop, take-append-le, take_all}
+use Rattle.trio_image.proofs.Words.{◌*◌, ◌++◌, ◌+◌, ◌-◌, ◌/◌, ◌<◌, ◌∙◌, ◌∷◌, ◌≡◌, ◌≤◌, IsFileOf, IsPartOf, List, None, OnlyReads-trans, Option, Shelf, Some, [], ap, arith, bytes_in, drop, drop-append_seam, drop-drop, is_whole_page, length, length-append, length-drop, length-take, length-zeros, list_all, pages_in, refl, subst, sym, take, take-append_seam, true, zeros, ℕ}
+use Rattle.std.proofs.Common.{min, IfSome}
+use Rattle.std.proofs.Math.Seq.{take-add}
+use Rattle.std.proofs.lemmas.List.{take-append-drop, take-append-le, take_all}
 use Rattle.std.proofs.lemmas.Slice.{drop-put_mid, take-put_mid}
 use borrow.Rule.Slice.PartMut.{post_of, put_mid}
-use Rattle.trio_io.specs.Shelf.{Shelf, IsTold, OnlyReads}
-use Rattle.trio_io.proofs.Loading.{IsFront, OnlyReads-trans}
-use Rattle.trio_page.specs.Field.{zeros}
-use Rattle.trio_page.proofs.Cursor.{length-zeros}
-use Rattle.trio_survey.specs.Stored.{bytes_in, pages_in}
-use Rattle.trio_image.specs.Image.{is_whole_page}
-use Rattle.trio_image.specs.inner.Reading.{IsPartOf, IsFileOf}
+use Rattle.trio_io.specs.Shelf.{IsTold, OnlyReads}
+use Rattle.trio_io.proofs.Loading.{IsFront}
 use Rattle.trio_image.proofs.Pages.{bytes_in-snoc, length-bytes_in, pages_in-append, whole-snoc}
 
 -- ---- a page

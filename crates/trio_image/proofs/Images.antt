@@ -1,12 +1,5 @@
 -- Images and their bytes.
-use Rattle.std.proofs.Common.{◌≡◌, ℕ, zero, suc, ◌*◌, ◌/◌, ◌<◌, ◌≤◌, List, length, take, get_or, Option, Some, None, refl, sym, ap, subst, ◌∙◌, arith}
-use Rattle.trio_layout.specs.declared.superblock.Superblock.{Superblock}
-use Rattle.trio_layout.specs.Superblock.{IsSuperblock}
-use Rattle.trio_layout.proofs.Superblocks.{superblock_facts}
-use Rattle.trio_survey.specs.Stored.{bytes_in, pages_in, BytesVerify, HasPage, PagesVerify}
-use Rattle.trio_image.specs.Fault.{HasLength, IsBadSuper}
-use Rattle.trio_image.specs.Image.{IsVerified, IsWholeImage}
-use Rattle.trio_image.specs.inner.Reading.{AreFilePages}
+use Rattle.trio_image.proofs.Words.{◌*◌, ◌/◌, ◌<◌, ◌∙◌, ◌≡◌, ◌≤◌, AreFilePages, BytesVerify, HasLength, HasPage, IsBadSuper, IsSuperblock, IsVerified, IsWholeImage, List, None, Option, PagesVerify, Some, Superblock, ap, arith, bytes_in, get_or, length, pages_in, refl, subst, suc, superblock_facts, sym, take, zero, ℕ}
 use Rattle.trio_image.proofs.Pages.{first_bytes, length-bytes_in, length-pages_in, pages_again, whole_pages_in}
 
 first_page : (n : ℕ) (bytes : List ℕ) → 0 < n → HasPage (pages_in n bytes) 0 (take 4096 bytes)

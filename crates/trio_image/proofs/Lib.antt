@@ -8,3 +8,4 @@ pub mod NodeParts
 pub mod NoteParts
 pub mod Storing
 pub mod Made
+mod Words

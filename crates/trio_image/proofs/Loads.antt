@@ -1,15 +1,7 @@
 -- A file that was read is an image or is refused.
-use Rattle.std.proofs.Common.{◌≡◌, ℕ, ◌/◌, ◌≤◌, List, length, Option, sym, ap, subst, ◌∙◌, arith}
+use Rattle.trio_image.proofs.Words.{◌/◌, ◌∙◌, ◌≡◌, ◌≤◌, AreFilePages, BadSuper, Fails, HasLength, ImagePages, IsFileOf, IsFirstPageFault, IsPagesFault, IsVerified, IsWholeImage, Length, List, LoadFails, LoadFault, NoMemory, Option, PagesVerify, ReadFault, Shelf, Superblock, TooLong, ap, arith, length, subst, sym, ℕ}
 use Rattle.std.specs.Prelude.{IfOk, Result, Ok, Err}
-use Rattle.trio_io.specs.Shelf.{Shelf}
-use Rattle.trio_layout.specs.declared.superblock.Superblock.{Superblock}
-use Rattle.trio_survey.specs.Stored.{PagesVerify}
-use Rattle.trio_image.specs.declared.fault.LoadFault.{LoadFault}
-use Rattle.trio_image.specs.declared.fault.LoadFault.TheVariants.{ReadFault, TooLong, Length, BadSuper, Fails, NoMemory}
-use Rattle.trio_image.specs.Fault.{HasLength, IsPagesFault}
-use Rattle.trio_image.specs.Image.{ImagePages, IsVerified, IsWholeImage}
-use Rattle.trio_image.specs.Load.{IsRefused, LoadFails, Loads}
-use Rattle.trio_image.specs.inner.Reading.{AreFilePages, IsFileOf, IsFirstPageFault}
+use Rattle.trio_image.specs.Load.{IsRefused, Loads}
 use Rattle.trio_image.proofs.Images.{file_pages, pages_whole}
 use Rattle.trio_image.proofs.Pages.{length-pages_in}
 use Rattle.trio_image.proofs.Refused.{first_page_loads, first_page_refuses, load_refuses, pages_load}

@@ -1,40 +1,27 @@
 -- A core whose root is an empty directory: the root is the one file met, and the tables have just its row.
-use Rattle.std.proofs.Common.{◌≡◌, ◌≢◌, ℕ, zero, suc, ◌+◌, ◌-◌, ◌*◌, ◌<◌, ◌≤◌, ◌&&◌, Bool, true, false, cond, List, [], ◌∷◌, ◌++◌, length, get_or, replicate, Option, Some, None, Ok, refl, sym, ap, subst, ◌∙◌, inl, inr, arith}
-use Rattle.std.specs.Prelude.{nat_lt, if◌then◌else◌, is_some, slice_set, IsTrue, ◌==◌}
-use Rattle.std.specs.List.{count_by, list_all}
-use Rattle.std.specs.Str.{bytes_eq}
-use Rattle.std.proofs.lemmas.Bool.{cases_eq, cases_lt, eq-eqb, le-leb, le-ltb, lt-ltb}
+use Rattle.trio_image.proofs.Words.{if◌then◌else◌, ◌*◌, ◌++◌, ◌+◌, ◌-◌, ◌<◌, ◌==◌, ◌∙◌, ◌∷◌, ◌≡◌, ◌≢◌, ◌≤◌, Body, Bool, Core, CoreRange, FillsPages, HasPage, IsMade, List, None, Ok, Option, PagesVerify, Row, Some, StoresTables, Superblock, TablesAre, [], ap, arith, body_at, bytes_eq, chain_of, core_in, counts_of, eq-eqb, get_or, get_or-append-add, get_or_append_left, image_in, inl, inr, is_whole_page, length, length-append, length-zeros, list_all, new_counts, owned_count, owner_bytes, owner_count, refl, shadow_bytes, shadow_count, subst, suc, superblock_fits, sym, tabulated, tabulated-get, tabulated-length, true, true-bytes_eq, zero, zero_pages, zeros, ℕ}
+use Rattle.std.proofs.Common.{◌&&◌, false, cond, replicate}
+use Rattle.std.specs.Prelude.{nat_lt, is_some, slice_set, IsTrue}
+use Rattle.std.specs.List.{count_by}
+use Rattle.std.proofs.lemmas.Bool.{cases_eq, cases_lt, le-leb, le-ltb, lt-ltb}
 use Rattle.std.proofs.lemmas.Bool.Decides.{eqb_tells}
-use Rattle.std.proofs.lemmas.List.{ext_get_or, length-append, length-replicate, length-set, get_or-append-add, get_or_append_left, get_or-replicate, get_or-set_other, get_or-set_same}
+use Rattle.std.proofs.lemmas.List.{ext_get_or, length-replicate, length-set, get_or-replicate, get_or-set_other, get_or-set_same}
 use Rattle.std.proofs.lemmas.List.Folds.{sum_by-replicate}
 use Rattle.std.proofs.lemmas.List.Sums.{sum_by-append}
-use Rattle.trio_page.specs.Field.{zeros}
-use Rattle.trio_page.proofs.Cursor.{length-zeros}
-use Rattle.trio_rights.specs.Row.{Row}
 use Rattle.trio_rights.specs.declared.kind.Kind.TheVariants.{Directory}
 use Rattle.trio_tables.specs.Tables.{free_count, free_owners, live_count, no_rows}
-use Rattle.trio_layout.specs.declared.range.CoreRange.{CoreRange}
-use Rattle.trio_layout.specs.declared.superblock.Superblock.{Superblock}
-use Rattle.trio_layout.specs.declared.body.Body.{Body}
 use Rattle.trio_layout.specs.Range.{core_count}
-use Rattle.trio_layout.specs.Body.{body_at, body_bytes, body_fits, body_of}
-use Rattle.trio_layout.specs.Core.{Core, nowhere}
-use Rattle.trio_layout.specs.Chain.{chain_of}
+use Rattle.trio_layout.specs.Body.{body_bytes, body_fits, body_of}
+use Rattle.trio_layout.specs.Core.{nowhere}
 use Rattle.trio_layout.specs.Sound.{is_sound, owners_table, rows_table}
-use Rattle.trio_layout.specs.Superblock.{superblock_fits}
 use Rattle.trio_layout.specs.Survey.{FileRead, Front, Met, children, descend, file_of, file_with, levels, owner_of, plain, root_of, row_of, survey}
 use Rattle.trio_layout.proofs.Bodies.{is_read}
-use Rattle.trio_layout.proofs.Reading.{true-bytes_eq}
-use Rattle.trio_lists.specs.Lists.{result_then, tabulated, there_or}
-use Rattle.trio_lists.proofs.Tabulated.{tabulated-length, tabulated-get}
-use Rattle.trio_tables.specs.Stored.{owner_bytes, shadow_bytes}
-use Rattle.trio_survey.specs.Stored.{core_in, image_in, HasPage, PagesVerify, StoresTables}
-use Rattle.trio_image.specs.Counts.{counts_of, is_file, owned_count}
-use Rattle.trio_image.specs.Front.{FillsPages, front_pages, owner_count, shadow_count}
-use Rattle.trio_image.specs.Image.{is_whole_page, TablesAre}
-use Rattle.trio_image.specs.Made.{empty_directory, new_counts, new_superblock, Fits, IsMade}
+use Rattle.trio_lists.specs.Lists.{result_then, there_or}
+use Rattle.trio_image.specs.Counts.{is_file}
+use Rattle.trio_image.specs.Front.{front_pages}
+use Rattle.trio_image.specs.Made.{empty_directory, new_superblock, Fits}
 use Rattle.trio_image.proofs.Storing.{laid_core, laid_count, laid_tables, laid_whole, IsLaid}
-use Rattle.trio_image.specs.inner.NewTables.{root_row, root_rows, zero_pages}
+use Rattle.trio_image.specs.inner.NewTables.{root_row, root_rows}
 
 -- ---- one file
 

@@ -1,31 +1,22 @@
 -- The parts of a node as they are read.
-use Rattle.std.proofs.Common.{◌≡◌, ℕ, zero, suc, ◌+◌, ◌-◌, ◌*◌, ◌≤◌, List, [], ◌∷◌, ◌++◌, length, take, drop, Option, None, Some, Ok, Err, refl, sym, ap, ◌∙◌, arith}
+use Rattle.trio_image.proofs.Words.{if◌then◌else◌, ◌*◌, ◌++◌, ◌+◌, ◌-◌, ◌==◌, ◌∙◌, ◌∷◌, ◌≡◌, ◌≤◌, Body, Core, CoreRange, List, None, Ok, Option, Row, Some, Superblock, [], ap, arith, body_of_row, chain_of, content_of, core_in, core_with, drop, joined_pages, length, name_by_row, name_said, node_by_row, refl, slot_of, suc, sym, tabulated, tabulated-length, take, zero, ℕ}
+use Rattle.std.proofs.Common.{Err}
 use Rattle.trio_page.specs.Field.{number_at}
 use Rattle.std.proofs.lemmas.List.{drop_all}
 use Rattle.std.specs.Option.{option_map_or}
-use Rattle.std.specs.Prelude.{◌==◌, if◌then◌else◌}
 use Rattle.trio_rights.specs.declared.kind.Kind.{Kind}
-use Rattle.trio_rights.specs.Row.{Row}
-use Rattle.trio_layout.specs.declared.range.CoreRange.{CoreRange}
-use Rattle.trio_layout.specs.declared.body.Body.{Body}
-use Rattle.trio_layout.specs.declared.superblock.Superblock.{Superblock}
 use Rattle.trio_layout.specs.Body.{block_count, body_of, body_bytes}
-use Rattle.trio_layout.specs.Chain.{Chain, chain_of, index_count}
-use Rattle.trio_layout.specs.Core.{Core, Location, page_of}
+use Rattle.trio_layout.specs.Chain.{Chain, index_count}
+use Rattle.trio_layout.specs.Core.{Location, page_of}
 use Rattle.trio_layout.specs.Entries.{body_in_slot, slot_bytes}
 use Rattle.trio_layout.specs.Image.{body_at_place}
-use Rattle.trio_survey.specs.Seen.{core_with}
-use Rattle.trio_survey.specs.Stored.{core_in}
 use Rattle.trio_survey.proofs.Gathers.{body_is}
 use Rattle.trio_survey.proofs.Roots.{chain_rootless}
-use Rattle.trio_lists.specs.Lists.{tabulated}
-use Rattle.trio_lists.proofs.Tabulated.{tabulated-length}
-use Rattle.trio_layout.specs.Slot.{slot_of}
 use Rattle.trio_layout.proofs.SlotLemmas.{empty_value}
 use Rattle.trio_nodes.specs.declared.node.Node.{Node}
 use Rattle.trio_nodes.specs.Nodes.{Nodes, with_node}
 use Rattle.trio_nodes.proofs.NodeFacts.{with_node-end}
-use Rattle.trio_state.specs.ImageNodes.{body_of_row, bytes_at_place, chain_bytes, content_of, joined_pages, name_by_row, name_said, node_by_row}
+use Rattle.trio_state.specs.ImageNodes.{bytes_at_place, chain_bytes}
 
 -- a page has 16 slots
 pub slot_bytes-past : (slot : ℕ) (bytes : List ℕ) → length bytes ≤ 256 * slot → slot_bytes slot bytes ≡ []

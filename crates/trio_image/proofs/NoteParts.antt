@@ -1,12 +1,7 @@
 -- The parts of a note as they are read.
-use Rattle.std.proofs.Common.{◌≡◌, ℕ, suc, ◌+◌, List, [], ◌∷◌, ◌++◌, refl, sym, ap, ◌∙◌, arith}
+use Rattle.trio_image.proofs.Words.{◌++◌, ◌+◌, ◌∙◌, ◌∷◌, ◌≡◌, Core, List, Row, [], ap, arith, body_at, body_of_row, name_by_row, note_by_row, refl, suc, sym, tabulated, ℕ}
 use Rattle.std.specs.Int.{w64}
-use Rattle.trio_lists.specs.Lists.{tabulated}
 use Rattle.trio_page.specs.Field.{number_at}
-use Rattle.trio_rights.specs.Row.{Row}
-use Rattle.trio_layout.specs.Body.{body_at}
-use Rattle.trio_layout.specs.Core.{Core}
-use Rattle.trio_state.specs.ImageNodes.{body_of_row, name_by_row, note_by_row}
 
 -- no bytes say no size
 pub size-nothing : 0 ≡ number_at w64 16 []

@@ -1,14 +1,11 @@
 -- Pages that bytes are cut into, and bytes that pages are joined to.
-use Rattle.std.proofs.Common.{◌≡◌, ℕ, zero, suc, ◌+◌, ◌*◌, ◌≤◌, true, List, [], ◌∷◌, ◌++◌, length, take, drop, eq-eqb, eqb-true, ◌==◌, get_or, Option, Some, None, refl, sym, ap, ◌∙◌, arith, append_assoc}
+use Rattle.trio_image.proofs.Words.{◌*◌, ◌++◌, ◌+◌, ◌∙◌, ◌∷◌, ◌≡◌, ◌≤◌, List, None, Option, Some, [], ap, arith, bytes_in, drop, drop-append_seam, drop-drop, get_or, is_whole_page, length, length-append, length-drop, length-take, list_all, list_all-append, pages_in, refl, suc, sym, take, take-append_seam, true, zero, ℕ}
+use Rattle.std.proofs.Common.{eq-eqb, eqb-true, ◌==◌, append_assoc}
 use Rattle.std.specs.Prelude.{set, unwrap_or, ◌<◌}
-use Rattle.std.specs.List.{list_all}
-use Rattle.std.proofs.lemmas.List.{append-nil, drop-drop, drop-set-lt, length-append, length-drop, length-take, take_more}
-use Rattle.std.proofs.Math.Seq.{drop-nil, take-append_seam, drop-append_seam}
+use Rattle.std.proofs.lemmas.List.{append-nil, drop-set-lt, take_more}
+use Rattle.std.proofs.Math.Seq.{drop-nil}
 use Rattle.std.proofs.lemmas.Bool.{and_parts}
 use Rattle.std.proofs.lemmas.Grind.{flat_map-append}
-use Rattle.std.proofs.lemmas.List.Folds.{list_all-append}
-use Rattle.trio_survey.specs.Stored.{bytes_in, pages_in}
-use Rattle.trio_image.specs.Image.{is_whole_page}
 
 pub length-pages_in : (n : ℕ) (bytes : List ℕ) → length (pages_in n bytes) ≡ n
 length-pages_in zero bytes = refl

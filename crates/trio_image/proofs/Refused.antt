@@ -1,16 +1,9 @@
 -- Bytes that are refused don't verify.
-use Rattle.std.proofs.Common.{◌≡◌, ◌≢◌, ℕ, ◌*◌, List, take, Option, refl, sym, ap, subst, ◌∙◌, inl, inr, arith}
-use Rattle.trio_layout.specs.declared.superblock.Superblock.{Superblock}
-use Rattle.trio_layout.specs.Superblock.{IsSuperblock}
-use Rattle.trio_layout.proofs.Superblocks.{only, superblock_facts}
-use Rattle.trio_survey.specs.Stored.{pages_in, BytesVerify, PagesVerify}
+use Rattle.trio_image.proofs.Words.{◌*◌, ◌∙◌, ◌≡◌, ◌≢◌, BadSuper, BytesVerify, Fails, HasLength, IsBadSuper, IsFirstPageFault, IsPagesFault, IsSuperblock, Length, List, LoadFault, NoMemory, Option, PagesVerify, ReadFault, Superblock, TooLong, ap, arith, inl, inr, only, pages_in, refl, subst, superblock_facts, sym, take, ℕ}
 use Rattle.trio_survey.specs.declared.fault.SurveyFault.{SurveyFault}
 use Rattle.trio_survey.specs.declared.fault.SurveyFault.TheVariants.{Fails as SurveyFails, NoMemory as SurveyNoMemory}
 use Rattle.trio_survey.specs.Verdict.{IsDenied}
-use Rattle.trio_image.specs.declared.fault.LoadFault.{LoadFault}
-use Rattle.trio_image.specs.declared.fault.LoadFault.TheVariants.{ReadFault, TooLong, Length, BadSuper, Fails, NoMemory}
-use Rattle.trio_image.specs.Fault.{fault_of_survey, HasLength, IsBadLength, IsBadSuper, IsLoadFault, IsPagesFault}
-use Rattle.trio_image.specs.inner.Reading.{IsFirstPageFault}
+use Rattle.trio_image.specs.Fault.{fault_of_survey, IsBadLength, IsLoadFault}
 
 -- bytes are those of one superblock at most
 one_superblock : (bytes : List ℕ) (s t : Superblock) → IsSuperblock bytes s → IsSuperblock bytes t → s ≡ t

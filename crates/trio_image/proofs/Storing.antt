@@ -1,21 +1,10 @@
 -- The pages before a core, and any core behind them: they store the tables that they were made of.
-use Rattle.std.proofs.Common.{◌≡◌, ℕ, zero, suc, ◌+◌, ◌-◌, ◌*◌, ◌<◌, ◌≤◌, Bool, true, ◌==◌, List, [], ◌∷◌, ◌++◌, length, get_or, Option, Some, None, IsTrue, refl, ap, sym, ◌∙◌, arith}
-use Rattle.std.specs.List.{list_all}
-use Rattle.std.proofs.lemmas.Bool.{eq-eqb}
-use Rattle.std.proofs.lemmas.List.{length-append, get_or-append-add, get_or_append_left}
-use Rattle.std.proofs.lemmas.List.Folds.{list_all-append}
-use Rattle.trio_page.proofs.Cursor.{length-zeros}
+use Rattle.trio_image.proofs.Words.{◌*◌, ◌++◌, ◌+◌, ◌-◌, ◌<◌, ◌∙◌, ◌∷◌, ◌≡◌, ◌≤◌, Bool, FillsPages, HasSuperblock, IsWholeImage, List, None, Option, Row, Some, StoresTables, Superblock, [], ap, arith, eq-eqb, get_or, get_or-append-add, get_or_append_left, is_whole_page, length, length-append, length-zeros, list_all, list_all-append, owner_bytes, owner_count, padded_to_pages, refl, shadow_bytes, shadow_count, suc, superblock_facts, superblock_fits, sym, table_pages, tabulated, tabulated-get, tabulated-length, true, zero, ℕ}
+use Rattle.std.proofs.Common.{◌==◌, IsTrue}
 use Rattle.trio_page.proofs.Fields.{length-slice}
-use Rattle.trio_rights.specs.Row.{Row}
-use Rattle.trio_tables.specs.Stored.{shadow_bytes, owner_bytes, padded_to_pages, page_at}
-use Rattle.trio_layout.specs.declared.superblock.Superblock.{Superblock}
-use Rattle.trio_layout.specs.Superblock.{page_count, superblock_bytes, superblock_fits}
-use Rattle.trio_layout.proofs.Superblocks.{superblock_facts}
-use Rattle.trio_lists.proofs.Tabulated.{tabulated-length, tabulated-get}
-use Rattle.trio_lists.specs.Lists.{tabulated}
-use Rattle.trio_survey.specs.Stored.{HasSuperblock, StoresTables}
-use Rattle.trio_image.specs.Front.{FillsPages, front_pages, owner_count, owner_pages, shadow_count, shadow_pages, table_pages}
-use Rattle.trio_image.specs.Image.{is_whole_page, IsWholeImage}
+use Rattle.trio_tables.specs.Stored.{page_at}
+use Rattle.trio_layout.specs.Superblock.{page_count, superblock_bytes}
+use Rattle.trio_image.specs.Front.{front_pages, owner_pages, shadow_pages}
 
 -- each element of a table by number passes a test
 pub tabulated-all : {X : Type 0} (p : X → Bool) (f : ℕ → X) (n : ℕ) → ((k : ℕ) → k < n → p (f k) ≡ true) → list_all p (tabulated f n) ≡ true

@@ -1,15 +1,9 @@
 -- The superblock of pages.
-use Rattle.std.proofs.Common.{◌≡◌, ℕ, List, Option, Some, refl, sym, ap, subst, ◌∙◌}
-use Rattle.trio_layout.specs.declared.superblock.Superblock.{Superblock}
-use Rattle.trio_layout.specs.Superblock.{IsSuperblock, superblock_at, superblock_bytes, superblock_fits, superblock_of}
-use Rattle.trio_layout.proofs.Reading.{true-bytes_eq}
+use Rattle.trio_image.proofs.Words.{if◌then◌else◌, ◌∙◌, ◌≡◌, HasSuperblock, IsSuperblock, IsVerified, List, Option, Some, Superblock, ap, bytes_eq, only, refl, subst, superblock_fits, sym, true-bytes_eq, ℕ}
+use Rattle.trio_layout.specs.Superblock.{superblock_at, superblock_bytes, superblock_of}
 use Rattle.trio_survey.specs.Verdict.{superblock_in}
 use Rattle.std.specs.Option.{option_and_then}
-use Rattle.std.specs.Str.{bytes_eq}
-use Rattle.std.specs.Prelude.{if◌then◌else◌, IsSome, ◌&&◌, None}
-use Rattle.trio_layout.proofs.Superblocks.{only}
-use Rattle.trio_survey.specs.Stored.{HasSuperblock}
-use Rattle.trio_image.specs.Image.{IsVerified}
+use Rattle.std.specs.Prelude.{IsSome, ◌&&◌, None}
 
 -- pages have one superblock at most
 pub same_superblock : (s t : Superblock) (pages : List (Option (List ℕ))) → HasSuperblock s pages → HasSuperblock t pages → s ≡ t

@@ -1,25 +1,14 @@
 -- What a walk that has passed all files has found.
-use Rattle.std.proofs.Common.{◌≡◌, ℕ, suc, ◌*◌, ◌≤◌, Bool, true, false, ◌&&◌, List, [], ◌∷◌, length, take, drop, None, Some, is_ok, inl, inr, refl, sym, ap, ◌∙◌, subst, arith}
-use Rattle.std.specs.Prelude.{MatchOption}
-use Rattle.std.specs.List.{list_all, flat_map}
-use Rattle.std.proofs.lemmas.List.{append-nil, drop_all, length-map, take_all}
-use Rattle.std.proofs.lemmas.Bool.{and_from, and_left, and_right}
-use Rattle.trio_rights.specs.Bundle.{bundle_pages}
-use Rattle.trio_lists.specs.Lists.{In, is_among, are_new}
-use Rattle.trio_lists.proofs.Members.{In-flat}
+use Rattle.trio_judge.proofs.Words.{◌&&◌, ◌*◌, ◌∙◌, ◌∷◌, ◌≡◌, ◌≤◌, Bool, BreaksGrammar, Case, FaultAt, In, In-flat, IsPassed, IsQueued, IsReady, KeepRights, List, Listing, Lists, Location, MatchOption, Met, None, OwningFails, PageListing, RightsFail, Some, Stands, Walk, [], and_from, ap, append-nil, are_new, arith, bundle_pages, drop, entries_in, entry_in_grammar, entry_is_own, entry_keeps_rights, entry_listed, false, file_in, file_keeps_rights, file_met, files_of, flat_map, inl, inr, is_among, is_ok, judged_entries, judged_listings, length, length-map, list_all, new_entries, numbers, pages_within, refl, subst, suc, sym, take, take_all, true, written_files, ℕ}
+use Rattle.std.proofs.lemmas.List.{drop_all}
+use Rattle.std.proofs.lemmas.Bool.{and_left, and_right}
 use Rattle.trio_lists.proofs.Gathered.{not_new}
-use Rattle.trio_layout.specs.Core.{Location}
-use Rattle.trio_layout.specs.Survey.{Met, numbers}
-use Rattle.trio_layout.specs.Sound.{PageListing}
-use Rattle.trio_layout.specs.Case.{Case, file_in}
-use Rattle.trio_layout.specs.JudgedFiles.{entries_in, judged_entries, judged_files, judged_pages, new_entries, pages_within, written_files}
-use Rattle.trio_layout.specs.Listing.{Listing, entry_listed, listing}
-use Rattle.trio_layout.specs.Rules.{entry_in_grammar, entry_is_own, entry_keeps_rights, file_keeps_rights, meets_grammar, meets_owning, meets_rights}
-use Rattle.trio_layout.specs.Broken.{BreaksGrammar, BreaksOwning, BreaksRights, judged_listings}
+use Rattle.trio_layout.specs.JudgedFiles.{judged_files, judged_pages}
+use Rattle.trio_layout.specs.Listing.{listing}
+use Rattle.trio_layout.specs.Rules.{meets_grammar, meets_owning, meets_rights}
+use Rattle.trio_layout.specs.Broken.{BreaksOwning, BreaksRights}
 use Rattle.trio_layout.proofs.Walks.{passed_are_fronts}
-use Rattle.trio_layout.specs.declared.refusal.FaultAt.{FaultAt}
-use Rattle.trio_judge.specs.declared.walk.Walk.{Walk}
-use Rattle.trio_judge.specs.inner.Walk.{HasEnded, IsPassed, IsQueued, IsReady, KeepRights, Lists, OwningFails, RightsFail, Stands, file_met, files_of}
+use Rattle.trio_judge.specs.inner.Walk.{HasEnded}
 use Rattle.trio_judge.proofs.Faults.{pages-listed}
 use Rattle.trio_judge.proofs.Listings.{entries_few, pages_few}
 use Rattle.trio_judge.proofs.Noting.{so_far}

@@ -1,20 +1,6 @@
 -- Where I2 and I4 fail, whatever files and entries come behind.
-use Rattle.std.proofs.Common.{◌≡◌, ℕ, true, false, List, [], ◌∷◌, ◌++◌, map, inl, inr, refl, sym, ap, ◌∙◌, subst, append_assoc}
-use Rattle.std.specs.List.{flat_map}
-use Rattle.std.proofs.lemmas.List.{append-nil, map-append}
-use Rattle.std.proofs.lemmas.List.Concat.{flat_map-append}
-use Rattle.trio_rights.specs.Bundle.{bundle_pages}
-use Rattle.trio_lists.specs.Lists.{In, is_among}
-use Rattle.trio_lists.proofs.Members.{In-left, In-right}
-use Rattle.trio_layout.specs.Survey.{Met, numbers}
-use Rattle.trio_layout.specs.Sound.{PageListing}
-use Rattle.trio_layout.specs.Case.{Case, file_in}
-use Rattle.trio_layout.specs.JudgedFiles.{judged_files, judged_entries, pages_within}
-use Rattle.trio_layout.specs.Rules.{entry_is_own, entry_keeps_rights, file_keeps_rights}
-use Rattle.trio_layout.specs.Broken.{judged_listings}
-use Rattle.trio_layout.specs.declared.refusal.FaultAt.{FaultAt}
-use Rattle.trio_judge.specs.inner.Walk.{IsForeign, OwningFails, RightsFail}
-use Rattle.trio_layout.specs.Core.{nowhere, at_page}
+use Rattle.trio_judge.proofs.Words.{◌++◌, ◌∙◌, ◌∷◌, ◌≡◌, Case, FaultAt, In, In-left, In-right, IsForeign, List, Met, OwningFails, PageListing, RightsFail, [], ap, append-nil, append_assoc, at_page, bundle_pages, entry_is_own, entry_keeps_rights, false, file_in, file_keeps_rights, flat_map, flat_map-append, inl, inr, is_among, judged_entries, judged_listings, map, map-append, nowhere, numbers, pages_within, refl, subst, sym, true, ℕ}
+use Rattle.trio_layout.specs.JudgedFiles.{judged_files}
 
 -- the place of an entry
 abbrev pub entry_fault : Met → FaultAt

@@ -1,24 +1,10 @@
 -- One file more.
-use Rattle.std.proofs.Common.{◌≡◌, ℕ, ◌+◌, ◌<◌, ◌≤◌, is_some, Bool, true, cond, List, [], ◌∷◌, ◌++◌, length, Option, None, Some, Ok, is_ok, sym, ap, ◌∙◌, arith}
-use Rattle.std.specs.List.{list_all, flat_map}
-use Rattle.std.specs.Option.{option_or}
-use Rattle.std.proofs.lemmas.List.{append-nil, length-append}
-use Rattle.std.proofs.lemmas.List.Concat.{flat_map-append}
-use Rattle.trio_rights.specs.Bundle.{bundle_pages}
-use Rattle.trio_layout.specs.Survey.{Met, FileRead, pages_in}
-use Rattle.trio_layout.specs.Case.{Case, file_in}
-use Rattle.trio_layout.specs.JudgedFiles.{pages_within}
-use Rattle.trio_layout.specs.Listing.{Listing, file_listed}
-use Rattle.trio_layout.specs.Rules.{file_keeps_rights}
-use Rattle.trio_case.specs.Order.{AreMarked}
+use Rattle.trio_judge.proofs.Words.{◌++◌, ◌+◌, ◌<◌, ◌∙◌, ◌∷◌, ◌≡◌, ◌≤◌, AreMarked, AreOwn, Bool, Case, FileRead, FirstForeign, HasListingRoom, List, Listing, Lists, Met, None, Ok, Option, Owns, Some, Stands, Walk, [], all-push, ap, append-nil, arith, bundle_pages, cond, file_in, file_keeps_rights, file_listed, flat_map, flat_map-append, is_ok, is_some, length, length-append, list_all, listing_of, nowhere, option_or, pages_in, pages_within, sym, true, ℕ}
 use Rattle.trio_case.specs.Listed.{blocks_listed, index_listed}
-use Rattle.trio_judge.specs.declared.walk.Walk.{Walk}
-use Rattle.trio_judge.specs.inner.Walk.{AreOwn, FirstForeign, HasListingRoom, Lists, Owns, Stands, body_keeps_rights, listing_of}
-use Rattle.trio_case.proofs.Parts.{all-push}
+use Rattle.trio_judge.specs.inner.Walk.{body_keeps_rights}
 use Rattle.trio_judge.proofs.Noting.{files_still, foreign_block, foreign_index, listed-file, own_both, owns_file, rights_file}
 use Rattle.trio_case.proofs.Listings.{listed_pages}
 use Rattle.trio_judge.proofs.Listings.{listed_files, pages_few}
-use Rattle.trio_layout.specs.Core.{nowhere}
 
 -- the first foreign page, of the index pages and then the blocks
 pub first_of_both : (own before index blocks : List ℕ) (marks marks' : List Bool) (a b : Option ℕ) → FirstForeign own before index marks a → ((seen : List ℕ) → AreMarked own marks seen → FirstForeign own seen blocks marks' b) → FirstForeign own before (index ++ blocks) marks' (option_or a b)

@@ -1,37 +1,22 @@
 -- Directories that list again what one before them lists.
-use Rattle.std.proofs.Common.{◌≡◌, ℕ, zero, suc, ◌+◌, ◌-◌, ◌<◌, ◌≤◌, ◌^◌, ◌⊎◌, eqb, min, Bool, true, false, ◌&&◌, ◌||◌, List, [], ◌∷◌, ◌++◌, length, map, get_or, replicate, take, Option, Some, None, Result, Ok, inl, inr, is_some, refl, sym, ap, ◌∙◌, subst, arith}
-use Rattle.std.specs.List.{list_all, filter, flat_map}
-use Rattle.std.proofs.lemmas.Bool.{and_from, and_parts, cases_eq, false≢true, or_cases}
-use Rattle.std.proofs.lemmas.Bool.Decides.{nat_tests}
-use Rattle.std.proofs.lemmas.List.{append-nil, length-replicate, map-append, take_more}
-use Rattle.std.proofs.lemmas.List.Concat.{flat_map-append}
-use Rattle.std.proofs.lemmas.List.Folds.{list_all-append}
-use Rattle.trio_rights.specs.Bundle.{bundle_pages}
-use Rattle.trio_rights.specs.declared.kind.Kind.TheVariants.{Directory}
-use Rattle.trio_lists.specs.Lists.{In, is_among, result_map, there_or}
+use Rattle.trio_judge.proofs.Words.{◌&&◌, ◌++◌, ◌+◌, ◌-◌, ◌<◌, ◌^◌, ◌||◌, ◌∙◌, ◌∷◌, ◌≡◌, ◌≤◌, ◌⊎◌, AreFoundHeads, Bool, Case, Directory, FileRead, In, In-is_among, In-left, In-map, In-right, IsListedBefore, IsPassed, IsQueued, List, Listed, Location, Met, None, Ok, Option, Result, Some, Stands, Walk, [], and_from, and_parts, ap, append-nil, arith, at_page, block_count, body_of, bundle_core, bundle_pages, children_in, entries_in, entry_in_grammar, eqb, false, false≢true, file_in, file_in_room, files_of, filter, first_listed, flat_map, flat_map-append, get_or, has_body, inl, inr, is_among, is_among-In, is_marked, is_new, is_some, length, list_all, list_all-In, list_all-append, map, map-In, map-append, met_in, nat_tests, numbers, plain, refl, replicate, subst, suc, sym, take, take_more, true, within_from, zero, ℕ}
+use Rattle.std.proofs.Common.{min}
+use Rattle.std.proofs.lemmas.Bool.{cases_eq, or_cases}
+use Rattle.std.proofs.lemmas.List.{length-replicate}
+use Rattle.trio_lists.specs.Lists.{result_map, there_or}
 use Rattle.trio_lists.proofs.Filters.{In-filter, Ok-one, some_one}
-use Rattle.trio_lists.proofs.Members.{In-is_among, In-left, In-map, In-right, is_among-In, list_all-In, list_all-each, map-In, result_map-Ok, result_then-Ok, there_or-Ok}
+use Rattle.trio_lists.proofs.Members.{list_all-each, result_map-Ok, result_then-Ok, there_or-Ok}
 use Rattle.trio_layout.specs.declared.body.Body.{Body}
 use Rattle.trio_layout.specs.declared.range.CoreRange.{CoreRange}
-use Rattle.trio_layout.specs.Body.{block_count, body_of}
-use Rattle.trio_layout.specs.Case.{Case, bundle_core, file_in}
 use Rattle.trio_layout.specs.Chain.{Chain, index_count, with_index}
-use Rattle.trio_layout.specs.Core.{Core, Location, at_page, page_of}
-use Rattle.trio_layout.specs.Entries.{Listed}
+use Rattle.trio_layout.specs.Core.{Core, page_of}
 use Rattle.trio_layout.specs.Index.{Index, index_of}
-use Rattle.trio_layout.specs.JudgedFiles.{entries_in}
 use Rattle.trio_layout.specs.Listing.{is_kept}
-use Rattle.trio_layout.specs.Rules.{entry_in_grammar}
-use Rattle.trio_layout.specs.Survey.{FileRead, Met, children_in, first_listed, met_in, numbers, plain}
 use Rattle.trio_layout.specs.Within.{chain_within, entries_within, index_within}
 use Rattle.trio_layout.proofs.QueueLaws.{among-first_listed}
-use Rattle.trio_layout.proofs.WithinCore.{within_from, within_to}
-use Rattle.trio_case.specs.Order.{is_marked}
-use Rattle.trio_case.specs.Rooms.{file_in_room}
+use Rattle.trio_layout.proofs.WithinCore.{within_to}
 use Rattle.trio_case.specs.declared.room.PageRoom.{PageRoom}
-use Rattle.trio_judge.specs.declared.walk.Walk.{Walk}
-use Rattle.trio_judge.specs.inner.Again.{AreAllFound, AreFound, AreFoundHeads, IsFoundHead, IsListedBefore, has_body}
-use Rattle.trio_judge.specs.inner.Walk.{IsPassed, IsQueued, Stands, files_of, is_new}
+use Rattle.trio_judge.specs.inner.Again.{AreAllFound, AreFound, IsFoundHead}
 use Rattle.trio_judge.proofs.FileNoted.{stands_still}
 use Rattle.trio_case.proofs.IndexOnce.{index_once, index_page}
 use Rattle.trio_judge.proofs.Noting.{entries_still}

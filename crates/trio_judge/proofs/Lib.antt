@@ -8,3 +8,4 @@ mod Visiting
 mod Ending
 pub mod Starting
 mod FoundAgain
+mod Words

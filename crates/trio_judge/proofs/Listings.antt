@@ -1,19 +1,6 @@
 -- What a file lists, within its image and its bundle.
-use Rattle.std.proofs.Common.{◌≡◌, ◌*◌, ◌≤◌, List, [], ◌∷◌, length, Result, Ok, Err, refl, arith}
-use Rattle.std.specs.List.{flat_map}
-use Rattle.std.proofs.lemmas.List.{length-append, length-map}
-use Rattle.trio_rights.specs.Bundle.{bundle_pages}
-use Rattle.trio_lists.specs.Lists.{is_among}
-use Rattle.trio_lists.proofs.Members.{is_among-In, list_all-In}
-use Rattle.trio_layout.specs.Core.{Location}
-use Rattle.trio_layout.specs.Survey.{Met, FileRead, children_in, met_in, pages_in, plain}
-use Rattle.trio_layout.specs.Case.{Case, bundle_core, file_in}
-use Rattle.trio_layout.specs.JudgedFiles.{entries_in, pages_within}
-use Rattle.trio_layout.specs.Listing.{file_listed}
+use Rattle.trio_judge.proofs.Words.{◌*◌, ◌∷◌, ◌≡◌, ◌≤◌, Case, Err, FileRead, List, Location, Met, Ok, Owns, Result, [], arith, bundle_core, bundle_pages, children_in, entries_in, file_in, file_listed, flat_map, is_among, is_among-In, length, length-append, length-map, list_all-In, met_in, no_more, pages_in, pages_within, plain, refl, within_from}
 use Rattle.trio_layout.proofs.EntryNumbers.{AtMost, if_ok_at, within_most}
-use Rattle.trio_layout.proofs.WithinCore.{within_from}
-use Rattle.trio_judge.specs.inner.Walk.{Owns}
-use Rattle.trio_case.proofs.Distinct.{no_more}
 
 -- it has at most 16 entries a block
 entries_most : (c : Case) (m : Met) (f : FileRead) → file_in c m ≡ Ok f → length f.entries ≤ 16 * length f.chain.blocks

@@ -1,37 +1,15 @@
 -- One entry more, and one file more.
-use Rattle.std.proofs.Common.{◌≡◌, ℕ, ◌+◌, ◌<◌, ◌≤◌, is_some, vec_capacity, vec_len, Bool, true, false, ◌||◌, eqb, cond, List, [], ◌∷◌, ◌++◌, length, map, get_or, set, take, Option, None, Some, Ok, inl, inr, refl, sym, ap, ◌∙◌, subst, append_assoc, arith}
-use Rattle.trio_case.proofs.Distinct.{no_more}
-use Rattle.std.specs.List.{list_all, find, flat_map, filter}
-use Rattle.std.specs.Option.{option_map, option_map_or, option_or}
-use Rattle.std.specs.Prelude.{MatchOption}
-use Rattle.std.proofs.lemmas.List.{append-nil, get_or_default, length-append, length-map, length-set, map-append, map_push, take_more}
-use Rattle.std.proofs.lemmas.List.Concat.{flat_map-append}
-use Rattle.std.proofs.lemmas.List.Folds.{list_all-append}
-use Rattle.std.proofs.lemmas.Bool.{and_from, false≢true}
-use Rattle.trio_lists.proofs.Members.{In-cases, In-flat, In-is_among, In-left, In-map, In-right, is_among-In, map-In}
-use Rattle.trio_lists.proofs.Filters.{get_or-In}
+use Rattle.trio_judge.proofs.Words.{◌++◌, ◌+◌, ◌<◌, ◌||◌, ◌∙◌, ◌∷◌, ◌≡◌, ◌≤◌, AreFound, AreOwn, BadEntry, Bool, Case, DirEntry, FaultAt, FileRead, In, In-cases, In-flat, In-is_among, In-left, In-map, In-right, IsForeign, IsReady, KeepRights, List, Listed, Listing, Lists, MatchOption, Met, None, Noted, Ok, Option, OwningFails, Owns, PlacesLeft, RightsFail, SameQueue, Some, Walk, [], all-push, and_from, ap, append-nil, append_assoc, are_new, are_new-append, arith, bundle_pages, cond, entry_in_grammar, entry_is_own, entry_keeps_rights, entry_listed, eqb, false, false≢true, file_in, file_keeps_rights, file_listed, file_met, files_of, filter, first_listed, flat_map, flat_map-append, get_or, get_or-In, get_or_default, inl, inr, is_among, is_among-In, is_among-push, is_new, is_some, length, length-append, length-map, list_all, list_all-append, listed_met, listed_seen, listing_of, map, map-In, map-append, map_push, mark_more, met_in, no_more, nowhere, numbers, option_map, option_map_or, option_or, own_numbers, pages_within, place_of, plain, refl, subst, sym, take, take_more, true, vec_len, writes_directory, ℕ}
+use Rattle.std.proofs.Common.{vec_capacity, set}
+use Rattle.std.specs.List.{find}
+use Rattle.std.proofs.lemmas.List.{length-set}
 use Rattle.trio_rights.specs.declared.kind.Kind.TheVariants.{Regular}
-use Rattle.trio_layout.specs.Entries.{Listed}
-use Rattle.trio_case.specs.Reading.{listed_seen}
-use Rattle.trio_case.specs.declared.entries.DirEntry.{DirEntry}
-use Rattle.trio_rights.specs.Bundle.{bundle_pages}
-use Rattle.trio_lists.specs.Lists.{In, is_among, are_new}
-use Rattle.trio_lists.proofs.Marked.{are_new-append, are_new-push, is_among-append, is_among-push}
-use Rattle.trio_layout.specs.Survey.{Met, FileRead, numbers, first_listed, met_in, plain}
+use Rattle.trio_lists.proofs.Marked.{are_new-push, is_among-append}
 use Rattle.trio_layout.proofs.QueueLaws.{first_listed-append}
-use Rattle.trio_layout.specs.Case.{Case, file_in}
-use Rattle.trio_layout.specs.JudgedFiles.{pages_within}
-use Rattle.trio_layout.specs.Listing.{Listing, ListedEntry, entry_listed, file_listed}
-use Rattle.trio_layout.specs.Rules.{entry_in_grammar, entry_is_own, entry_keeps_rights, file_keeps_rights}
-use Rattle.trio_layout.specs.declared.refusal.FaultAt.{FaultAt}
-use Rattle.trio_judge.specs.declared.walk.Walk.{Walk}
-use Rattle.trio_judge.specs.inner.Walk.{AreOwn, IsForeign, KeepRights, Lists, IsListed, OwningFails, Owns, RightsFail, listing_of, AreFound, IsReady, SameFindings, SameQueue, BadEntry, Noted, PlacesLeft, files_of, file_met, is_new, own_numbers, listed_met, writes_directory}
-use Rattle.trio_case.specs.Order.{place_of}
+use Rattle.trio_layout.specs.Listing.{ListedEntry}
+use Rattle.trio_judge.specs.inner.Walk.{IsListed, SameFindings}
 use Rattle.trio_case.proofs.Counted.{place_some, place_within}
-use Rattle.trio_case.proofs.Ordered.{mark_more}
-use Rattle.trio_case.proofs.Parts.{all-push}
 use Rattle.trio_judge.proofs.Faults.{entry_denied, entry_fault, file_denied}
-use Rattle.trio_layout.specs.Core.{nowhere}
 
 -- ---- entries
 

@@ -1,25 +1,10 @@
 -- A room made for a case is one for the case with other bytes in a page, and for the case with touched blocks.
-use Rattle.std.proofs.Common.{◌≡◌, [], map, refl, sym, ap, ◌∙◌, subst}
-use Rattle.std.specs.Prelude.{MatchOption}
-use Rattle.trio_rights.specs.Row.{row_in}
-use Rattle.trio_rights.specs.Bundle.{Written}
-use Rattle.trio_lists.specs.Lists.{In}
-use Rattle.trio_lists.specs.Sorting.{sorted_by}
-use Rattle.trio_lease.specs.Bundles.{Bundled}
+use Rattle.trio_judge.proofs.Words.{◌∙◌, ◌≡◌, AreFound, Bundled, CaseShown, In, KeepRights, LentFile, Lists, MatchOption, Met, OwningFails, RightsFail, Starts, Walk, Written, [], ap, case_in, files_of, map, numbers, own_numbers, refl, row_in, sorted-map, sorted_by, subst, sym, writes_directory, writes_of, written_files, written_in, written_met}
 use Rattle.trio_lease.specs.Places.{with_bytes}
-use Rattle.trio_lease.specs.Shown.{LentFile}
-use Rattle.trio_lease.specs.Views.{written_in}
-use Rattle.trio_layout.specs.Survey.{Met, numbers}
-use Rattle.trio_layout.specs.JudgedFiles.{written_files, written_met}
-use Rattle.trio_case.specs.Cases.{CaseShown, case_in}
 use Rattle.trio_judge.specs.Judging.{IsJudgeRoom}
 use Rattle.trio_judge.specs.Laws.{RoomStaysTouched, RoomStaysWithBytes}
 use Rattle.trio_judge.specs.declared.verdict.Room.{Room}
-use Rattle.trio_judge.specs.declared.walk.Walk.{Walk}
-use Rattle.trio_judge.specs.inner.Walk.{AreFound, KeepRights, Lists, OwningFails, RightsFail, Starts, files_of, own_numbers, writes_directory}
-use Rattle.trio_case.proofs.CaseRows.{writes_of}
 use Rattle.trio_case.proofs.OtherBytes.{Alike, alike, alike_touched, lists_alike, pages_alike, touched}
-use Rattle.trio_case.proofs.Sorted.{sorted-map}
 use Rattle.trio_judge.proofs.Starting.{directory_lent, mets_of, written_number}
 
 module _ (k : CaseShown) (b' : Bundled) (a : Alike k.bundle b') where

@@ -1,11 +1,6 @@
 -- One page more of a file.
-use Rattle.std.proofs.Common.{◌≡◌, ℕ, ◌+◌, ◌<◌, ◌&&◌, ◌||◌, eqb, Bool, true, false, not, inl, inr, List, [], ◌∷◌, ◌++◌, length, get_or, take, append_assoc, drop, refl, sym, ap, ◌∙◌, ◌⊎◌}
-use Rattle.std.proofs.lemmas.List.{append-nil, take_more, drop_more, take-append-drop}
-use Rattle.trio_lists.specs.Lists.{is_among}
-use Rattle.trio_lists.proofs.Marked.{are_new-more, is_among-push}
-use Rattle.trio_case.specs.Order.{is_marked, AreMarked}
-use Rattle.trio_judge.specs.inner.Walk.{AreOwn, IsForeign}
-use Rattle.trio_case.proofs.Parts.{all-push}
+use Rattle.trio_judge.proofs.Words.{◌&&◌, ◌++◌, ◌+◌, ◌<◌, ◌||◌, ◌∙◌, ◌∷◌, ◌≡◌, ◌⊎◌, AreMarked, AreOwn, Bool, IsForeign, List, [], all-push, ap, append-nil, append_assoc, drop, drop_more, eqb, false, get_or, inl, inr, is_among, is_among-push, is_marked, length, not, refl, sym, take, take-append-drop, take_more, true, ℕ}
+use Rattle.trio_lists.proofs.Marked.{are_new-more}
 
 pub own_none : (own before : List ℕ) (marks : List Bool) → AreMarked own marks before → AreOwn own before [] marks
 own_none own before marks m = record { own_all = refl; new = refl; marked = rw (append-nil before) m }

@@ -1,34 +1,15 @@
 -- A walk before it begins.
-use Rattle.std.proofs.Common.{◌≡◌, ℕ, zero, suc, ◌+◌, ◌<◌, ◌≤◌, Bool, true, false, cond, ◌&&◌, ◌||◌, eqb, leb, ltb, List, [], ◌∷◌, ◌++◌, length, map, get_or, replicate, Option, None, Some, inl, inr, refl, sym, ap, ◌∙◌, subst, vec_capacity, vec_len, arith}
-use Rattle.std.specs.Option.{option_map, option_map_or}
-use Rattle.std.proofs.lemmas.Bool.{and_parts, false≢true}
-use Rattle.std.proofs.lemmas.List.{length-append, length-map}
-use Rattle.std.proofs.lemmas.Bool.Decides.{nat_tests}
-use Rattle.trio_rights.specs.Row.{Row, row_in}
-use Rattle.trio_rights.specs.declared.kind.Kind.TheVariants.{Directory}
-use Rattle.trio_rights.specs.Bundle.{Written, bundle_pages}
-use Rattle.trio_lists.specs.Lists.{In, is_among, are_new}
-use Rattle.trio_lists.specs.Sorting.{sorted_by}
+use Rattle.trio_judge.proofs.Words.{◌&&◌, ◌++◌, ◌+◌, ◌<◌, ◌||◌, ◌∙◌, ◌∷◌, ◌≡◌, ◌≤◌, AreFound, Bool, Case, CaseShown, Directory, HasListingRoom, In, In-cases, In-is_among, In-left, In-map, JudgedFile, KeepRights, LentFile, List, Lists, MatchOption, Met, None, Option, OwningFails, RightsFail, Some, Starts, Walk, Written, [], and_parts, ap, are_new, are_new-append, arith, bundle_pages, case_in, cond, eqb, false, false≢true, file_met, files_of, get_or, inl, inr, is_among, is_among-In, length, length-append, length-map, list_all-In, listing_of, map, map-In, nat_tests, numbers, option_map, option_map_or, own_numbers, place_of, refl, replicate, row_in, sorted-map, sorted_by, subst, suc, sym, true, vec_len, writes_directory, writes_of, written_files, written_in, written_met, zero, ℕ}
+use Rattle.std.proofs.Common.{leb, ltb, vec_capacity}
+use Rattle.trio_rights.specs.Row.{Row}
 use Rattle.trio_lists.proofs.Filters.{In-list_any, list_any-map}
-use Rattle.trio_lists.proofs.Marked.{are_new-append}
-use Rattle.trio_lists.proofs.Members.{In-cases, In-is_among, In-left, In-map, is_among-In, list_all-In, map-In}
 use Rattle.trio_lists.proofs.Sorting.{in_sorted, sorted_in, sorted_new}
-use Rattle.std.specs.Prelude.{MatchOption}
 use Rattle.trio_lease.specs.declared.parts.InoParts.{InoParts}
-use Rattle.trio_lease.specs.Shown.{LentFile}
-use Rattle.trio_lease.specs.Views.{written_in}
-use Rattle.trio_layout.specs.Survey.{Met, numbers}
-use Rattle.trio_layout.specs.Case.{Case}
-use Rattle.trio_layout.specs.JudgedFiles.{written_at, written_files, written_met}
-use Rattle.trio_case.specs.Order.{place_of}
-use Rattle.trio_case.specs.Cases.{CaseShown, case_in, lent_numbers, IsCase}
+use Rattle.trio_layout.specs.JudgedFiles.{written_at}
+use Rattle.trio_case.specs.Cases.{lent_numbers, IsCase}
 use Rattle.trio_case.specs.Memory.{is_directory, writes_directory as lends_directory}
-use Rattle.trio_judge.specs.declared.walk.JudgedFile.{JudgedFile}
-use Rattle.trio_judge.specs.declared.walk.Walk.{Walk}
-use Rattle.trio_judge.specs.inner.Walk.{AreFound, HasListingRoom, is_found, KeepRights, Lists, OwningFails, RightsFail, Starts, file_met, files_of, listing_of, own_numbers, writes_directory}
-use Rattle.trio_case.proofs.CaseRows.{writes_of}
+use Rattle.trio_judge.specs.inner.Walk.{is_found}
 use Rattle.trio_case.proofs.Ordered.{are_unmarked}
-use Rattle.trio_case.proofs.Sorted.{sorted-map}
 
 pub written_number : (w : Written) (o : Option Row) → (written_at w o).ino ≡ w.ino
 written_number w None = refl

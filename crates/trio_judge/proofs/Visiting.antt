@@ -1,27 +1,13 @@
 -- One file passed.
-use Rattle.std.proofs.Common.{◌≡◌, true, ℕ, suc, ◌+◌, ◌*◌, ◌<◌, ◌≤◌, List, [], ◌∷◌, ◌++◌, length, get_or, take, drop, Result, Ok, Err, inl, inr, refl, sym, ap, ◌∙◌, subst, arith}
-use Rattle.std.specs.List.{flat_map, filter}
+use Rattle.trio_judge.proofs.Words.{◌*◌, ◌++◌, ◌+◌, ◌<◌, ◌∙◌, ◌∷◌, ◌≡◌, ◌≤◌, BadEntry, BreaksGrammar, Case, Directory, Err, FaultAt, In, In-flat, IsPassed, IsQueued, IsReady, List, Listing, Location, Met, Noted, Ok, PlacesLeft, Result, SameQueue, Stands, Walk, [], ap, append-nil, arith, bundle_pages, drop, drop_more, entries_in, entry_listed, file_in, files_of, filter, first_listed, flat_map, flat_map-append, get_or, get_or-In, inl, inr, is_new, length, length-append, length-map, length-take-le, new_entries, no_more, numbers, own_numbers, refl, subst, suc, sym, take, take-append-drop, take_more, true, writes_directory, written_files, ℕ}
 use Rattle.std.specs.Prelude.{IfErr, OnOk}
-use Rattle.std.proofs.lemmas.List.{append-nil, drop_more, drop-append-le, length-append, length-map, length-take-le, take_more, take-append-drop, take-append-le}
-use Rattle.std.proofs.lemmas.List.Concat.{flat_map-append}
-use Rattle.trio_rights.specs.Bundle.{bundle_pages}
-use Rattle.trio_lists.specs.Lists.{In}
-use Rattle.trio_rights.specs.declared.kind.Kind.TheVariants.{Directory}
-use Rattle.trio_lists.proofs.Filters.{get_or-In}
-use Rattle.trio_lists.proofs.Members.{In-flat}
-use Rattle.trio_layout.specs.Core.{Location}
-use Rattle.trio_layout.specs.Survey.{Front, Met, first_listed, numbers}
-use Rattle.trio_layout.specs.Case.{Case, file_in}
-use Rattle.trio_layout.specs.JudgedFiles.{entries_in, judged_files, new_entries, written_files}
-use Rattle.trio_layout.specs.Listing.{Listing, entry_listed}
-use Rattle.trio_layout.specs.Broken.{BreaksGrammar}
+use Rattle.std.proofs.lemmas.List.{drop-append-le, take-append-le}
+use Rattle.trio_layout.specs.Survey.{Front}
+use Rattle.trio_layout.specs.JudgedFiles.{judged_files}
 use Rattle.trio_layout.proofs.QueueLaws.{pass_many}
 use Rattle.trio_layout.proofs.Walks.{pass_many-more, pigeons, waiting_in_fronts}
-use Rattle.trio_layout.specs.declared.refusal.FaultAt.{FaultAt}
-use Rattle.trio_judge.specs.declared.walk.Walk.{Walk}
-use Rattle.trio_judge.specs.inner.Walk.{BadEntry, IsOnWay, IsPassed, IsQueued, IsReady, Noted, PlacesLeft, SameQueue, Stands, files_of, is_new, own_numbers, writes_directory}
+use Rattle.trio_judge.specs.inner.Walk.{IsOnWay}
 use Rattle.trio_judge.proofs.Listings.{entries_few, pages_few}
-use Rattle.trio_case.proofs.Distinct.{no_more}
 use Rattle.trio_judge.proofs.Noting.{files_same, so_far}
 
 pub few_files : (c : Case) (w : Walk) → IsReady c w → length (files_of w) ≤ length (own_numbers c)

@@ -1,8 +1,6 @@
 -- The files that a bundle writes, by their leases.
-use Rattle.std.proofs.Common.{◌≡◌, ℕ, Bool, true, false, cond, eqb, ◌||◌, List, [], ◌∷◌, map, Some, refl}
-use Rattle.std.specs.Prelude.{is_some}
-use Rattle.std.specs.List.{find, list_any}
-use Rattle.trio_lease.specs.Shown.{LentFile}
+use Rattle.trio_judge_tests.proofs.Words.{◌||◌, ◌∷◌, ◌≡◌, Bool, LentFile, List, Some, [], cond, eqb, false, is_some, list_any, map, refl, true, ℕ}
+use Rattle.std.specs.List.{find}
 use Rattle.trio_lease.specs.Views.{written_in}
 
 pub written_any : (fs : List LentFile) (n : ℕ) → list_any (λ f. eqb f.stands.ino n) fs ≡ is_some (find (λ w. eqb w.ino n) (map (λ f. written_in f.stands) fs))

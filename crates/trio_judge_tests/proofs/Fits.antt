@@ -1,24 +1,14 @@
 -- A whole image that can be judged, from what was looked at.
-use Rattle.std.proofs.Common.{◌≡◌, ◌≢◌, ℕ, ◌+◌, ◌<◌, ◌≤◌, eqb, nat_le, nat_lt, Bool, true, false, cond, List, [], ◌++◌, length, get_or, map, take, Option, Some, None, sym, ap, ◌∙◌, subst, inl, inr, refl, arith}
-use Rattle.std.specs.Prelude.{is_some, slice_get, slice_index_or, IsTrue}
-use Rattle.std.specs.List.{flat_map, list_all}
-use Rattle.std.proofs.lemmas.Bool.{and_parts, and_from, cases_lt, eqb-true, ltb-true, false≢true}
+use Rattle.trio_judge_tests.proofs.Words.{◌++◌, ◌+◌, ◌<◌, ◌∙◌, ◌≡◌, ◌≢◌, ◌≤◌, Bool, CanBeJudged, FreshParts, In, IsTrue, IsWhole, LentFile, List, None, Row, Sheet, Some, [], and_parts, ap, arith, bundle_in, cond, eqb, eqb-true, false, false≢true, file_fits, flat_map, fresh_sheet, get_or, get_or_from_slice_get, image_of, inl, inr, is_core, is_some, length, lent_sheet, list_all, map, refl, row_in, sheet_fits, slice_get, slice_get_within, slice_index_or, subst, sym, take, true, ℕ}
+use Rattle.std.proofs.Common.{nat_le, nat_lt, Option}
+use Rattle.std.proofs.lemmas.Bool.{and_from, cases_lt, ltb-true}
 use Rattle.std.proofs.lemmas.List.Folds.{list_all_more, list_all-map}
-use Rattle.std.proofs.lemmas.Option.{get_or_from_slice_get, slice_get_within}
 use Rattle.trio_rights.specs.Bundle.{bundle_sheets}
-use Rattle.trio_rights.specs.Row.{Row, row_in}
-use Rattle.trio_rights.specs.Sheets.{Sheet}
-use Rattle.trio_lists.specs.Lists.{In}
 use Rattle.trio_lists.proofs.Members.{In-cases, flat_map-In, list_all-In}
 use Rattle.trio_lease.specs.Bundles.{Bundled}
-use Rattle.trio_lease.specs.Shown.{LentFile}
-use Rattle.trio_lease.specs.Views.{bundle_in, fresh_sheet, lent_sheet}
-use Rattle.trio_lease.specs.declared.parts.FreshParts.{FreshParts}
 use Rattle.trio_layout.specs.declared.range.CoreRange.{CoreRange}
-use Rattle.trio_layout.specs.Range.{is_core}
-use Rattle.trio_proposal.specs.Judgement.{CanBeJudged, image_of}
 use Rattle.trio_proposal.proofs.Puts.{sheets_are}
-use Rattle.trio_judge_tests.specs.Whole.{AreWhole, IsWhole, file_fits, sheet_fits}
+use Rattle.trio_judge_tests.specs.Whole.{AreWhole}
 
 -- what holds of each number below one and of that one
 pub one_more_below : (P : ℕ → Type 0) (i : ℕ) → ((n : ℕ) → n < i → P n) → P i → (n : ℕ) → n < i + 1 → P n

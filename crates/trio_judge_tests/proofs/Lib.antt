@@ -2,3 +2,4 @@ mod Children
 mod Numbers
 mod Listed
 mod Fits
+mod Words

@@ -1,12 +1,7 @@
 -- Judged files as they are listed, and as the rules see them.
-use Rattle.std.proofs.Common.{◌≡◌, ℕ, eqb, Bool, true, false, not, ◌||◌, List, [], ◌∷◌, map, sym, refl, ap, ◌∙◌, inl, inr}
-use Rattle.std.specs.List.{list_all}
-use Rattle.std.proofs.lemmas.Bool.{and_parts, false≢true}
-use Rattle.trio_rights.specs.Row.{Row}
-use Rattle.trio_rights.specs.declared.kind.Kind.TheVariants.{Regular}
-use Rattle.trio_lists.specs.Lists.{In}
+use Rattle.trio_judge_tests.proofs.Words.{◌||◌, ◌∙◌, ◌∷◌, ◌≡◌, Bool, In, List, Regular, Row, [], and_parts, ap, as_row, eqb, false, false≢true, inl, inr, list_all, map, refl, sym, true, ℕ}
+use Rattle.std.proofs.Common.{not}
 use Rattle.trio_layout.specs.Listing.{ListedFile}
-use Rattle.trio_tables.specs.Row.{as_row}
 use Rattle.trio_case.specs.declared.listing.ListedFile.{ListedFile as FileData}
 use Rattle.trio_judge_tests.specs.Leaves.{is_other}
 

@@ -1,8 +1,7 @@
 -- The numbers of a list, one after another.
-use Rattle.std.proofs.Common.{◌≡◌, ℕ, ◌+◌, List, [], ◌∷◌, ◌++◌, get_or, map, take, Some, sym, ap, ◌∙◌, append_assoc}
-use Rattle.std.specs.Prelude.{slice_get}
+use Rattle.trio_judge_tests.proofs.Words.{◌++◌, ◌+◌, ◌∙◌, ◌∷◌, ◌≡◌, List, Some, [], ap, get_or, get_or_from_slice_get, map, slice_get, slice_get_within, sym, take, ℕ}
+use Rattle.std.proofs.Common.{append_assoc}
 use Rattle.std.proofs.lemmas.List.{map-append, take_more}
-use Rattle.std.proofs.lemmas.Option.{get_or_from_slice_get, slice_get_within}
 
 -- one more of them
 pub one_more : {X : Type 0} (f : X → ℕ) (xs : List X) (i : ℕ) (x : X) (old now new : List ℕ) (n : ℕ) → slice_get xs i ≡ Some x → f x ≡ n → new ≡ now ++ n ∷ [] → now ≡ old ++ map f (take i xs) → new ≡ old ++ map f (take (i + 1) xs)

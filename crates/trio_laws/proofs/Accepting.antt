@@ -1,39 +1,9 @@
 -- The end of an accepted bundle keeps what holds of a state.
-use Rattle.std.proofs.Common.{◌≡◌, ℕ, ◌+◌, true, false, List, ◌++◌, Option, Some, None, slice_get, sym, refl, ap, ◌∙◌, subst, inl, inr, ◌⊎◌, arith}
-use Rattle.std.specs.Prelude.{map, is_some, slice_index}
-use Rattle.std.specs.List.{flat_map}
-use Rattle.std.specs.Option.{option_map}
-use Rattle.std.proofs.lemmas.Bool.{cases_Bool}
-use Rattle.trio_rights.specs.Row.{Row}
-use Rattle.trio_rights.specs.declared.rights.Creds.{Creds}
-use Rattle.trio_nodes.specs.declared.grant.GrantKind.TheVariants.{Write, Hold}
-use Rattle.trio_tables.specs.Out.{is_out}
-use Rattle.trio_layout.specs.Chain.{Chain}
-use Rattle.trio_layout.specs.Core.{Core}
-use Rattle.trio_lists.specs.Lists.{In}
-use Rattle.trio_layout.specs.Range.{is_core}
-use Rattle.trio_layout.specs.Sound.{is_sound}
-use Rattle.trio_layout.specs.Survey.{Met, Pick, plain, survey, row_by, row_of}
-use Rattle.trio_layout.specs.Accept.{is_accepted, next}
-use Rattle.trio_state.specs.Bundles.{is_in_bundle, Ends}
-use Rattle.trio_state.specs.Given.{GivenTo}
-use Rattle.trio_state.specs.Grants.{has_parent_grant}
-use Rattle.trio_layout.specs.Image.{IsFit, Image, settled_body, row_at}
-use Rattle.trio_state.specs.Kept.{Kept, LentIsListed, HoldStands}
-use Rattle.trio_rights.specs.Bundle.{Written, Bundle, bundle_sheets, bundle_pages}
-use Rattle.trio_layout.specs.Proposed.{proposed, proposed_pick}
-use Rattle.trio_rights.specs.Sheets.{Sheet, sheet_numbers}
-use Rattle.trio_state.specs.State.{OpenGrant, State, settled}
-use Rattle.trio_layout.specs.Verifies.{Verifies}
-use Rattle.trio_surveys.specs.Reading.{with_picked_bodies, picked_entry}
-use Rattle.trio_surveys.proofs.Accepted.{accepted_verifies, fit_put}
+use Rattle.trio_laws.proofs.Words.{◌++◌, ◌+◌, ◌∙◌, ◌≡◌, ◌⊎◌, Bundle, Chain, Core, Creds, Ends, GivenTo, Hold, HoldStands, Image, In, In-flat, In-left, In-map, In-right, IsFit, Kept, LentIsListed, List, Met, None, OpenGrant, Option, Pick, Row, Sheet, Some, State, Verifies, Write, Written, accepted_verifies, all_listed, ap, arith, bodies_are, bundle_pages, bundle_sheets, cases_Bool, false, file_put, fit_put, flat_map, has_parent_grant, inl, inr, is_accepted, is_core, is_in_bundle, is_out, is_some, is_sound, listed_no_root, map, map-In, next, option_map, picked_entry, plain, proposed, proposed_pick, put_on, refl, row_at, row_at_is, row_by, row_met, row_of, settled, settled_body, settled_body_met, sheet_numbers, slice_get, slice_index, some_of, subst, survey, survey_put, sym, true, with_bodies-get, with_pages_absent, ℕ}
+use Rattle.trio_surveys.specs.Reading.{with_picked_bodies}
 use Rattle.trio_laws.proofs.Bundles.{Closed, outside_unheld, outside_unwritten, kept_chain, written_same}
 use Rattle.trio_laws.proofs.Ended.{bundle_write, grant_before, apart_then, checkpoints_then, parent_then, outs_then, numbers_then, pages_placed_then, numbers_placed_then, absent_then}
-use Rattle.trio_surveys.proofs.Images.{some_of, row_at_is, row_met, settled_body_met, unlisted_free, free_is_low}
-use Rattle.trio_lists.proofs.Members.{In-left, In-right, In-flat, In-map, map-In}
-use Rattle.trio_surveys.proofs.Picked.{all_listed, bodies_are, listed_no_root, file_put, survey_put}
-use Rattle.trio_surveys.proofs.Putting.{put_on, with_bodies-get}
-use Rattle.trio_surveys.proofs.Sheets.{with_pages_absent}
+use Rattle.trio_surveys.proofs.Images.{unlisted_free, free_is_low}
 use Rattle.trio_laws.proofs.StateFacts.{lent_by, tables}
 use Rattle.trio_laws.proofs.Survivors.{Stays, fit_now, sound_now, stays, out_unlisted, number_free}
 

@@ -1,18 +1,6 @@
 -- An image with other pages, of which all that are read are the same, has the same files, bodies and lent pages.
-use Rattle.std.proofs.Common.{◌≡◌, ℕ, Some, sym, ap, ◌∙◌, subst, arith}
-use Rattle.trio_rights.specs.Row.{Row}
-use Rattle.trio_lists.specs.Lists.{In}
-use Rattle.trio_layout.specs.Survey.{Met, plain, survey}
-use Rattle.trio_layout.specs.Image.{IsFit, Image, row_at, settled_body}
-use Rattle.trio_state.specs.Kept.{LentIsListed}
-use Rattle.trio_state.specs.State.{OpenGrant}
-use Rattle.trio_layout.specs.Verifies.{Verifies}
+use Rattle.trio_laws.proofs.Words.{◌∙◌, ◌≡◌, AgreeOn, Image, In, IsFit, LentIsListed, Met, OpenGrant, Pages, Row, Some, TablesOf, Verifies, ap, arith, file_agrees, met_row, plain, row_at, row_at_is, settled_body, settled_body_met, sound_parts, subst, survey, survey_local, sym, with_other, ℕ}
 use Rattle.trio_surveys.proofs.Accepted.{agreeing_verifies}
-use Rattle.trio_surveys.proofs.Images.{TablesOf, row_at_is, met_row, settled_body_met}
-use Rattle.trio_surveys.proofs.Local.{file_agrees, survey_local}
-use Rattle.trio_surveys.proofs.Owned.{sound_parts}
-use Rattle.trio_surveys.proofs.Sheets.{Pages}
-use Rattle.trio_surveys.specs.Reading.{with_other, AgreeOn}
 
 abbrev pub image_with : Image → Pages → Image
 image_with image pages = record { core = with_other image.core pages; rows = image.rows; owners = image.owners }

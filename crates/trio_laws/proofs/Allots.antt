@@ -1,36 +1,10 @@
 -- An allotment keeps what holds of a state.
-use Rattle.std.proofs.Common.{◌≡◌, ℕ, suc, zero, ◌<◌, true, false, List, [], ◌∷◌, length, take, Option, Some, None, slice_get, sym, refl, ap, ◌∙◌, subst, inl, inr, ◌⊎◌, arith}
-use Rattle.std.specs.Prelude.{is_some, slice_index}
-use Rattle.std.specs.List.{flat_map}
-use Rattle.std.proofs.lemmas.Bool.{and_parts, eqb-true, false≢true, not-true, both_ways, false_from_ne_true, ltb-true}
-use Rattle.trio_rights.specs.Row.{Row}
-use Rattle.trio_rights.specs.declared.rights.LibNo.{LibNo}
-use Rattle.trio_tables.specs.Out.{is_out}
-use Rattle.trio_tables.proofs.OutLemmas.{is_out-given, length-with_all, lib_at-others, lib_at-set}
-use Rattle.trio_layout.specs.Core.{Core}
-use Rattle.trio_lists.specs.Lists.{is_among, In}
-use Rattle.trio_layout.specs.Range.{is_core}
-use Rattle.trio_layout.specs.Survey.{plain, survey}
-use Rattle.trio_state.specs.Allotments.{free_pages, free_numbers, allots, out_with}
-use Rattle.trio_state.specs.Given.{WasAllotted}
-use Rattle.trio_state.specs.Grants.{has_parent_grant}
-use Rattle.trio_layout.specs.Image.{IsFit, row_at}
-use Rattle.trio_state.specs.Kept.{Kept}
-use Rattle.trio_rights.specs.Sheets.{sheet_numbers, with_pages, without_pages}
-use Rattle.trio_state.specs.State.{State, settled}
-use Rattle.trio_state.specs.Step.{Allot, CtlAnswer, Step}
+use Rattle.trio_laws.proofs.Words.{◌<◌, ◌∙◌, ◌∷◌, ◌≡◌, ◌⊎◌, AgreeOn, Allot, Core, CtlAnswer, In, In-is_among, IsFit, Kept, LibNo, List, None, Option, Pages, Row, Some, State, Step, WasAllotted, [], allots, among_cases, and_parts, ap, arith, both_ways, eqb-true, false, false_from_ne_true, false≢true, filter-In, flat_map, free_numbers, free_pages, free_unlisted, has_parent_grant, inl, inr, is_among, is_among-In, is_core, is_out, is_out-given, is_some, length, length-with_all, length-with_pages, length-without, lib_at-others, lib_at-set, ltb-true, not-true, out_with, page_same, page_there, pages_are, place_there, place_within, plain, refl, row_at, settled, sheet_numbers, slice_get, slice_index, some_of, subst, suc, survey, sym, take, true, with_other, with_pages, with_pages_apart, with_pages_cong, without_absent, without_apart, without_pages, without_there, zero, ℕ}
 use Rattle.trio_laws.proofs.Agreeing.{verifies_still, lent_still, body_still}
-use Rattle.trio_lists.proofs.Filters.{filter-In}
 use Rattle.trio_laws.proofs.Cases.{after_allot}
 use Rattle.trio_laws.proofs.Grants.{logged_kept}
-use Rattle.trio_surveys.proofs.Images.{some_of, free_unlisted}
-use Rattle.trio_lists.proofs.Members.{is_among-In, In-is_among}
-use Rattle.trio_surveys.proofs.Owned.{pages_are}
 use Rattle.trio_laws.proofs.Refusing.{read_listed}
-use Rattle.trio_surveys.proofs.SheetLaws.{length-with_pages}
-use Rattle.trio_surveys.proofs.Sheets.{Pages, among_cases, with_pages_cong, with_pages_apart, without_apart, without_there, without_absent, length-without, place_there, place_within, page_same, page_there}
 use Rattle.trio_laws.proofs.StateFacts.{tables, checkpoint_lent, lent_met}
-use Rattle.trio_surveys.specs.Reading.{with_other, AgreeOn}
 
 take_in : (n : ℕ) (xs : List ℕ) (x : ℕ) → In x (take n xs) → In x xs
 take_in zero xs x i = absurd i

@@ -1,31 +1,5 @@
 -- What is lent for writing or out by allotment is absent from home, in each state of a run.
-use Rattle.std.proofs.Common.{◌≡◌, ℕ, ◌<◌, ◌⊎◌, true, ltb, leb, List, [], ◌∷◌, ◌++◌, length, Option, Some, None, slice_get, sym, ap, ◌∙◌, subst, inl, inr, arith}
-use Rattle.std.specs.Prelude.{is_some}
-use Rattle.std.specs.Option.{option_map}
-use Rattle.std.proofs.lemmas.Bool.{and_parts, ltb-true, false≢true}
-use Rattle.trio_rights.specs.Row.{Row}
-use Rattle.trio_nodes.specs.declared.grant.GrantKind.{GrantKind}
-use Rattle.trio_nodes.specs.declared.grant.GrantKind.TheVariants.{Write}
-use Rattle.trio_nodes.specs.declared.answers.GrantFault.{GrantFault}
-use Rattle.trio_nodes.specs.declared.answers.ModeFault.{ModeFault}
-use Rattle.trio_tables.proofs.OutLemmas.{is_out-given, lib_at-none_out, within_some}
-use Rattle.trio_lists.specs.Lists.{In}
-use Rattle.trio_rights.specs.Sheets.{sheet_numbers, without_pages}
-use Rattle.trio_layout.specs.Core.{Core}
-use Rattle.trio_layout.specs.Range.{is_core}
-use Rattle.trio_layout.specs.Survey.{plain}
-use Rattle.trio_layout.specs.Image.{Image, row_at, settled_body}
-use Rattle.trio_layout.specs.Mode.{body_put, body_with_mode}
-use Rattle.trio_rights.specs.Bundle.{Bundle}
-use Rattle.trio_state.specs.State.{OpenGrant, State, settled}
-use Rattle.trio_state.specs.Allotments.{allots}
-use Rattle.trio_state.specs.Bundles.{Ends}
-use Rattle.trio_state.specs.Grants.{given_back, grant_fault, lent_pages, opened, opens}
-use Rattle.trio_state.specs.Step.{Grant, Allot, Back, Release, Settle, SetMode, CtlAnswer, granted_to, mode_fault, moded_to, ReleaseEnd}
-use Rattle.trio_state.specs.Kept.{Kept}
-use Rattle.trio_state.specs.Given.{GivenTo}
-use Rattle.trio_state.specs.Run.{start}
-use Rattle.trio_laws.specs.EndLaws.{checkpoints_of}
+use Rattle.trio_laws.proofs.Words.{◌++◌, ◌<◌, ◌∙◌, ◌∷◌, ◌≡◌, ◌⊎◌, Allot, Back, Bundle, Core, CtlAnswer, Ends, GivenTo, Grant, GrantFault, GrantKind, Image, In, In-cases, Kept, List, ModeFault, None, OpenGrant, Option, Pages, Release, ReleaseEnd, Row, SetMode, Settle, Some, State, Write, [], allots, among_cases, and_parts, ap, arith, body_put, body_with_mode, checkpoints_of, false≢true, filter-In, free_unlisted, given_back, grant_fault, granted_to, inl, inr, is_among-In, is_core, is_out-given, is_some, leb, length, length-with_pages, length-without, lent_pages, lib_at-none_out, listed_is_core, ltb, ltb-true, mode_fault, moded_to, opened, opens, option_map, place_there, plain, row_at, settled, settled_body, sheet_numbers, slice_get, start, subst, sym, true, within_some, without_apart, without_pages, without_there, ℕ}
 use Rattle.trio_laws.specs.OutLaws.{AllAway, AwayIsExact, EveryStateIsAway, IsLentOrOut, StartsAway, StepKeepsAway}
 use Rattle.trio_laws.proofs.Allots.{ns, ps}
 use Rattle.trio_laws.proofs.Bundles.{bundle_page, outside_unwritten, unwritten_apart, written_lent}
@@ -34,12 +8,6 @@ use Rattle.trio_laws.proofs.Ended.{grant_before, outs_then}
 use Rattle.trio_laws.proofs.Modes.{body_put-get}
 use Rattle.trio_laws.proofs.Runs.{start_kept, step_kept}
 use Rattle.trio_laws.proofs.StateFacts.{by_lent, lent_by, lent_met, tables}
-use Rattle.trio_lists.proofs.Filters.{filter-In}
-use Rattle.trio_lists.proofs.Members.{In-cases, is_among-In}
-use Rattle.trio_surveys.proofs.Cores.{listed_is_core}
-use Rattle.trio_surveys.proofs.Images.{free_unlisted}
-use Rattle.trio_surveys.proofs.SheetLaws.{length-with_pages}
-use Rattle.trio_surveys.proofs.Sheets.{Pages, among_cases, length-without, place_there, without_apart, without_there}
 
 -- a page that is taken, or was absent, is absent once these are taken
 taken : (ns : List ℕ) (pages : Pages) (p : ℕ) → p < length (without_pages ns pages) → In p ns ⊎ (slice_get pages p ≡ Some None) → slice_get (without_pages ns pages) p ≡ Some None

@@ -1,20 +1,5 @@
 -- Giving a read lease back keeps what holds of a state.
-use Rattle.std.proofs.Common.{◌≡◌, ℕ, Bool, true, false, cond, ◌&&◌, not, eqb, List, [], ◌∷◌, ◌++◌, Option, Some, None, sym, refl, ap, ◌∙◌, subst, inl, inr, arith}
-use Rattle.std.specs.List.{list_any, filter, flat_map}
-use Rattle.std.proofs.lemmas.List.Kept.{AllPairs-filter}
-use Rattle.std.proofs.lemmas.Bool.{and_parts, and_right, false≢true, not-false, not_from_false}
-use Rattle.trio_rights.specs.Row.{Row}
-use Rattle.trio_nodes.specs.declared.grant.GrantKind.{GrantKind}
-use Rattle.trio_lists.specs.Lists.{is_among, In}
-use Rattle.trio_state.specs.Grants.{has_parent_grant, given_back}
-use Rattle.trio_layout.specs.Image.{IsFit, Image}
-use Rattle.trio_state.specs.Kept.{Kept, LentIsListed, MayBothStand}
-use Rattle.trio_rights.specs.Sheets.{Sheet, sheet_numbers}
-use Rattle.trio_state.specs.State.{covered, OpenGrant, State, settled}
-use Rattle.trio_nodes.specs.GrantKinds.{is_write, is_read}
-use Rattle.trio_state.specs.Step.{Back, CtlAnswer, Step}
-use Rattle.trio_layout.specs.Verifies.{Verifies}
-use Rattle.trio_lists.proofs.Filters.{filter-In, In-filter, In-list_any, list_any-In}
+use Rattle.trio_laws.proofs.Words.{◌&&◌, ◌++◌, ◌∙◌, ◌∷◌, ◌≡◌, AllPairs-filter, Back, Bool, CtlAnswer, GrantKind, Image, In, In-filter, In-list_any, IsFit, Kept, LentIsListed, List, MayBothStand, None, OpenGrant, Option, Row, Sheet, Some, State, Step, Verifies, [], and_parts, and_right, ap, arith, cond, covered, eqb, false, false≢true, filter, filter-In, flat_map, given_back, has_parent_grant, inl, inr, is_among, is_read, is_write, list_any, list_any-In, not, not-false, not_from_false, refl, settled, sheet_numbers, subst, sym, true, ℕ}
 
 flat_filter_step : {X Y : Type 0} (f : X → List Y) (p : X → Bool) (x : X) (xs : List X) (b : Bool) → (b ≡ false → f x ≡ []) → flat_map f (filter p xs) ≡ flat_map f xs → flat_map f (cond b (x ∷ filter p xs) (filter p xs)) ≡ f x ++ flat_map f xs
 flat_filter_step f p x xs true h ih = ap (λ l. f x ++ l) ih

@@ -1,37 +1,8 @@
 -- What a bundle that was given to its library can touch.
-use Rattle.std.proofs.Common.{◌≡◌, ℕ, ◌<◌, Bool, true, false, cond, ◌&&◌, ◌||◌, not, eqb, List, [], ◌∷◌, ◌++◌, Option, Some, None, Ok, sym, refl, ap, ◌∙◌, subst, inl, inr, ◌⊎◌, arith}
-use Rattle.std.specs.Prelude.{map, is_some, slice_index}
-use Rattle.std.specs.List.{flat_map, find}
-use Rattle.std.specs.Option.{option_map_or}
-use Rattle.std.proofs.lemmas.List.{map-append}
-use Rattle.std.proofs.lemmas.Bool.{and_parts, and_from, or_cases, or_left, or_right, eqb-true, eq-eqb, false≢true, not-true, both_ways, false_from_ne_true, cases_Bool}
-use Rattle.trio_rights.specs.Row.{Row}
-use Rattle.trio_nodes.specs.declared.grant.GrantKind.{GrantKind}
-use Rattle.trio_nodes.specs.declared.grant.GrantKind.TheVariants.{Write, Hold}
-use Rattle.trio_layout.specs.Body.{body_of, block_count}
-use Rattle.trio_layout.specs.Chain.{index_count, chain_of}
-use Rattle.trio_layout.specs.Core.{Core, page_of}
-use Rattle.trio_lists.specs.Lists.{In, is_among}
-use Rattle.trio_layout.specs.Sound.{is_sound}
-use Rattle.trio_layout.specs.Survey.{Met, Pick, plain, FileRead, file_of, survey, children, pages_of}
-use Rattle.trio_state.specs.Bundles.{is_parent_written, is_parted, lowest, parted_hold, is_in_bundle, has_all}
-use Rattle.trio_nodes.specs.GrantKinds.{is_hold, is_write, is_read}
-use Rattle.trio_state.specs.Given.{GivenTo}
-use Rattle.trio_state.specs.Grants.{has_parent_grant}
-use Rattle.trio_layout.specs.Image.{IsFit, settled_body, row_at}
-use Rattle.trio_state.specs.Kept.{Kept}
-use Rattle.trio_rights.specs.Bundle.{Written, Bundle, bundle_sheets, bundle_pages, is_written}
-use Rattle.trio_layout.specs.Proposed.{kept_body, is_place_of, proposed, proposed_pick}
-use Rattle.trio_rights.specs.Sheets.{Sheet, sheet_numbers, with_pages}
-use Rattle.trio_state.specs.State.{OpenGrant, State, settled}
-use Rattle.trio_surveys.proofs.Images.{met_numbered, owner_listed, root_or_listed}
-use Rattle.trio_lists.proofs.Filters.{In-find, find-In, list_any-In, Ok-one, In-filter, filter-none}
-use Rattle.trio_surveys.proofs.Local.{reads_from, chain_follows}
-use Rattle.trio_lists.proofs.Members.{In-left, In-cases, flat_map-In, map-In, In-map, is_among-In, In-is_among, list_all-In}
-use Rattle.trio_surveys.proofs.Owned.{pages_are}
-use Rattle.trio_surveys.proofs.Sheets.{with_pages_apart, page_same}
+use Rattle.trio_laws.proofs.Words.{◌&&◌, ◌++◌, ◌<◌, ◌||◌, ◌∙◌, ◌∷◌, ◌≡◌, ◌⊎◌, Bool, Bundle, Core, FileRead, GivenTo, GrantKind, Hold, In, In-cases, In-filter, In-find, In-is_among, In-left, In-map, IsFit, Kept, List, Met, None, Ok, Ok-one, OpenGrant, Option, Pick, Row, Sheet, Some, State, Write, Written, [], and_from, and_parts, ap, arith, block_count, body_of, both_ways, bundle_pages, bundle_sheets, cases_Bool, chain_follows, chain_of, child_from, children, cond, eq-eqb, eqb, eqb-true, false, false_from_ne_true, false≢true, file_of, filter-none, find, find-In, flat_map, flat_map-In, has_all, has_parent_grant, index_count, inl, inr, is_among, is_among-In, is_hold, is_in_bundle, is_parent_written, is_parted, is_place_of, is_read, is_some, is_sound, is_write, is_written, kept_body, list_all-In, list_any-In, map, map-In, map-append, met_numbered, not, not-true, option_map_or, or_cases, or_left, or_right, owner_listed, page_of, page_same, pages_are, pages_of, parted_hold, plain, proposed, proposed_pick, reads_from, refl, root_or_listed, row_at, settled, settled_body, sheet_numbers, slice_index, subst, survey, sym, true, with_pages, with_pages_apart, ℕ}
+use Rattle.trio_state.specs.Bundles.{lowest}
 use Rattle.trio_laws.proofs.StateFacts.{write_alone, alone, tables, lent_met}
-use Rattle.trio_surveys.proofs.Tree.{child_from, picked_met}
+use Rattle.trio_surveys.proofs.Tree.{picked_met}
 
 pub in_numbers : (xs : List Sheet) (x : Sheet) (p : ℕ) → In x xs → p ≡ x.page → In p (sheet_numbers xs)
 in_numbers xs x p i e = subst (λ n. In n (sheet_numbers xs)) (sym e) (In-map (λ (y : Sheet). y.page) x xs i)

@@ -1,13 +1,5 @@
 -- What holds of a state after a call and along a run, by the ways that a call can go.
-use Rattle.std.proofs.Common.{ℕ, List, [], ◌∷◌, take, sym, subst, inl, inr, arith}
-use Rattle.trio_nodes.specs.declared.answers.GrantFault.{GrantFault}
-use Rattle.trio_nodes.specs.declared.answers.ModeFault.{ModeFault}
-use Rattle.trio_lists.specs.Lists.{In}
-use Rattle.trio_state.specs.State.{State, logged}
-use Rattle.trio_state.specs.Allotments.{free_pages, free_numbers, allots}
-use Rattle.trio_state.specs.Given.{GivenEvent}
-use Rattle.trio_state.specs.Run.{Move, Trace}
-use Rattle.trio_state.specs.Step.{Event, CtlAnswer, Step, after_grant_fault, after_mode_fault, allot_outcome}
+use Rattle.trio_laws.proofs.Words.{◌∷◌, CtlAnswer, Event, GivenEvent, GrantFault, In, List, ModeFault, Move, State, Step, Trace, [], after_grant_fault, after_mode_fault, allot_outcome, allots, arith, free_numbers, free_pages, inl, inr, logged, subst, sym, take, ℕ}
 
 module _ (P : State → Type 0) where
   pub after_no_grant : (s : State) (f : GrantFault) → P s → P (logged s) → P (after_grant_fault s f)

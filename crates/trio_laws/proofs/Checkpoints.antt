@@ -1,25 +1,7 @@
 -- Sheets that go by no order, and the checkpoints of a state that is kept.
-use Rattle.std.proofs.Common.{◌≡◌, ℕ, ◌<◌, true, not, ltb, leb, List, [], ◌∷◌, ◌++◌, length, Option, Some, None, slice_get, slice_set, sym, refl, ap, ◌∙◌, subst, inl, inr, arith}
-use Rattle.std.proofs.lemmas.List.{map-append}
-use Rattle.std.proofs.lemmas.Bool.{and_parts, cases_eq, ne_eqb, ltb-true}
-use Rattle.trio_rights.specs.declared.kind.Kind.{Kind}
-use Rattle.trio_nodes.specs.declared.grant.GrantKind.TheVariants.{Write}
-use Rattle.trio_layout.specs.Core.{Core, page_of}
-use Rattle.trio_lists.specs.Lists.{In, is_among, are_new}
-use Rattle.trio_layout.specs.Range.{is_core}
-use Rattle.trio_layout.specs.Survey.{plain, survey, pages_of}
-use Rattle.trio_lists.proofs.Marked.{are_new-append}
-use Rattle.trio_state.specs.Kept.{Kept}
-use Rattle.trio_rights.specs.Sheets.{Sheet, sheet_numbers, with_pages}
-use Rattle.trio_state.specs.State.{OpenGrant, State, settled, covered}
-use Rattle.trio_laws.specs.EndLaws.{checkpoints_of}
+use Rattle.trio_laws.proofs.Words.{◌++◌, ◌<◌, ◌∙◌, ◌∷◌, ◌≡◌, Core, In, In-right, Kept, Kind, List, None, OpenGrant, Option, Pages, Sheet, Some, State, Write, [], among_cases, and_parts, ap, are_new, are_new-append, are_new-before, arith, cases_eq, checkpoints_of, covered, flat_map-In, inl, inr, is_among, is_core, leb, length, length-with_pages, listed_is_core, ltb, ltb-true, map-In, map-append, ne_eqb, not, page_from, page_of, pages_are, pages_new, pages_of, place_there, plain, refl, settled, sheet_numbers, slice_get, slice_set, sound_parts, subst, survey, sym, true, with_pages, with_pages_apart, with_pages_known, ℕ}
 use Rattle.trio_laws.proofs.Bundles.{in_numbers}
-use Rattle.trio_surveys.proofs.Cores.{listed_is_core}
-use Rattle.trio_lists.proofs.Members.{In-right, flat_map-In, map-In}
-use Rattle.trio_surveys.proofs.Owned.{pages_are, pages_new, sound_parts}
-use Rattle.trio_lists.proofs.New.{are_new-before}
-use Rattle.trio_surveys.proofs.SheetLaws.{get-set_same, get-set_other, length-with_pages}
-use Rattle.trio_surveys.proofs.Sheets.{Pages, among_cases, with_pages_apart, with_pages_known, place_there, page_from}
+use Rattle.trio_surveys.proofs.SheetLaws.{get-set_same, get-set_other}
 use Rattle.trio_laws.proofs.StateFacts.{covered_write, write_alone, lent_met, lent_file}
 
 set_past : (pages : Pages) (k n : ℕ) (x : Option (List ℕ)) → slice_get pages n ≡ None → slice_get (slice_set pages k x) n ≡ None

@@ -1,9 +1,8 @@
 -- Where the credentials of a library stand.
-use Rattle.std.proofs.Common.{◌≡◌, ℕ, suc, ◌-◌, ◌<◌, List, length, get_or, ap, arith}
+use Rattle.trio_laws.proofs.Words.{◌-◌, ◌<◌, ◌≡◌, Creds, List, ap, arith, creds_in, get_or, length, suc, ℕ}
 use Rattle.std.specs.Option.{unwrap_or}
 use Rattle.std.proofs.lemmas.Option.{slice_get-get_or}
-use Rattle.trio_rights.specs.declared.rights.Creds.{Creds}
-use Rattle.trio_nodes.specs.Libraries.{IsLibrary, creds_in, nobody}
+use Rattle.trio_nodes.specs.Libraries.{IsLibrary, nobody}
 
 placed : (creds : List Creds) (n : ℕ) (d : Creds) → n < length creds → creds_in creds (suc n) ≡ get_or creds n d
 placed creds n d lt = ap (λ o. unwrap_or o nobody) (slice_get-get_or creds n d lt)

@@ -1,28 +1,8 @@
 -- What the end of a bundle leaves of grants and of what is out, whatever the verdict.
-use Rattle.std.proofs.Common.{◌≡◌, ℕ, ◌+◌, ◌<◌, true, false, ◌&&◌, ◌||◌, not, eqb, List, [], ◌∷◌, ◌++◌, length, get_or, Option, Some, None, slice_get, sym, refl, ap, ◌∙◌, subst, inl, inr, ◌⊎◌, arith}
-use Rattle.std.specs.Prelude.{map, is_some, AllPairs}
-use Rattle.std.specs.List.{find, flat_map}
-use Rattle.std.proofs.lemmas.List.{length-map, get_or-map}
-use Rattle.std.proofs.lemmas.List.Kept.{AllPairs-filter}
-use Rattle.std.proofs.lemmas.Bool.{and_parts, and_from, or_cases, eqb-true, eq-eqb, false≢true, not-true, not_from_false, both_ways, false_from_ne_true}
-use Rattle.trio_rights.specs.Row.{Row}
-use Rattle.trio_nodes.specs.declared.grant.GrantKind.TheVariants.{Write, Hold}
-use Rattle.trio_tables.specs.Out.{is_out}
-use Rattle.trio_tables.proofs.OutLemmas.{is_out-back, length-with_all, lib_at-others}
-use Rattle.trio_lists.specs.Lists.{is_among, In}
-use Rattle.trio_state.specs.Bundles.{is_in_bundle, grants_after, lent_part, blank, Ends}
-use Rattle.trio_nodes.specs.GrantKinds.{is_hold, is_write}
-use Rattle.trio_state.specs.Given.{GivenTo}
-use Rattle.trio_state.specs.Grants.{has_parent_grant}
-use Rattle.trio_layout.specs.Image.{Image, row_at}
-use Rattle.trio_state.specs.Kept.{Kept, MayBothStand, is_lent}
-use Rattle.trio_rights.specs.Bundle.{Written, Bundle, is_written}
-use Rattle.trio_rights.specs.Sheets.{Sheet, sheet_numbers}
-use Rattle.trio_state.specs.State.{covered, OpenGrant, State}
+use Rattle.trio_laws.proofs.Words.{◌&&◌, ◌++◌, ◌+◌, ◌<◌, ◌||◌, ◌∙◌, ◌∷◌, ◌≡◌, ◌⊎◌, AllPairs, AllPairs-filter, Bundle, Ends, GivenTo, Hold, Image, In, In-filter, In-is_among, In-list_any, In-map, Kept, List, MayBothStand, None, OpenGrant, Option, Row, Sheet, Some, State, Write, Written, [], among_cases, and_from, and_parts, ap, arith, blank, both_ways, covered, eq-eqb, eqb, eqb-true, false, false_from_ne_true, false≢true, filter-In, find, find-In, flat_map, get_or, grants_after, has_parent_grant, inl, inr, is_among, is_among-In, is_hold, is_in_bundle, is_lent, is_out, is_some, is_write, is_written, length, length-map, length-with_all, lent_part, lib_at-others, list_any-In, map, map-In, not, not-true, not_from_false, or_cases, refl, row_at, sheet_numbers, slice_get, subst, sym, true, with_pages_apart, ℕ}
+use Rattle.std.proofs.lemmas.List.{get_or-map}
+use Rattle.trio_tables.proofs.OutLemmas.{is_out-back}
 use Rattle.trio_laws.proofs.Bundles.{Closed}
-use Rattle.trio_lists.proofs.Filters.{filter-In, In-filter, find-In, In-list_any, list_any-In}
-use Rattle.trio_lists.proofs.Members.{In-map, map-In, is_among-In, In-is_among}
-use Rattle.trio_surveys.proofs.Sheets.{among_cases, with_pages_apart}
 use Rattle.trio_laws.proofs.StateFacts.{by_lent, write_is, write_alone, covered_write, numbers_flat}
 
 pub blank_numbers : (xs : List Sheet) → sheet_numbers (map blank xs) ≡ sheet_numbers xs

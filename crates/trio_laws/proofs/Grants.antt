@@ -1,32 +1,9 @@
 -- Every grant keeps what holds of a state.
-use Rattle.std.proofs.Common.{◌≡◌, ℕ, Bool, true, false, cond, ◌&&◌, not, eqb, List, [], ◌∷◌, ◌++◌, get_or, Option, Some, None, slice_get, sym, refl, ap, ◌∙◌, subst, inl, inr, ◌⊎◌, arith}
-use Rattle.std.specs.Prelude.{is_some}
-use Rattle.std.specs.List.{filter, list_any}
-use Rattle.std.specs.Option.{option_map}
-use Rattle.std.proofs.lemmas.List.{append-nil}
-use Rattle.std.proofs.lemmas.List.Folds.{list_any-append}
-use Rattle.std.proofs.lemmas.List.Concat.{flat_map-append}
-use Rattle.std.proofs.lemmas.List.Quantifiers.{all_pairs_push}
-use Rattle.std.proofs.lemmas.Bool.{and_from, and_cases, or_left, not-false, eq-eqb, eqb-false, false≢true, both_ways}
-use Rattle.trio_rights.specs.Row.{Row}
-use Rattle.trio_nodes.specs.declared.grant.GrantKind.{GrantKind}
-use Rattle.trio_nodes.specs.declared.grant.GrantKind.TheVariants.{Read, Write, Hold}
-use Rattle.trio_nodes.specs.declared.answers.GrantFault.{GrantFault}
-use Rattle.trio_nodes.specs.declared.answers.GrantFault.TheVariants.{NotLive, NoParent, Busy}
-use Rattle.trio_lists.specs.Lists.{In}
-use Rattle.trio_layout.specs.Survey.{row_by}
-use Rattle.trio_state.specs.Grants.{holder_of, denied_or, excluding, denied_by, lacks_parent, has_parent_grant, opened, lent_pages, opens, grant_fault}
-use Rattle.trio_nodes.specs.GrantKinds.{excludes_kind, is_write, is_read}
-use Rattle.trio_layout.specs.Image.{IsFit, Image, settled_body, row_at}
-use Rattle.trio_state.specs.Kept.{Kept, LentIsListed, MayBothStand}
-use Rattle.trio_rights.specs.Sheets.{sheet_numbers}
-use Rattle.trio_state.specs.State.{covered, OpenGrant, State, settled, logged}
-use Rattle.trio_state.specs.Step.{Grant, CtlAnswer, Step, granted_to}
-use Rattle.trio_layout.specs.Verifies.{Verifies}
-use Rattle.trio_lists.proofs.Members.{In-cases}
+use Rattle.trio_laws.proofs.Words.{◌&&◌, ◌++◌, ◌∙◌, ◌∷◌, ◌≡◌, ◌⊎◌, Bool, CtlAnswer, Grant, GrantFault, GrantKind, Hold, Image, In, In-cases, IsFit, Kept, LentIsListed, List, MayBothStand, NoParent, None, OpenGrant, Option, Read, Row, Some, State, Step, Verifies, Write, [], all_pairs_push, and_from, ap, append-nil, arith, both_ways, cond, covered, denied_by, denied_or, eq-eqb, eqb, eqb-false, excludes_kind, excluding, false, false≢true, filter, flat_map-append, get_or, get_or-In, grant_fault, granted_to, has_parent_grant, holder_of, inl, inr, is_read, is_some, is_write, lacks_parent, lent_pages, list_any, list_any-append, logged, not, not-false, opened, opens, option_map, or_left, refl, row_at, row_by, settled, settled_body, sheet_numbers, slice_get, subst, sym, true, ℕ}
+use Rattle.std.proofs.lemmas.Bool.{and_cases}
+use Rattle.trio_nodes.specs.declared.answers.GrantFault.TheVariants.{NotLive, Busy}
 use Rattle.trio_laws.proofs.Cases.{after_no_grant}
 use Rattle.trio_laws.proofs.StateFacts.{live_met}
-use Rattle.trio_lists.proofs.Filters.{get_or-In}
 use Rattle.trio_laws.proofs.WriteGrant.{write_grant_kept}
 
 pub logged_kept : (s : State) → Kept s → Kept (logged s)

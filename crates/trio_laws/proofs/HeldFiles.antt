@@ -1,28 +1,6 @@
 -- A held file that stays or moves keeps its content.
-use Rattle.std.proofs.Common.{◌≡◌, ℕ, true, ◌++◌, Some, Ok, sym, refl, ap, ◌∙◌, subst, arith}
-use Rattle.std.specs.Prelude.{map}
-use Rattle.trio_rights.specs.declared.rights.Creds.{Creds}
-use Rattle.trio_rights.specs.Row.{Row}
-use Rattle.trio_lists.specs.Lists.{In}
-use Rattle.trio_layout.specs.Core.{Core, page_of}
-use Rattle.trio_layout.specs.Survey.{Pick, plain, file_of, survey}
-use Rattle.trio_layout.specs.Sound.{is_sound}
-use Rattle.trio_layout.specs.Image.{Image, IsFit, row_at, settled_body}
-use Rattle.trio_state.specs.State.{State, settled}
-use Rattle.trio_rights.specs.Bundle.{Bundle}
-use Rattle.trio_layout.specs.Proposed.{proposed, proposed_pick}
-use Rattle.trio_layout.specs.Accept.{is_accepted, next}
-use Rattle.trio_state.specs.Kept.{Kept}
-use Rattle.trio_state.specs.Given.{GivenTo}
-use Rattle.trio_surveys.specs.Reading.{picked_entry}
-use Rattle.trio_laws.specs.Laws.{plain_pages}
+use Rattle.trio_laws.proofs.Words.{◌++◌, ◌∙◌, ◌≡◌, Bundle, Core, Creds, GivenTo, Image, In, IsFit, Kept, MetAt, Ok, Pick, Row, Some, State, accepted_verifies, all_listed, ap, arith, file_of, file_put, fit_put, is_accepted, is_among-In, is_sound, map, met_row, next, page_of, page_put_is, pages_are, picked_entry, plain, plain_pages, proposed, proposed_pick, reads_from, reads_to, refl, row_at, row_at_is, settled, settled_body, settled_body_met, subst, survey, survey_put, sym, true, ℕ}
 use Rattle.trio_laws.specs.ContentLaws.{HasSameContent, HeldFilesKeepContent}
-use Rattle.trio_lists.proofs.Members.{is_among-In}
-use Rattle.trio_surveys.proofs.Local.{reads_from, reads_to}
-use Rattle.trio_surveys.proofs.Owned.{pages_are}
-use Rattle.trio_surveys.proofs.Picked.{all_listed, page_put_is, file_put, survey_put}
-use Rattle.trio_surveys.proofs.Images.{MetAt, met_row, row_at_is, settled_body_met}
-use Rattle.trio_surveys.proofs.Accepted.{accepted_verifies, fit_put}
 use Rattle.trio_laws.proofs.StateFacts.{tables, live_met}
 use Rattle.trio_laws.proofs.Bundles.{held_unwritten, Unwritten, unwritten_apart, page_kept}
 use Rattle.trio_laws.proofs.Survivors.{fit_now, sound_now, held_met}

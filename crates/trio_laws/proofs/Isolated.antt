@@ -1,36 +1,7 @@
 -- What an accepted bundle leaves of the files of others.
-use Rattle.std.proofs.Common.{◌≡◌, ℕ, true, List, [], ◌∷◌, ◌++◌, Option, Some, None, Result, Ok, sym, refl, ap, ◌∙◌, subst, inl, inr, ◌⊎◌, arith}
-use Rattle.std.specs.Prelude.{map}
-use Rattle.std.specs.Option.{option_map}
-use Rattle.std.proofs.lemmas.Bool.{both_ways}
-use Rattle.trio_rights.specs.declared.kind.Kind.{Kind}
-use Rattle.trio_rights.specs.declared.kind.Kind.TheVariants.{Regular, Directory}
-use Rattle.trio_rights.specs.declared.rights.Creds.{Creds}
-use Rattle.trio_rights.specs.Row.{Row}
-use Rattle.trio_lists.specs.Lists.{In, is_among, both, gathered}
-use Rattle.trio_layout.specs.Core.{Core, page_of}
-use Rattle.trio_layout.specs.Body.{body_of, block_count}
-use Rattle.trio_layout.specs.Chain.{index_count}
-use Rattle.trio_layout.specs.Entries.{Listed, entries_of_kind}
-use Rattle.trio_layout.specs.Survey.{Met, Pick, plain, FileRead, file_of, survey, children, pages_of, row_of}
-use Rattle.trio_layout.specs.Sound.{is_sound}
-use Rattle.trio_layout.specs.Image.{Image, IsFit, row_at, settled_body}
-use Rattle.trio_state.specs.State.{State, settled}
-use Rattle.trio_rights.specs.Bundle.{Bundle}
-use Rattle.trio_layout.specs.Proposed.{proposed, proposed_pick}
-use Rattle.trio_layout.specs.Accept.{is_accepted, next}
-use Rattle.trio_state.specs.Kept.{Kept}
-use Rattle.trio_state.specs.Given.{GivenTo}
-use Rattle.trio_surveys.specs.Reading.{picked_entry}
-use Rattle.trio_laws.specs.Laws.{entry_only, plain_pages, IsUntouched, OthersUntouched}
-use Rattle.trio_lists.proofs.Members.{In-left, In-right, In-cases, flat_map-In, In-is_among}
-use Rattle.trio_surveys.proofs.Local.{reads_from, reads_to, chain_follows}
-use Rattle.trio_surveys.proofs.Tree.{child_from, child_placed}
-use Rattle.trio_surveys.proofs.Owned.{sound_parts, page_owner, pages_are, index_apart}
-use Rattle.trio_surveys.proofs.Putting.{put_on, put_on-none}
-use Rattle.trio_surveys.proofs.Picked.{all_listed, page_put_is, file_put, survey_put}
-use Rattle.trio_surveys.proofs.Images.{MetAt, row_at_is, row_met, settled_body_met}
-use Rattle.trio_surveys.proofs.Accepted.{accepted_verifies, fit_put}
+use Rattle.trio_laws.proofs.Words.{◌++◌, ◌∙◌, ◌∷◌, ◌≡◌, ◌⊎◌, Bundle, Core, Creds, Directory, FileRead, GivenTo, Image, In, In-cases, In-is_among, In-left, In-right, IsFit, Kept, Kind, List, Listed, Met, MetAt, None, Ok, Option, Pick, Regular, Result, Row, Some, State, [], accepted_verifies, all_listed, ap, arith, block_count, body_of, both, both_ways, chain_follows, child_from, child_placed, children, entries_of_kind, file_of, file_put, fit_put, flat_map-In, gathered, index_apart, index_count, inl, inr, is_accepted, is_among, is_sound, map, next, option_map, page_of, page_owner, page_put_is, pages_are, pages_of, picked_entry, plain, plain_pages, proposed, proposed_pick, put_on, reads_from, reads_to, refl, row_at, row_at_is, row_met, row_of, settled, settled_body, settled_body_met, sound_parts, subst, survey, survey_put, sym, true, ℕ}
+use Rattle.trio_laws.specs.Laws.{entry_only, IsUntouched, OthersUntouched}
+use Rattle.trio_surveys.proofs.Putting.{put_on-none}
 use Rattle.trio_laws.proofs.StateFacts.{tables, live_met}
 use Rattle.trio_laws.proofs.Bundles.{finds_unwritten, Unwritten, unwritten_apart, page_kept}
 use Rattle.trio_laws.proofs.Survivors.{fit_now, sound_now, stays}

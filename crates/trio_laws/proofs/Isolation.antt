@@ -1,36 +1,7 @@
 -- Every step leaves the files that its library has neither for writing nor by a hold.
-use Rattle.std.proofs.Common.{◌≡◌, ◌≢◌, ℕ, ◌≤◌, true, false, cond, eqb, ◌++◌, take, Option, Some, None, sym, refl, ap, ◌∙◌, subst, inl, inr}
+use Rattle.trio_laws.proofs.Words.{◌++◌, ◌∙◌, ◌≡◌, ◌≢◌, ◌≤◌, AgreeOn, Allot, Back, Bundle, Core, CtlAnswer, Ends, FileRead, GivenTo, Grant, GrantFault, GrantKind, Hold, Image, In, In-right, IsAccepted, IsFit, IsRefused, Kept, Met, MetAt, ModeFault, None, OpenGrant, Option, Pages, Parted, Read, Release, ReleaseEnd, Row, SetMode, Settle, Sheet, Some, State, TablesOf, Verifies, Write, allot_outcome, allots, ap, body_moded, body_with_mode, bundle_pages, bundle_sheets, changed, cond, creds_of, eqb, false, false≢true, file_agrees, file_of, free_numbers, free_pages, free_unlisted, get_or-set_other, given_back, grant_fault, granted_to, image_with_mode, inl, inr, is_accepted, library_of, listed0, map-In, met_other, met_row, mode_body_other, mode_core_is, mode_fault, mode_file, mode_met, moded_to, ms, ne_eqb, next, opened, opens, page_now, page_of, page_owner, page_same, pages_are, plain, plain_pages, read_now, refl, refused_image, row_at, row_at_is, row_by, row_with_mode, settled, sound_parts, subst, survey, sym, take, told_children, true, uncovered, with_other, with_pages_apart, ℕ}
 use Rattle.std.specs.Prelude.{Ok}
-use Rattle.std.proofs.lemmas.Bool.{ne_eqb, false≢true}
-use Rattle.std.proofs.lemmas.List.{get_or-set_other}
-use Rattle.trio_rights.specs.Row.{Row}
-use Rattle.trio_nodes.specs.declared.grant.GrantKind.{GrantKind}
-use Rattle.trio_nodes.specs.declared.grant.GrantKind.TheVariants.{Read, Write, Hold}
-use Rattle.trio_nodes.specs.declared.answers.GrantFault.{GrantFault}
-use Rattle.trio_nodes.specs.declared.answers.ModeFault.{ModeFault}
-use Rattle.trio_lists.specs.Lists.{In}
-use Rattle.trio_layout.specs.Core.{Core, page_of}
-use Rattle.trio_layout.specs.Survey.{Met, plain, FileRead, file_of, survey, row_by}
-use Rattle.trio_rights.specs.Sheets.{Sheet}
-use Rattle.trio_layout.specs.Image.{Image, IsFit, row_at}
-use Rattle.trio_layout.specs.Verifies.{Verifies}
-use Rattle.trio_state.specs.State.{OpenGrant, State, settled, creds_of}
-use Rattle.trio_rights.specs.Bundle.{Bundle, bundle_sheets, bundle_pages}
-use Rattle.trio_layout.specs.Accept.{is_accepted, next}
-use Rattle.trio_layout.specs.Mode.{body_with_mode, image_with_mode, row_with_mode}
-use Rattle.trio_state.specs.Grants.{grant_fault, opened, opens, told_children, given_back}
-use Rattle.trio_state.specs.Allotments.{free_pages, free_numbers, allots}
-use Rattle.trio_state.specs.Bundles.{uncovered, refused_image, Ends}
-use Rattle.trio_state.specs.Step.{Grant, Allot, Back, Release, Settle, SetMode, CtlAnswer, granted_to, allot_outcome, mode_fault, moded_to, ReleaseEnd, Parted, IsAccepted, IsRefused}
-use Rattle.trio_state.specs.Kept.{Kept}
-use Rattle.trio_state.specs.Given.{GivenTo}
-use Rattle.trio_surveys.specs.Reading.{with_other, AgreeOn}
-use Rattle.trio_laws.specs.Laws.{plain_pages, IsUntouched, HasNone, IsElsewhere, library_of, EveryStepIsIsolated}
-use Rattle.trio_lists.proofs.Members.{In-right, map-In}
-use Rattle.trio_surveys.proofs.Local.{file_agrees}
-use Rattle.trio_surveys.proofs.Owned.{sound_parts, page_owner, pages_are}
-use Rattle.trio_surveys.proofs.Sheets.{Pages, page_same, with_pages_apart}
-use Rattle.trio_surveys.proofs.Images.{TablesOf, MetAt, row_at_is, met_row, free_unlisted}
+use Rattle.trio_laws.specs.Laws.{IsUntouched, HasNone, IsElsewhere, EveryStepIsIsolated}
 use Rattle.trio_laws.proofs.Cases.{after_allot, after_no_grant, after_no_mode}
 use Rattle.trio_laws.proofs.Agreeing.{image_with, met_still, body_still}
 use Rattle.trio_laws.proofs.StateFacts.{tables, live_met}
@@ -41,9 +12,7 @@ use Rattle.trio_laws.proofs.Allots.{pages as allot_pages, pages_now as allot_now
 use Rattle.trio_laws.proofs.Backs.{settled_back}
 use Rattle.trio_laws.proofs.Uncovered.{uncovered_handed}
 use Rattle.trio_laws.proofs.Refusing.{pages as refused_pages, agree as refused_agree, fit' as refused_fit}
-use Rattle.trio_surveys.proofs.Moded.{body_moded, changed}
-use Rattle.trio_surveys.proofs.ModedCore.{pick as mode_pick, ms, page_now, listed0, read_now}
-use Rattle.trio_surveys.proofs.ModedImage.{mode_met, met_other, mode_core_is, mode_file, mode_body_other}
+use Rattle.trio_surveys.proofs.ModedCore.{pick as mode_pick}
 use Rattle.trio_laws.proofs.Modes.{may_change, settled_moded}
 use Rattle.trio_laws.proofs.Isolated.{picked_only, put_none, bare_page, plain_listed, untouched}
 

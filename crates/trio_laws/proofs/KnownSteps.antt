@@ -1,36 +1,12 @@
 -- What is known of a state determines what is known after each step, and the answer.
-use Rattle.std.proofs.Common.{◌≡◌, ◌≢◌, ℕ, Bool, true, false, cond, ltb, List, [], ◌∷◌, ◌++◌, map, length, take, Option, Some, None, slice_get, sym, refl, ap, ◌∙◌, subst, inl, inr, arith}
-use Rattle.std.specs.List.{filter, flat_map}
-use Rattle.std.specs.Option.{option_map}
-use Rattle.std.proofs.lemmas.List.{map-append, append-nil}
-use Rattle.std.proofs.lemmas.List.Concat.{flat_map-append}
-use Rattle.std.proofs.lemmas.Bool.{false≢true}
-use Rattle.trio_rights.specs.Row.{Row}
-use Rattle.trio_nodes.specs.declared.grant.GrantKind.{GrantKind}
-use Rattle.trio_nodes.specs.declared.grant.GrantKind.TheVariants.{Read, Write, Hold}
-use Rattle.trio_nodes.specs.declared.answers.GrantFault.{GrantFault}
+use Rattle.trio_laws.proofs.Words.{◌++◌, ◌∙◌, ◌∷◌, ◌≡◌, ◌≢◌, Accepted, Allot, Back, Bool, Bundle, CtlAnswer, Does, Ends, Event, Given, Grant, GrantFault, GrantKind, Hold, Image, In, IsAccepted, IsRefused, Kept, Known, List, ModeFault, NoInodes, NoMemory, NoPages, None, NotClosed, OpenGrant, Option, Outcome, Pages, Parted, Read, Refused, Release, ReleaseEnd, Row, SetMode, Settle, Settled, Sheet, Some, State, Step, Why, Write, [], after_grant_fault, after_mode_fault, allot_outcome, allots, ap, append-nil, arith, case_in, case_of, cond, creds_of, denied_by, excluding, false, false≢true, filter, filter-map, flat_map, flat_map-append, free_numbers, free_pages, given_back, grant_fault, grant_outcome, granted_to, has_parent_grant, holder_of, inl, inr, is_accepted, known, lacks_parent, length, lent_pages, lent_part, list_any-map, logged, ltb, map-append, mode_excluding, mode_fault, mode_outcome, moded_to, opened, opens, option_map, pages_are, pages_of, parted_hold, refl, row_at, row_by, settled, sheet_numbers, slice_get, subst, sym, take, told_children, true, with_core_pages, with_pages, with_pages-append, without_checkpoint, without_pages, ℕ}
+use Rattle.std.proofs.Common.{map}
 use Rattle.trio_nodes.specs.declared.answers.GrantFault.TheVariants.{Busy}
-use Rattle.trio_nodes.specs.declared.answers.ModeFault.{ModeFault}
 use Rattle.trio_nodes.specs.declared.answers.ModeFault.TheVariants.{Busy as ModeBusy}
-use Rattle.trio_lists.specs.Lists.{In}
-use Rattle.trio_layout.specs.Survey.{row_by, pages_of}
-use Rattle.trio_rights.specs.Sheets.{Sheet, sheet_numbers, with_pages, without_pages}
-use Rattle.trio_layout.specs.Image.{Image, row_at, with_core_pages}
-use Rattle.trio_state.specs.State.{OpenGrant, State, settled, creds_of, logged}
-use Rattle.trio_rights.specs.Bundle.{Bundle}
-use Rattle.trio_layout.specs.Accept.{is_accepted}
-use Rattle.trio_layout.specs.Case.{case_of}
-use Rattle.trio_state.specs.Grants.{grant_fault, denied_by, lacks_parent, has_parent_grant, excluding, holder_of, opened, opened_in, lent_pages, opens, told_children, given_back}
-use Rattle.trio_state.specs.Allotments.{free_pages, free_numbers, allots}
-use Rattle.trio_state.specs.Bundles.{parted_hold, lent_part, Ends}
-use Rattle.trio_state.specs.Step.{Event, Grant, Allot, Back, Release, Settle, SetMode, CtlAnswer, NoPages, NoInodes, Given, Done, Accepted, Refused, NotClosed, Settled, NoMemory, Outcome, Does, Step, granted_to, after_grant_fault, grant_outcome, allot_outcome, mode_excluding, mode_fault, moded_to, after_mode_fault, mode_outcome, ReleaseEnd, Parted, IsAccepted, IsRefused}
-use Rattle.trio_state.specs.Tells.{Why, case_in, place_of}
-use Rattle.trio_state.specs.Kept.{Kept}
-use Rattle.trio_laws.specs.OutLaws.{without_checkpoint}
-use Rattle.trio_laws.specs.Known.{Known, known, plain_state, ended, released, known_done, is_no_memory, StepsAreKnown, KnownDecides, refused_rule, SameAnswer, SameEventSameAnswer}
-use Rattle.trio_lists.proofs.Filters.{filter-map, list_any-map}
-use Rattle.trio_surveys.proofs.Sheets.{Pages, with_pages-append}
-use Rattle.trio_surveys.proofs.Owned.{pages_are}
+use Rattle.trio_state.specs.Grants.{opened_in}
+use Rattle.trio_state.specs.Step.{Done}
+use Rattle.trio_state.specs.Tells.{place_of}
+use Rattle.trio_laws.specs.Known.{plain_state, ended, released, known_done, is_no_memory, StepsAreKnown, KnownDecides, refused_rule, SameAnswer, SameEventSameAnswer}
 use Rattle.trio_laws.proofs.StateFacts.{live_met, checkpoint_lent, lent_file}
 use Rattle.trio_laws.proofs.WriteGrant.{lent_numbers}
 use Rattle.trio_laws.proofs.Grants.{excluded_none}

@@ -1,21 +1,6 @@
 -- The pages of a live file on which no write grant is open are at home.
-use Rattle.std.proofs.Common.{◌≡◌, ℕ, true, List, [], ◌++◌, length, Some, Ok, slice_get, sym, ap, ◌∙◌, subst, arith}
-use Rattle.trio_rights.specs.Row.{Row}
-use Rattle.trio_layout.specs.Chain.{Chain}
-use Rattle.trio_layout.specs.Core.{Core, page_of}
-use Rattle.trio_nodes.specs.declared.grant.GrantKind.TheVariants.{Write}
-use Rattle.trio_lists.specs.Lists.{In, are_new}
-use Rattle.trio_layout.specs.Range.{is_core}
-use Rattle.trio_layout.specs.Survey.{plain, survey, pages_of}
-use Rattle.trio_layout.specs.Pages.{settled_chain}
-use Rattle.trio_layout.specs.Image.{row_at, settled_body}
-use Rattle.trio_state.specs.Kept.{Kept}
-use Rattle.trio_state.specs.State.{OpenGrant, State, settled}
-use Rattle.trio_laws.specs.EndLaws.{checkpoints_of}
-use Rattle.trio_surveys.proofs.Images.{MetAt, settled_body_met}
-use Rattle.trio_surveys.proofs.Local.{reads_from}
-use Rattle.trio_surveys.proofs.Owned.{body_sized, pages_are, pages_new, sound_parts}
-use Rattle.trio_surveys.proofs.Sheets.{page_there, with_pages_apart}
+use Rattle.trio_laws.proofs.Words.{◌++◌, ◌∙◌, ◌≡◌, Chain, Core, In, Kept, List, MetAt, Ok, OpenGrant, Row, Some, State, Write, [], ap, are_new, arith, checkpoints_of, is_core, length, page_of, page_there, pages_are, pages_new, pages_of, plain, reads_from, row_at, settled, settled_body, settled_body_met, settled_chain, slice_get, sound_parts, subst, survey, sym, true, with_pages_apart, ℕ}
+use Rattle.trio_surveys.proofs.Owned.{body_sized}
 use Rattle.trio_laws.proofs.StateFacts.{checkpoint_lent, lent_file, live_met, pages_there, tables}
 
 module _ (s : State) (k : Kept s) (ino : ℕ) (r : Row) (row : row_at s.home ino ≡ Some r) (free : (g : OpenGrant) → In g s.open_grants → g.kind ≡ Write → g.ino ≡ ino → ⊥) where

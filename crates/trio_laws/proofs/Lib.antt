@@ -38,3 +38,4 @@ pub mod judgement
 pub mod acts
 pub mod history
 pub mod session
+mod Words

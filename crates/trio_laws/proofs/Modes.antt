@@ -1,35 +1,12 @@
 -- A change of mode keeps what holds of a state.
-use Rattle.std.proofs.Common.{◌⊎◌, ◌≡◌, ℕ, ◌≤◌, Bool, true, false, cond, List, [], ◌∷◌, Option, Some, None, slice_get, slice_set, sym, refl, ap, ◌∙◌, subst, inl, inr, arith}
-use Rattle.std.specs.Prelude.{is_some}
-use Rattle.std.specs.List.{flat_map}
-use Rattle.std.specs.Option.{option_map}
-use Rattle.std.proofs.lemmas.List.{set_comm, get_or-set_other}
-use Rattle.std.proofs.lemmas.Bool.{ne_eqb, or_parts, or_cases, not-false, eqb-true, ltb-false, eqb-false}
-use Rattle.trio_rights.specs.Row.{Row}
-use Rattle.trio_nodes.specs.declared.answers.ModeFault.{ModeFault}
-use Rattle.trio_nodes.specs.declared.answers.ModeFault.TheVariants.{NotOwner, BadMode, Busy}
-use Rattle.trio_lists.specs.Lists.{In}
-use Rattle.trio_layout.specs.Survey.{Met, plain, survey, children, pages_of}
-use Rattle.trio_state.specs.Grants.{holder_of, has_parent_grant}
-use Rattle.trio_layout.specs.Image.{IsFit, Image, settled_body, row_at}
-use Rattle.trio_state.specs.Kept.{Kept, LentIsListed}
-use Rattle.trio_layout.specs.Mode.{body_with_mode, row_with_mode, body_put, image_with_mode}
-use Rattle.trio_rights.specs.Sheets.{Sheet, sheet_numbers, with_pages}
-use Rattle.trio_state.specs.State.{OpenGrant, State, settled, creds_of}
-use Rattle.trio_state.specs.Step.{SetMode, CtlAnswer, Step, mode_fault, moded_to}
-use Rattle.trio_layout.specs.Verifies.{Verifies}
+use Rattle.trio_laws.proofs.Words.{◌∙◌, ◌∷◌, ◌≡◌, ◌≤◌, ◌⊎◌, BadMode, Bool, Busy, CtlAnswer, Image, In, In-right, IsFit, Kept, LentIsListed, List, Met, ModeFault, None, NotOwner, OpenGrant, Option, Pages, Row, SetMode, Sheet, Some, State, Step, Verifies, [], ap, arith, body_put, body_with_mode, child_from, child_placed, children, cond, creds_of, eqb-false, eqb-true, false, flat_map, flat_map-In, get_or-set_other, has_parent_grant, holder_of, image_with_mode, inl, inr, is_some, met_other, mode_body_other, mode_fault, mode_file, mode_fit, mode_verifies, moded_to, ne_eqb, not-false, option_map, or_cases, or_parts, page_same, pages_are, pages_of, plain, put_on, refl, root_or_listed, row_at, row_with_mode, settled, settled_body, sheet_numbers, slice_get, slice_set, some_of, subst, survey, sym, true, with_bodies-get, with_pages, with_pages_apart, ℕ}
+use Rattle.std.proofs.lemmas.List.{set_comm}
+use Rattle.std.proofs.lemmas.Bool.{ltb-false}
 use Rattle.trio_laws.proofs.Accepting.{absent_map}
 use Rattle.trio_laws.proofs.Cases.{after_no_mode}
 use Rattle.trio_laws.proofs.Grants.{none_passes, logged_kept}
-use Rattle.trio_surveys.proofs.Images.{some_of, root_or_listed}
-use Rattle.trio_lists.proofs.Members.{In-right, flat_map-In}
-use Rattle.trio_surveys.proofs.ModedImage.{mode_body_other, met_other, mode_verifies, mode_fit, mode_file}
-use Rattle.trio_surveys.proofs.Owned.{pages_are}
-use Rattle.trio_surveys.proofs.Putting.{put_on, with_bodies-get}
 use Rattle.trio_surveys.proofs.SheetLaws.{page_at}
-use Rattle.trio_surveys.proofs.Sheets.{Pages, page_same, with_pages_apart}
 use Rattle.trio_laws.proofs.StateFacts.{live_met, lent_file, checkpoint_lent}
-use Rattle.trio_surveys.proofs.Tree.{child_from, child_placed}
 
 pub with_pages_set : (ss : List Sheet) (pages : Pages) (k : ℕ) (x : Option (List ℕ)) → (In k (sheet_numbers ss) → ⊥) → with_pages ss (slice_set pages k x) ≡ slice_set (with_pages ss pages) k x
 with_pages_set [] pages k x h = refl

@@ -1,25 +1,7 @@
 -- Open grants stand in the order of their entries.
-use Rattle.std.proofs.Common.{◌≡◌, ℕ, ◌<◌, ◌≤◌, zero, suc, Bool, ◌&&◌, not, eqb, List, [], ◌∷◌, length, get_or, take, Option, Some, None, slice_get, sym, refl, ap, subst, inl, inr, arith}
-use Rattle.std.specs.Prelude.{AllPairs}
-use Rattle.std.proofs.lemmas.List.Kept.{AllPairs-filter}
-use Rattle.std.proofs.lemmas.List.Quantifiers.{all_pairs_push}
-use Rattle.trio_rights.specs.Row.{Row}
-use Rattle.trio_nodes.specs.declared.grant.GrantKind.{GrantKind}
-use Rattle.trio_nodes.specs.declared.answers.GrantFault.{GrantFault}
-use Rattle.trio_nodes.specs.declared.answers.ModeFault.{ModeFault}
-use Rattle.trio_lists.specs.Lists.{In}
-use Rattle.trio_layout.specs.Image.{Image, row_at}
-use Rattle.trio_state.specs.State.{OpenGrant, State, logged}
-use Rattle.trio_nodes.specs.GrantKinds.{is_read}
-use Rattle.trio_rights.specs.Bundle.{Bundle}
-use Rattle.trio_state.specs.Grants.{grant_fault, opened, opens, given_back}
-use Rattle.trio_state.specs.Allotments.{free_pages, free_numbers, allots}
-use Rattle.trio_state.specs.Bundles.{is_in_bundle, lent_part, grants_after, Ends}
-use Rattle.trio_state.specs.Step.{Grant, Allot, Back, Release, Settle, SetMode, CtlAnswer, granted_to, allot_outcome, mode_fault, moded_to, ReleaseEnd, Parted, IsAccepted, IsRefused}
-use Rattle.trio_state.specs.Run.{start}
+use Rattle.trio_laws.proofs.Words.{◌&&◌, ◌<◌, ◌∷◌, ◌≡◌, ◌≤◌, AllPairs, AllPairs-filter, Allot, Back, Bool, Bundle, CtlAnswer, Ends, Grant, GrantFault, GrantKind, Image, In, In-cases, In-filter, In-map, IsAccepted, IsRefused, List, ModeFault, None, OpenGrant, Option, Parted, Release, ReleaseEnd, Row, SetMode, Settle, Some, State, [], all_pairs_push, allot_outcome, allots, ap, arith, eqb, filter-In, free_numbers, free_pages, get_or, get_or-In, given_back, grant_fault, granted_to, grants_after, inl, inr, is_in_bundle, is_read, length, lent_part, logged, map-In, mode_fault, moded_to, not, opened, opens, refl, row_at, slice_get, start, subst, suc, sym, take, zero, ℕ}
 use Rattle.trio_laws.specs.GrantLaws.{CameBefore, IsOrdered, OrderBegins, OrderStays, GrantsAreOrdered, FirstIsLowest}
-use Rattle.trio_lists.proofs.Members.{In-cases, In-map, map-In}
-use Rattle.trio_lists.proofs.Filters.{get_or-In, In-get_or, filter-In, In-filter}
+use Rattle.trio_lists.proofs.Filters.{In-get_or}
 use Rattle.trio_laws.proofs.Cases.{after_allot, after_no_grant, after_no_mode, trace_keeps}
 use Rattle.trio_laws.proofs.Ended.{pairs_like}
 

@@ -1,27 +1,7 @@
 -- Each step of another library leaves what a library was given.
-use Rattle.std.proofs.Common.{◌≡◌, ℕ, Bool, false, ◌&&◌, not, eqb, [], ◌∷◌, Option, Some, None, sym, refl, ap, ◌∙◌, subst, inl, inr, arith}
-use Rattle.std.proofs.lemmas.Bool.{and_left, not_from_false, ne_eqb}
-use Rattle.std.proofs.lemmas.List.{get_or-set_other}
-use Rattle.trio_rights.specs.Row.{Row}
-use Rattle.trio_tables.specs.Out.{lib_at}
-use Rattle.trio_nodes.specs.declared.grant.GrantKind.{GrantKind}
-use Rattle.trio_nodes.specs.declared.grant.GrantKind.TheVariants.{Read}
-use Rattle.trio_nodes.specs.declared.answers.GrantFault.{GrantFault}
-use Rattle.trio_nodes.specs.declared.answers.ModeFault.{ModeFault}
-use Rattle.trio_lists.specs.Lists.{In}
-use Rattle.trio_layout.specs.Image.{row_at}
-use Rattle.trio_state.specs.State.{OpenGrant, State, logged}
-use Rattle.trio_nodes.specs.GrantKinds.{is_read}
-use Rattle.trio_rights.specs.Bundle.{Bundle}
-use Rattle.trio_layout.specs.Mode.{image_with_mode, row_with_mode}
-use Rattle.trio_state.specs.Grants.{grant_fault, opens, given_back}
-use Rattle.trio_state.specs.Step.{Event, Grant, Allot, Back, Release, Settle, SetMode, CtlAnswer, Step, granted_to, allot_outcome, mode_fault, moded_to, ReleaseEnd, Parted, IsAccepted, IsRefused}
-use Rattle.trio_state.specs.Kept.{Kept}
-use Rattle.trio_state.specs.Given.{GivenTo, GivenEvent}
-use Rattle.trio_laws.specs.Laws.{library_of, GivenThrough, ClosedThrough}
-use Rattle.trio_lists.proofs.Members.{In-left, In-cases}
+use Rattle.trio_laws.proofs.Words.{◌&&◌, ◌∙◌, ◌∷◌, ◌≡◌, Allot, Back, Bool, Bundle, CtlAnswer, Event, GivenEvent, GivenTo, Grant, GrantFault, GrantKind, In, In-cases, In-filter, In-left, IsAccepted, IsRefused, Kept, ModeFault, None, OpenGrant, Option, Parted, Read, Release, ReleaseEnd, Row, SetMode, Settle, Some, State, Step, [], allot_outcome, and_left, ap, arith, eqb, false, filter-In, get_or-set_other, given_back, grant_fault, granted_to, image_with_mode, inl, inr, is_read, lib_at, library_of, logged, mode_fault, moded_to, ne_eqb, not, not_from_false, opens, refl, row_at, row_with_mode, subst, sym, ℕ}
+use Rattle.trio_laws.specs.Laws.{GivenThrough, ClosedThrough}
 use Rattle.trio_laws.proofs.Bundles.{closed_unparted, closed_all}
-use Rattle.trio_lists.proofs.Filters.{filter-In, In-filter}
 use Rattle.trio_laws.proofs.Modes.{may_change}
 use Rattle.trio_laws.proofs.Allots.{pages_apart, numbers_apart}
 use Rattle.trio_laws.proofs.Cases.{after_allot, after_no_grant, after_no_mode}

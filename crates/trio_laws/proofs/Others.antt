@@ -1,29 +1,8 @@
 -- A step of another library leaves what a library was given.
-use Rattle.std.proofs.Common.{cond, ◌&&◌, None, Bool, ◌≡◌, ℕ, true, false, not, eqb, List, Option, Some, sym, refl, ap, ◌∙◌, arith}
-use Rattle.std.proofs.lemmas.Bool.{and_parts, and_left, eqb-true, both_ways, ne_eqb, false_from_ne_true}
-use Rattle.trio_rights.specs.Row.{Row}
-use Rattle.trio_rights.specs.declared.rights.LibNo.{LibNo}
-use Rattle.trio_tables.specs.Out.{lib_at}
-use Rattle.trio_tables.proofs.OutLemmas.{lib_at-others}
-use Rattle.trio_nodes.specs.declared.grant.GrantKind.{GrantKind}
-use Rattle.trio_nodes.specs.declared.grant.GrantKind.TheVariants.{Hold}
-use Rattle.trio_lists.specs.Lists.{is_among, In}
-use Rattle.trio_layout.specs.Survey.{row_by}
-use Rattle.trio_layout.specs.Accept.{is_accepted, next}
-use Rattle.trio_state.specs.Allotments.{out_after}
-use Rattle.trio_state.specs.Bundles.{is_parent_written, is_parted, parted_hold, is_in_bundle, lent_part, refused_image, Ends}
-use Rattle.trio_nodes.specs.GrantKinds.{is_hold}
-use Rattle.trio_state.specs.Given.{HasGrant, HasNoRead, WasAllotted, GivenTo}
-use Rattle.trio_layout.specs.Image.{Image, row_at}
-use Rattle.trio_state.specs.Kept.{Kept}
-use Rattle.trio_rights.specs.Bundle.{Bundle, is_written}
-use Rattle.trio_rights.specs.Sheets.{sheet_numbers}
-use Rattle.trio_state.specs.State.{OpenGrant, State, settled, creds_of}
+use Rattle.trio_laws.proofs.Words.{◌&&◌, ◌∙◌, ◌≡◌, Bool, Bundle, Ends, GivenTo, GrantKind, HasGrant, HasNoRead, Hold, Image, In, Kept, LibNo, List, None, OpenGrant, Option, Row, Some, State, WasAllotted, and_left, and_parts, ap, arith, both_ways, cond, creds_of, eqb, eqb-true, false, false_from_ne_true, is_accepted, is_among, is_among-In, is_hold, is_in_bundle, is_parent_written, is_parted, is_written, lent_part, lib_at, lib_at-others, ne_eqb, next, not, out_after, parted_hold, refl, refused_image, row_at, row_by, settled, sheet_numbers, some_of, sym, true, ℕ}
 use Rattle.trio_laws.proofs.Accepting.{stays_then, row_then}
 use Rattle.trio_laws.proofs.Bundles.{Closed, unparted_at, unparted_from}
 use Rattle.trio_laws.proofs.Ended.{grant_before, grant_after}
-use Rattle.trio_surveys.proofs.Images.{some_of}
-use Rattle.trio_lists.proofs.Members.{is_among-In}
 
 -- what a step leaves of the grants and outs of a library
 pub record LeavesTo (s s' : State) (lib : ℕ) : Type 0 where

@@ -1,32 +1,10 @@
 -- A step of one library leaves what every other library has out.
-use Rattle.std.proofs.Common.{◌≡◌, ◌≢◌, ℕ, Bool, true, false, ◌&&◌, ◌||◌, not, eqb, List, [], ◌∷◌, ◌++◌, map, length, Option, Some, None, sym, refl, ap, ◌∙◌, inl, inr, append-nil, arith}
-use Rattle.std.specs.List.{filter}
-use Rattle.std.specs.Prelude.{is_some}
-use Rattle.std.proofs.lemmas.Bool.{eqb-true, ne_eqb, cases_lt, false≢true}
+use Rattle.trio_laws.proofs.Words.{◌&&◌, ◌++◌, ◌||◌, ◌∙◌, ◌∷◌, ◌≡◌, ◌≢◌, Allot, Back, Bool, Bundle, CtlAnswer, Ends, GivenTo, Grant, GrantFault, GrantKind, Image, In, Kept, LibNo, List, ModeFault, None, OpenGrant, Option, Release, ReleaseEnd, Row, SetMode, Settle, Some, State, WasAllotted, [], allot_outcome, ap, arith, cases_lt, eqb, eqb-true, false, false≢true, filter, filter-map, filter-same, get_or_past, given_back, grant_fault, granted_to, grants_after, inl, inr, is_among, is_among-In, is_hold, is_in_bundle, is_out, is_read, is_some, is_write, is_written, length, length-with_all, lent_part, lib_at, lib_at-others, lib_at-set, mode_fault, moded_to, ne_eqb, not, out_after, out_of, out_with, refl, row_at, sheet_numbers, sym, true, without_checkpoint, ℕ}
+use Rattle.std.proofs.Common.{map, append-nil}
 use Rattle.std.proofs.lemmas.List.Elements.{filter-append}
-use Rattle.std.proofs.lemmas.List.{get_or_past}
-use Rattle.trio_rights.specs.Row.{Row}
-use Rattle.trio_nodes.specs.declared.grant.GrantKind.{GrantKind}
-use Rattle.trio_nodes.specs.declared.answers.GrantFault.{GrantFault}
-use Rattle.trio_nodes.specs.declared.answers.ModeFault.{ModeFault}
-use Rattle.trio_lists.specs.Lists.{In, is_among}
-use Rattle.trio_rights.specs.Sheets.{sheet_numbers}
-use Rattle.trio_layout.specs.Image.{Image, row_at}
-use Rattle.trio_rights.specs.declared.rights.LibNo.{LibNo}
-use Rattle.trio_tables.specs.Out.{lib_at, is_out}
-use Rattle.trio_tables.proofs.OutLemmas.{length-with_all, lib_at-others, lib_at-set}
-use Rattle.trio_state.specs.State.{OpenGrant, State}
-use Rattle.trio_nodes.specs.GrantKinds.{is_read, is_write, is_hold}
-use Rattle.trio_rights.specs.Bundle.{Bundle, is_written}
-use Rattle.trio_state.specs.Grants.{grant_fault, given_back}
-use Rattle.trio_state.specs.Allotments.{out_with, out_after, is_library}
-use Rattle.trio_state.specs.Bundles.{Ends, grants_after, is_in_bundle, lent_part}
-use Rattle.trio_state.specs.Step.{Grant, Allot, Back, Release, Settle, SetMode, CtlAnswer, granted_to, allot_outcome, mode_fault, moded_to, ReleaseEnd}
-use Rattle.trio_state.specs.Kept.{Kept}
-use Rattle.trio_state.specs.Given.{GivenTo, WasAllotted}
-use Rattle.trio_laws.specs.OutLaws.{without_checkpoint, grants_to, numbers_to, out_of, OthersKeepOut}
-use Rattle.trio_lists.proofs.Members.{is_among-In}
-use Rattle.trio_lists.proofs.Filters.{filter-map, filter-filter, filter-same}
+use Rattle.trio_state.specs.Allotments.{is_library}
+use Rattle.trio_laws.specs.OutLaws.{grants_to, numbers_to, OthersKeepOut}
+use Rattle.trio_lists.proofs.Filters.{filter-filter}
 use Rattle.trio_laws.proofs.Cases.{after_allot, after_no_grant, after_no_mode}
 use Rattle.trio_laws.proofs.Allots.{page_free, number_free}
 

@@ -1,29 +1,9 @@
 -- For each bundle that was given to its library there is a step of its release.
-use Rattle.std.proofs.Common.{◌≡◌, ℕ, suc, zero, ◌+◌, true, List, [], ◌∷◌, ◌++◌, length, Option, Some, None, slice_get, sym, refl, ap, subst, ◌∙◌, inl, inr, arith, not}
-use Rattle.std.specs.Prelude.{map}
-use Rattle.std.specs.List.{filter}
-use Rattle.std.specs.Option.{option_and_then}
-use Rattle.std.proofs.lemmas.Bool.{cases_Bool}
-use Rattle.trio_lists.specs.Lists.{In}
-use Rattle.trio_layout.specs.Accept.{is_accepted, next}
-use Rattle.trio_state.specs.Allotments.{out_after}
-use Rattle.trio_state.specs.Bundles.{blank, lent_part, grants_after, is_in_bundle, uncovered, parted_hold, refused_image, Ends}
-use Rattle.trio_state.specs.Grants.{given_back}
-use Rattle.trio_laws.specs.EndLaws.{IsSpread, checkpoints_of, unless_absent}
+use Rattle.trio_laws.proofs.Words.{◌++◌, ◌+◌, ◌∙◌, ◌∷◌, ◌≡◌, Accepted, Allot, Back, Bundle, CtlAnswer, Does, Ends, Event, GivenEvent, GivenTo, Grant, Image, In, In-filter, In-flat, IsAccepted, IsRefused, IsSpread, Kept, List, None, NotClosed, OpenGrant, Option, Pages, Parted, Refused, Release, SetMode, Settle, Settled, Sheet, Some, State, [], allot_outcome, ap, arith, blank, bundle_sheets, cases_Bool, checkpoints_of, creds_of, filter, filter-In, flat_map-In, given_back, grant_outcome, grants_after, inl, inr, is_accepted, is_in_bundle, length, length-with_pages, lent_part, map, map-In, mode_outcome, next, not, option_and_then, out_after, parted_hold, refl, refused_image, settled, sheet_numbers, slice_get, subst, suc, sym, true, uncovered, unless_absent, with_core_pages, with_pages, zero, ℕ}
 use Rattle.trio_laws.specs.Laws.{MayEnd}
-use Rattle.trio_state.specs.Given.{GivenTo, GivenEvent}
-use Rattle.trio_layout.specs.Image.{Image, with_core_pages}
-use Rattle.trio_state.specs.Kept.{Kept}
-use Rattle.trio_rights.specs.Bundle.{Bundle, bundle_sheets}
-use Rattle.trio_rights.specs.Sheets.{Sheet, sheet_numbers, with_pages}
-use Rattle.trio_state.specs.State.{OpenGrant, State, settled, creds_of}
-use Rattle.trio_state.specs.Step.{Event, Grant, Allot, Back, Release, Settle, SetMode, CtlAnswer, Done, Accepted, Refused, NotClosed, Settled, Does, Parted, IsAccepted, IsRefused, grant_outcome, allot_outcome, mode_outcome}
-use Rattle.trio_lists.proofs.Filters.{In-filter, filter-In}
-use Rattle.trio_lists.proofs.Members.{flat_map-In, In-flat, map-In}
+use Rattle.trio_state.specs.Step.{Done}
 use Rattle.trio_laws.proofs.PutBack.{refused_away, refused_settles}
 use Rattle.trio_laws.proofs.Spread.{accepted_away, accepted_settles, next_long, next_there}
-use Rattle.trio_surveys.proofs.SheetLaws.{length-with_pages}
-use Rattle.trio_surveys.proofs.Sheets.{Pages}
 use Rattle.trio_laws.proofs.Tells.{refused_tells}
 
 abbrev bytes_at : Option (Option (List ℕ)) → List ℕ

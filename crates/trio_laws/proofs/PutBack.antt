@@ -1,30 +1,9 @@
 -- After a refusal the image of a refusal is settled, once the bundle's checkpoints are back at home.
-use Rattle.std.proofs.Common.{◌≡◌, ℕ, true, not, List, ◌++◌, Some, None, slice_get, sym, refl, ap, ◌∙◌, subst, inl, inr, arith}
-use Rattle.std.specs.Prelude.{is_some, slice_index}
-use Rattle.std.proofs.lemmas.Bool.{cases_Bool, not_from_false}
-use Rattle.trio_rights.specs.declared.kind.Kind.{Kind}
-use Rattle.trio_rights.specs.declared.kind.Kind.TheVariants.{Regular, Directory}
-use Rattle.trio_nodes.specs.declared.grant.GrantKind.TheVariants.{Write}
-use Rattle.trio_layout.specs.Core.{Core}
-use Rattle.trio_lists.specs.Lists.{In}
-use Rattle.trio_layout.specs.Survey.{plain, survey}
-use Rattle.trio_state.specs.Bundles.{grants_after, is_in_bundle, refused_image, uncovered}
-use Rattle.trio_state.specs.Given.{GivenTo}
-use Rattle.trio_state.specs.Kept.{Kept}
-use Rattle.trio_rights.specs.Bundle.{Written, Bundle, bundle_pages, bundle_sheets}
-use Rattle.trio_rights.specs.Sheets.{Sheet, sheet_numbers, with_pages}
-use Rattle.trio_state.specs.State.{OpenGrant, State, settled, covered}
-use Rattle.trio_laws.specs.EndLaws.{checkpoints_of}
+use Rattle.trio_laws.proofs.Words.{◌++◌, ◌∙◌, ◌≡◌, Bundle, Core, Directory, GivenTo, In, In-cases, In-filter, In-flat, In-left, In-right, Kept, Kind, List, None, OpenGrant, Pages, Regular, Sheet, Some, State, Write, Written, among_cases, ap, arith, bundle_pages, bundle_sheets, cases_Bool, checkpoints_of, covered, filter-In, flat_map-In, free_unlisted, grants_after, index_apart, inl, inr, is_in_bundle, is_some, map-In, not, not_from_false, pages_same, plain, refl, refused_image, settled, sheet_numbers, slice_get, slice_index, sound_parts, subst, survey, sym, true, uncovered, with_pages, with_pages-append, with_pages_apart, with_pages_cong, ℕ}
 use Rattle.trio_laws.proofs.Accepting.{handed_back}
 use Rattle.trio_laws.proofs.Bundles.{in_numbers}
-use Rattle.trio_lists.proofs.Filters.{filter-In, In-filter}
 use Rattle.trio_laws.proofs.Checkpoints.{with_pages_like, checkpoint_from, one_lender, checkpoints_one}
-use Rattle.trio_surveys.proofs.Images.{free_unlisted}
-use Rattle.trio_lists.proofs.Members.{In-cases, In-flat, In-left, In-right, flat_map-In, map-In}
-use Rattle.trio_surveys.proofs.Owned.{index_apart, sound_parts}
-use Rattle.trio_surveys.proofs.PageSlots.{pages_same}
 use Rattle.trio_laws.proofs.Uncovered.{uncovered_from, uncovered_handed}
-use Rattle.trio_surveys.proofs.Sheets.{Pages, among_cases, with_pages-append, with_pages_apart, with_pages_cong}
 use Rattle.trio_laws.proofs.StateFacts.{covered_write, tables, lent_met}
 
 -- a checkpoint of a regular file covers its index pages alone

@@ -1,37 +1,12 @@
 -- The end of a refused bundle keeps what holds of a state.
-use Rattle.std.proofs.Common.{◌≡◌, ℕ, true, false, ◌++◌, length, Some, None, slice_get, sym, refl, ap, ◌∙◌, subst, inl, inr, ◌⊎◌, arith, ◌+◌}
-use Rattle.std.specs.Prelude.{is_some, slice_index}
-use Rattle.std.specs.List.{flat_map}
-use Rattle.std.proofs.lemmas.Bool.{cases_Bool}
-use Rattle.trio_rights.specs.declared.kind.Kind.{Kind}
-use Rattle.trio_rights.specs.declared.kind.Kind.TheVariants.{Regular}
-use Rattle.trio_nodes.specs.declared.grant.GrantKind.TheVariants.{Write, Hold}
-use Rattle.trio_tables.specs.Out.{is_out}
-use Rattle.trio_layout.specs.Core.{Core}
-use Rattle.trio_lists.specs.Lists.{In}
-use Rattle.trio_layout.specs.Range.{is_core}
-use Rattle.trio_layout.specs.Survey.{plain, FileRead, survey}
-use Rattle.trio_state.specs.Bundles.{is_in_bundle, lent_part, refused_image, uncovered, Ends}
-use Rattle.trio_state.specs.Given.{GivenTo}
-use Rattle.trio_state.specs.Grants.{has_parent_grant}
-use Rattle.trio_layout.specs.Image.{IsFit, Image, settled_body, row_at}
-use Rattle.trio_state.specs.Kept.{Kept, LentIsListed, HoldStands}
-use Rattle.trio_rights.specs.Bundle.{Written, Bundle}
-use Rattle.trio_rights.specs.Sheets.{Sheet, sheet_numbers, with_pages}
-use Rattle.trio_state.specs.State.{covered, OpenGrant, State, settled}
-use Rattle.trio_layout.specs.Verifies.{Verifies}
+use Rattle.trio_laws.proofs.Words.{◌++◌, ◌+◌, ◌∙◌, ◌≡◌, ◌⊎◌, AgreeOn, Bundle, Core, Ends, FileRead, GivenTo, Hold, HoldStands, Image, In, In-flat, In-left, In-right, IsFit, Kept, Kind, LentIsListed, None, OpenGrant, Pages, Regular, Sheet, Some, State, Verifies, Write, Written, ap, arith, cases_Bool, covered, false, flat_map, free_unlisted, has_parent_grant, inl, inr, is_core, is_in_bundle, is_out, is_some, length, length-with_pages, lent_part, map-In, page_from, page_same, page_there, pages_are, pages_read, plain, refl, refused_image, row_at, settled, settled_body, sheet_numbers, slice_get, slice_index, some_of, sound_parts, subst, survey, sym, true, uncovered, with_other, with_pages, with_pages_absent, with_pages_apart, ℕ}
 use Rattle.trio_laws.proofs.Agreeing.{verifies_still, lent_still, body_still}
 use Rattle.trio_laws.proofs.Bundles.{Closed, outside_unheld, in_numbers}
 use Rattle.trio_laws.proofs.Ended.{grant_before, apart_then, checkpoints_then, write_in_bundle, parent_then, outs_then, numbers_then, pages_placed_then, numbers_placed_then, absent_then}
-use Rattle.trio_surveys.proofs.Images.{some_of, free_unlisted}
-use Rattle.trio_lists.proofs.Members.{In-left, In-right, In-flat, map-In}
-use Rattle.trio_surveys.proofs.Owned.{sound_parts, pages_are}
-use Rattle.trio_surveys.proofs.SheetLaws.{length-with_pages}
-use Rattle.trio_surveys.proofs.Sheets.{Pages, with_pages_apart, with_pages_absent, with_pages_from, page_same, page_there, page_from}
+use Rattle.trio_surveys.proofs.Sheets.{with_pages_from}
 use Rattle.trio_laws.proofs.StateFacts.{lent_by, tables}
 use Rattle.trio_laws.proofs.Uncovered.{uncovered_from, uncovered_handed, In-uncovered}
 use Rattle.trio_laws.proofs.WriteGrant.{read_cases, block_unread, uncovers}
-use Rattle.trio_surveys.specs.Reading.{with_other, AgreeOn, pages_read}
 
 -- a page that is read is listed
 pub read_listed : (kind : Kind) (f : FileRead) (p : ℕ) → In p (pages_read kind f) → In p (f.chain.index ++ f.chain.blocks)

@@ -1,26 +1,6 @@
 -- What every step leaves of the row of a live number.
-use Rattle.std.proofs.Common.{◌≡◌, ℕ, ◌<◌, true, List, length, get_or, Option, Some, None, sym, refl, ap, ◌∙◌, subst, inl, inr, arith}
-use Rattle.std.proofs.lemmas.Bool.{cases_Bool, cases_eq, cases_lt, both_ways}
-use Rattle.std.proofs.lemmas.List.{get_or_past, get_or-set_same, get_or-set_other}
-use Rattle.trio_rights.specs.Row.{Row}
-use Rattle.trio_nodes.specs.declared.grant.GrantKind.{GrantKind}
-use Rattle.trio_nodes.specs.declared.answers.GrantFault.{GrantFault}
-use Rattle.trio_nodes.specs.declared.answers.ModeFault.{ModeFault}
-use Rattle.trio_lists.specs.Lists.{In, is_among}
-use Rattle.trio_layout.specs.Survey.{survey, row_of}
-use Rattle.trio_layout.specs.Image.{Image, row_at}
-use Rattle.trio_state.specs.State.{State, settled, creds_of}
-use Rattle.trio_rights.specs.Bundle.{Bundle}
-use Rattle.trio_layout.specs.Proposed.{proposed, proposed_pick}
-use Rattle.trio_layout.specs.Accept.{is_accepted, next}
-use Rattle.trio_state.specs.Grants.{grant_fault}
-use Rattle.trio_state.specs.Bundles.{Ends}
-use Rattle.trio_state.specs.Step.{Grant, Allot, Back, Release, Settle, SetMode, CtlAnswer, granted_to, allot_outcome, mode_fault, moded_to, ReleaseEnd}
-use Rattle.trio_state.specs.Kept.{Kept}
-use Rattle.trio_state.specs.Given.{GivenTo}
+use Rattle.trio_laws.proofs.Words.{◌<◌, ◌∙◌, ◌≡◌, Allot, Back, Bundle, CtlAnswer, Ends, GivenTo, Grant, GrantFault, GrantKind, Image, In, In-is_among, Kept, List, ModeFault, None, Option, Release, ReleaseEnd, Row, SetMode, Settle, Some, State, allot_outcome, ap, arith, both_ways, cases_Bool, cases_eq, cases_lt, creds_of, get_or, get_or-set_other, get_or-set_same, get_or_past, grant_fault, granted_to, inl, inr, is_accepted, is_among, is_among-In, length, mode_fault, moded_to, next, proposed, proposed_pick, refl, row_at, row_at_is, row_of, settled, subst, survey, sym, true, ℕ}
 use Rattle.trio_laws.specs.Laws.{HasRightsOf, RowGoes, EveryStepKeepsRows}
-use Rattle.trio_lists.proofs.Members.{is_among-In, In-is_among}
-use Rattle.trio_surveys.proofs.Images.{row_at_is}
 use Rattle.trio_laws.proofs.Cases.{after_allot, after_no_grant, after_no_mode}
 use Rattle.trio_laws.proofs.Survivors.{fit_now, sound_now, unheld_row, held_rights}
 use Rattle.trio_laws.proofs.Modes.{may_change}

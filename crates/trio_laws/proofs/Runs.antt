@@ -1,18 +1,5 @@
 -- Every step keeps what holds of a state, and so does every run.
-use Rattle.std.proofs.Common.{ℕ, List, sym, subst, inl, inr, arith}
-use Rattle.std.proofs.lemmas.Bool.{false≢true}
-use Rattle.std.proofs.lemmas.List.{length-replicate}
-use Rattle.trio_rights.specs.declared.rights.Creds.{Creds}
-use Rattle.trio_tables.proofs.OutLemmas.{lib_at-none_out}
-use Rattle.trio_lists.specs.Lists.{In}
-use Rattle.trio_state.specs.Given.{GivenTo, GivenEvent}
-use Rattle.trio_layout.specs.Image.{IsFit, Image}
-use Rattle.trio_state.specs.Kept.{Kept}
-use Rattle.trio_rights.specs.Bundle.{Bundle}
-use Rattle.trio_state.specs.Run.{IsWhole, Move, Trace, start}
-use Rattle.trio_state.specs.State.{State, creds_of}
-use Rattle.trio_state.specs.Step.{Event, Grant, Allot, Back, Release, Settle, SetMode, CtlAnswer, Step, ReleaseEnd, Parted, IsAccepted, IsRefused}
-use Rattle.trio_layout.specs.Verifies.{Verifies}
+use Rattle.trio_laws.proofs.Words.{Allot, Back, Bundle, Creds, CtlAnswer, Event, GivenEvent, GivenTo, Grant, Image, In, IsAccepted, IsFit, IsRefused, IsWhole, Kept, List, Move, Parted, Release, ReleaseEnd, SetMode, Settle, State, Step, Trace, Verifies, arith, creds_of, false≢true, inl, inr, length-replicate, lib_at-none_out, start, subst, sym, ℕ}
 use Rattle.trio_laws.proofs.Accepting.{accepted_kept}
 use Rattle.trio_laws.proofs.Allots.{allot_kept}
 use Rattle.trio_laws.proofs.Bundles.{closed_unparted, closed_all}

@@ -1,34 +1,10 @@
 -- An accepted image that is spread over home and the checkpoints is settled.
-use Rattle.std.proofs.Common.{◌≡◌, ℕ, ◌<◌, true, false, not, List, ◌++◌, length, Option, Some, None, slice_get, sym, refl, ap, ◌∙◌, subst, inl, inr, arith}
-use Rattle.std.specs.Prelude.{map}
-use Rattle.std.specs.Option.{option_map}
-use Rattle.std.proofs.lemmas.Bool.{cases_Bool, not_from_false}
-use Rattle.trio_layout.specs.Core.{Core}
-use Rattle.trio_lists.specs.Lists.{In}
-use Rattle.trio_layout.specs.Sound.{is_sound}
-use Rattle.trio_layout.specs.Survey.{Pick}
-use Rattle.trio_layout.specs.Accept.{is_accepted, next}
-use Rattle.trio_state.specs.Bundles.{grants_after, is_in_bundle, lent_part}
-use Rattle.trio_state.specs.Given.{GivenTo}
-use Rattle.trio_layout.specs.Image.{IsFit}
-use Rattle.trio_state.specs.Kept.{Kept}
-use Rattle.trio_rights.specs.Bundle.{Bundle, bundle_pages, bundle_sheets}
-use Rattle.trio_layout.specs.Proposed.{proposed, proposed_pick}
-use Rattle.trio_rights.specs.Sheets.{Sheet, sheet_numbers, with_pages}
-use Rattle.trio_state.specs.State.{OpenGrant, State, settled, creds_of}
-use Rattle.trio_laws.specs.EndLaws.{IsSpread, checkpoints_of, unless_absent}
+use Rattle.trio_laws.proofs.Words.{◌++◌, ◌<◌, ◌∙◌, ◌≡◌, Bundle, Core, GivenTo, In, In-filter, In-flat, In-map, IsFit, IsSpread, Kept, List, None, OpenGrant, Option, Pages, Pick, Sheet, Some, State, all_listed, among_cases, ap, arith, bodies_are, bundle_pages, bundle_sheets, cases_Bool, checkpoints_of, creds_of, false, flat_map-In, grants_after, inl, inr, is_accepted, is_in_bundle, is_sound, length, length-with_pages, lent_part, listed_no_root, map, map-In, next, not, not_from_false, option_map, page_there, pages_same, place_there, place_within, proposed, proposed_pick, put_on, refl, settled, sheet_numbers, slice_get, subst, sym, true, unless_absent, with_bodies-get, with_pages, with_pages_absent, with_pages_apart, with_pages_known, ℕ}
 use Rattle.trio_surveys.proofs.Accepted.{length-bodies}
 use Rattle.trio_laws.proofs.Accepting.{handed_back}
 use Rattle.trio_laws.proofs.Bundles.{in_numbers}
-use Rattle.trio_lists.proofs.Filters.{In-filter}
 use Rattle.trio_laws.proofs.Checkpoints.{checkpoint_from, checkpoint_settled}
 use Rattle.trio_laws.proofs.Ended.{blank_numbers}
-use Rattle.trio_lists.proofs.Members.{In-flat, In-map, flat_map-In, map-In}
-use Rattle.trio_surveys.proofs.PageSlots.{pages_same}
-use Rattle.trio_surveys.proofs.Picked.{all_listed, bodies_are, listed_no_root}
-use Rattle.trio_surveys.proofs.Putting.{put_on, with_bodies-get}
-use Rattle.trio_surveys.proofs.SheetLaws.{length-with_pages}
-use Rattle.trio_surveys.proofs.Sheets.{Pages, among_cases, page_there, place_there, place_within, with_pages_absent, with_pages_apart, with_pages_known}
 use Rattle.trio_laws.proofs.Survivors.{fit_now, sound_now}
 
 -- a place of which the image has the page is there, whether or not the page is absent

@@ -1,30 +1,9 @@
 -- Where the settled body of a live file stands.
-use Rattle.std.proofs.Common.{◌≡◌, ℕ, ◌<◌, List, ◌++◌, Ok, Some, slice_get, sym, refl, ap, ◌∙◌, subst, inl, inr, ◌⊎◌}
-use Rattle.trio_rights.specs.Row.{Row}
-use Rattle.trio_rights.specs.declared.kind.Kind.{Kind}
-use Rattle.trio_rights.specs.declared.kind.Kind.TheVariants.{Regular, Directory}
-use Rattle.trio_nodes.specs.declared.grant.GrantKind.TheVariants.{Write}
-use Rattle.trio_layout.specs.Core.{Core, page_of}
-use Rattle.trio_layout.specs.Entries.{Listed}
-use Rattle.trio_lists.specs.Lists.{In}
-use Rattle.trio_layout.specs.Survey.{Met, FileRead, plain, survey, children, file_of, pages_of}
-use Rattle.trio_layout.specs.Image.{row_at}
-use Rattle.trio_state.specs.Kept.{Kept}
-use Rattle.trio_rights.specs.Sheets.{Sheet, sheet_numbers}
-use Rattle.trio_state.specs.State.{OpenGrant, State, settled}
-use Rattle.trio_laws.specs.EndLaws.{checkpoints_of}
+use Rattle.trio_laws.proofs.Words.{◌++◌, ◌<◌, ◌∙◌, ◌≡◌, ◌⊎◌, Core, Directory, FileRead, In, In-flat, In-right, Kept, Kind, List, Listed, Met, Ok, Ok-one, OpenGrant, Regular, Row, Sheet, Some, State, Write, all_listed, among_cases, ap, checkpoints_of, child_from, child_placed, children, file_of, flat_map-In, inl, inr, map-In, one_met, page_of, page_there, pages_are, pages_of, plain, reads_from, refl, root_or_listed, row_at, settled, sheet_numbers, slice_get, subst, survey, sym, with_pages_apart, ℕ}
 use Rattle.trio_laws.proofs.Bundles.{in_numbers}
-use Rattle.trio_lists.proofs.Filters.{Ok-one}
 use Rattle.trio_laws.proofs.Checkpoints.{checkpoint_from, checkpoint_settled}
-use Rattle.trio_surveys.proofs.Images.{one_met, root_or_listed}
 use Rattle.trio_laws.proofs.Isolated.{regular_empty}
-use Rattle.trio_surveys.proofs.Local.{reads_from}
-use Rattle.trio_lists.proofs.Members.{In-flat, In-right, flat_map-In, map-In}
-use Rattle.trio_surveys.proofs.Owned.{pages_are}
-use Rattle.trio_surveys.proofs.Picked.{all_listed}
-use Rattle.trio_surveys.proofs.Sheets.{among_cases, page_there, with_pages_apart}
 use Rattle.trio_laws.proofs.StateFacts.{lent_file, live_met}
-use Rattle.trio_surveys.proofs.Tree.{child_from, child_placed}
 
 directory_or : (kind : Kind) → (kind ≡ Regular → ⊥) → kind ≡ Directory
 directory_or Directory h = refl

@@ -1,28 +1,5 @@
 -- What follows from `Kept` of open grants and pages.
-use Rattle.std.proofs.Common.{◌≡◌, ℕ, ◌<◌, Bool, true, false, ◌&&◌, ltb, leb, List, [], ◌∷◌, ◌++◌, Option, Some, None, slice_get, sym, ap, ◌∙◌, inl, inr, arith}
-use Rattle.std.specs.Prelude.{AllPairs}
-use Rattle.std.specs.List.{flat_map}
-use Rattle.std.proofs.lemmas.List.{map-append}
-use Rattle.std.proofs.lemmas.Bool.{and_parts, and_from, ltb-true, false≢true}
-use Rattle.trio_rights.specs.Row.{Row}
-use Rattle.trio_rights.specs.declared.kind.Kind.{Kind}
-use Rattle.trio_nodes.specs.declared.grant.GrantKind.{GrantKind}
-use Rattle.trio_nodes.specs.declared.grant.GrantKind.TheVariants.{Write}
-use Rattle.trio_layout.specs.Core.{Core, page_of}
-use Rattle.trio_lists.specs.Lists.{In}
-use Rattle.trio_layout.specs.Range.{is_core}
-use Rattle.trio_layout.specs.Survey.{Met, plain, survey, pages_of}
-use Rattle.trio_layout.specs.Image.{row_at}
-use Rattle.trio_state.specs.Kept.{Kept, MayBothStand, is_lent}
-use Rattle.trio_rights.specs.Sheets.{Sheet, sheet_numbers}
-use Rattle.trio_state.specs.State.{covered, OpenGrant, State, settled}
-use Rattle.trio_nodes.specs.GrantKinds.{is_write, is_read}
-use Rattle.trio_surveys.proofs.Cores.{listed_is_core}
-use Rattle.trio_surveys.proofs.Images.{TablesOf, MetAt, row_at_is, met_row, read_met, free_unlisted}
-use Rattle.trio_lists.proofs.Members.{In-left, flat_map-In, map-In, is_among-In, In-is_among}
-use Rattle.trio_surveys.proofs.Owned.{sound_parts, page_owner, pages_are}
-use Rattle.trio_surveys.proofs.Sheets.{with_pages_absent, place_there, page_from}
-use Rattle.trio_lists.proofs.Filters.{In-list_any, list_any-In, AllPairs-In}
+use Rattle.trio_laws.proofs.Words.{◌&&◌, ◌++◌, ◌<◌, ◌∙◌, ◌∷◌, ◌≡◌, AllPairs, AllPairs-In, Bool, Core, GrantKind, In, In-is_among, In-left, In-list_any, Kept, Kind, List, MayBothStand, Met, MetAt, None, OpenGrant, Option, Row, Sheet, Some, State, TablesOf, Write, [], and_from, and_parts, ap, arith, covered, false, false≢true, flat_map, flat_map-In, free_unlisted, inl, inr, is_among-In, is_core, is_lent, is_read, is_write, leb, list_any-In, listed_is_core, ltb, ltb-true, map-In, map-append, met_row, page_from, page_of, page_owner, pages_are, pages_of, place_there, plain, read_met, row_at, row_at_is, settled, sheet_numbers, slice_get, sound_parts, survey, sym, true, with_pages_absent, ℕ}
 
 pub write_is : (k : GrantKind) → is_write k ≡ true → k ≡ Write
 write_is k e = search (arith, false≢true)

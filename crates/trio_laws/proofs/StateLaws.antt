@@ -1,16 +1,5 @@
 -- The laws on runs, each from the lemmas that carry it.
-use Rattle.std.proofs.Common.{◌≡◌, ◌≢◌, ℕ, List, [], ◌∷◌, Option, Some, None, sym, ◌∙◌, subst, inl, inr, arith}
-use Rattle.trio_rights.specs.Row.{Row}
-use Rattle.trio_nodes.specs.declared.grant.GrantKind.{GrantKind}
-use Rattle.trio_nodes.specs.declared.answers.GrantFault.{GrantFault}
-use Rattle.trio_nodes.specs.declared.answers.ModeFault.{ModeFault}
-use Rattle.trio_lists.specs.Lists.{In}
-use Rattle.trio_state.specs.State.{State}
-use Rattle.trio_rights.specs.Bundle.{Bundle}
-use Rattle.trio_state.specs.Step.{Event, Release, CtlAnswer, NoMemory, Does, Step, granted_to, allot_outcome, moded_to}
-use Rattle.trio_state.specs.Kept.{Kept}
-use Rattle.trio_state.specs.Given.{GivenEvent}
-use Rattle.trio_state.specs.Run.{start, Move, Trace}
+use Rattle.trio_laws.proofs.Words.{◌∙◌, ◌∷◌, ◌≡◌, ◌≢◌, Bundle, CtlAnswer, Does, Event, GivenEvent, GrantFault, GrantKind, In, Kept, List, ModeFault, Move, NoMemory, None, Option, Release, Row, Some, State, Step, Trace, [], allot_outcome, arith, granted_to, inl, inr, moded_to, start, subst, sym, ℕ}
 use Rattle.trio_laws.specs.Laws.{AnyRun, EveryStateIsKept, EveryMoveIsAStep, EveryReleaseIsJudged, NeverStuck}
 use Rattle.trio_laws.proofs.Runs.{trace_kept, start_kept as first_kept}
 use Rattle.trio_laws.proofs.Possible.{call_possible}

@@ -1,36 +1,8 @@
 -- What an accepted bundle leaves of the files that it doesn't write or hold, and of what is out.
-use Rattle.std.proofs.Common.{◌≡◌, ℕ, ◌<◌, ◌≤◌, Bool, true, false, cond, ◌&&◌, ◌||◌, not, eqb, ◌++◌, Option, Some, None, sym, refl, ap, ◌∙◌, subst, inl, inr, ◌⊎◌, arith}
-use Rattle.std.specs.Prelude.{Ok, is_some, slice_index}
-use Rattle.std.specs.List.{list_all, find}
-use Rattle.std.specs.Str.{bytes_eq}
-use Rattle.std.proofs.lemmas.Bool.{and_parts, or_cases, false≢true, not-true, both_ways}
-use Rattle.std.proofs.lemmas.Slice.Eq.{bytes_eq-Decides}
-use Rattle.trio_rights.specs.Row.{Row}
-use Rattle.trio_rights.specs.declared.kind.Kind.{Kind}
-use Rattle.trio_rights.specs.declared.rights.Creds.{Creds}
-use Rattle.trio_layout.specs.Chain.{Chain}
-use Rattle.trio_layout.specs.declared.body.Body.{Body}
-use Rattle.trio_layout.specs.Body.{body_of}
-use Rattle.trio_surveys.proofs.Local.{reads_from}
-use Rattle.trio_layout.specs.Core.{Core}
-use Rattle.trio_lists.specs.Lists.{is_among, In}
-use Rattle.trio_layout.specs.Sound.{is_sound}
-use Rattle.trio_layout.specs.Survey.{Met, Pick, plain, FileRead, file_of, survey, pages_of, row_by, row_of}
-use Rattle.trio_layout.specs.Accept.{is_accepted}
-use Rattle.trio_layout.specs.Allowed.{same_row, keeps_rows, lists_own, has_owner, has_kind, may_stand, is_allowed}
-use Rattle.trio_state.specs.Given.{GivenTo}
-use Rattle.trio_layout.specs.Image.{IsFit, Image, settled_body, row_at}
-use Rattle.trio_state.specs.Kept.{Kept}
-use Rattle.trio_rights.specs.Bundle.{Written, Bundle, bundle_pages}
-use Rattle.trio_layout.specs.Proposed.{proposed, proposed_pick}
-use Rattle.trio_rights.specs.Sheets.{sheet_numbers}
-use Rattle.trio_state.specs.State.{State, settled}
-use Rattle.trio_surveys.proofs.Accepted.{fit_proposed}
+use Rattle.trio_laws.proofs.Words.{◌&&◌, ◌++◌, ◌<◌, ◌||◌, ◌∙◌, ◌≡◌, ◌≤◌, ◌⊎◌, Body, Bool, Bundle, Chain, Core, Creds, FileRead, GivenTo, Image, In, In-is_among, IsFit, Kept, Kind, Met, None, Option, Pick, Row, Some, State, Written, and_parts, ap, arith, body_of, both_ways, bundle_pages, bytes_eq, bytes_eq-Decides, cond, eqb, false, false≢true, file_of, find, fit_proposed, free_unlisted, has_kind, has_owner, inl, inr, is_accepted, is_allowed, is_among, is_among-In, is_some, is_sound, keeps_rows, list_all, list_all-In, lists_own, may_stand, met_numbered, met_row, not, not-true, one_met, or_cases, pages_are, pages_of, plain, proposed, proposed_pick, read_met, reads_from, refl, row_at, row_by, row_of, same_kind_is, same_row, settled, settled_body, settled_body_met, sheet_numbers, slice_index, some_of, subst, survey, sym, true, up_to_at, ℕ}
+use Rattle.std.specs.Prelude.{Ok}
 use Rattle.trio_laws.proofs.Bundles.{held_unwritten, Unwritten, finds_unwritten, written_lent, bundle_page, kept_chain, body_picked}
-use Rattle.trio_surveys.proofs.Alike.{up_to_at, same_kind_is, same_row_is}
-use Rattle.trio_surveys.proofs.Images.{some_of, met_row, read_met, met_numbered, one_met, free_unlisted, settled_body_met}
-use Rattle.trio_lists.proofs.Members.{list_all-In, is_among-In, In-is_among}
-use Rattle.trio_surveys.proofs.Owned.{pages_are}
+use Rattle.trio_surveys.proofs.Alike.{same_row_is}
 use Rattle.trio_laws.proofs.StateFacts.{tables, live_met, lent_met}
 
 -- the cases of what is asked of a file that is met

@@ -1,16 +1,6 @@
 -- What a refusal tells.
-use Rattle.std.proofs.Common.{false, ◌≡◌, ℕ, arith}
+use Rattle.trio_laws.proofs.Words.{◌≡◌, Bundle, Case, GivenTo, Kept, State, Tells, Why, arith, both_ways, case_in, creds_of, false, false_from_ne_true, is_accepted, meets_rules, parted_hold, settled, ℕ}
 use Rattle.std.specs.Prelude.{None, IsFalse}
-use Rattle.std.proofs.lemmas.Bool.{both_ways, false_from_ne_true}
-use Rattle.trio_layout.specs.Accept.{is_accepted}
-use Rattle.trio_layout.specs.Case.{Case}
-use Rattle.trio_layout.specs.Rules.{meets_rules}
-use Rattle.trio_rights.specs.Bundle.{Bundle}
-use Rattle.trio_state.specs.Bundles.{parted_hold}
-use Rattle.trio_state.specs.Given.{GivenTo}
-use Rattle.trio_state.specs.Kept.{Kept}
-use Rattle.trio_state.specs.State.{State, settled, creds_of}
-use Rattle.trio_state.specs.Tells.{Why, Tells, case_in}
 use Rattle.trio_laws.proofs.judgement.Breaking.{breaks_where_not_met}
 use Rattle.trio_laws.proofs.judgement.Equivalence.{rules_are_accept}
 

@@ -1,21 +1,7 @@
 -- Which blocks of written files no checkpoint covers.
-use Rattle.std.proofs.Common.{◌≡◌, List, ◌++◌, Some, sym, refl, ap, ◌∙◌, subst, inl, inr, ◌⊎◌, arith}
+use Rattle.trio_laws.proofs.Words.{◌++◌, ◌∙◌, ◌≡◌, ◌⊎◌, Bundle, Directory, GivenTo, In, In-cases, In-flat, In-left, In-right, Kept, Kind, List, Regular, Row, Sheet, Some, State, Written, ap, arith, bundle_sheets, flat_map, flat_map-In, flat_map-same, inl, inr, plain, refl, row_at, row_at_is, row_by, row_met, settled, subst, sym, uncovered}
 use Rattle.std.specs.Prelude.{ℕ}
-use Rattle.std.specs.List.{flat_map}
-use Rattle.trio_rights.specs.declared.kind.Kind.{Kind}
-use Rattle.trio_rights.specs.declared.kind.Kind.TheVariants.{Regular, Directory}
-use Rattle.trio_rights.specs.Row.{Row}
-use Rattle.trio_lists.specs.Lists.{In}
-use Rattle.trio_layout.specs.Survey.{plain, row_by}
-use Rattle.trio_state.specs.Bundles.{uncovered, uncovered_by, uncovered_of}
-use Rattle.trio_state.specs.Given.{GivenTo}
-use Rattle.trio_layout.specs.Image.{row_at}
-use Rattle.trio_state.specs.Kept.{Kept}
-use Rattle.trio_rights.specs.Bundle.{Written, Bundle, bundle_sheets}
-use Rattle.trio_rights.specs.Sheets.{Sheet}
-use Rattle.trio_state.specs.State.{State, settled}
-use Rattle.trio_surveys.proofs.Images.{row_at_is, row_met}
-use Rattle.trio_lists.proofs.Members.{In-cases, In-flat, In-left, In-right, flat_map-In, flat_map-same}
+use Rattle.trio_state.specs.Bundles.{uncovered_by, uncovered_of}
 use Rattle.trio_laws.proofs.StateFacts.{tables}
 
 uncovered_is : (kind : Kind) (blocks : List Sheet) (x : Sheet) → In x (uncovered_of kind blocks) → (kind ≡ Regular) × In x blocks

@@ -1,27 +1,6 @@
 -- The verdict on a bundle, and what a refusal leaves.
-use Rattle.std.proofs.Common.{◌≡◌, ℕ, true, false, List, ◌++◌, Option, Some, None, slice_get, sym, refl, ap, ◌∙◌, subst, inl, inr, arith}
-use Rattle.std.proofs.lemmas.Bool.{both_ways}
-use Rattle.std.proofs.lemmas.List.{map-append}
-use Rattle.trio_rights.specs.declared.kind.Kind.{Kind}
-use Rattle.trio_nodes.specs.declared.grant.GrantKind.TheVariants.{Write}
-use Rattle.trio_lists.specs.Lists.{In}
-use Rattle.trio_layout.specs.Core.{page_of}
-use Rattle.trio_layout.specs.Survey.{plain, FileRead, survey}
-use Rattle.trio_rights.specs.Sheets.{Sheet, sheet_numbers}
-use Rattle.trio_layout.specs.Image.{Image, settled_body}
-use Rattle.trio_state.specs.State.{State, settled, creds_of, covered}
-use Rattle.trio_rights.specs.Bundle.{Bundle}
-use Rattle.trio_layout.specs.Accept.{is_accepted, next}
-use Rattle.trio_state.specs.Bundles.{parted_hold, uncovered, refused_image, Ends}
-use Rattle.trio_state.specs.Tells.{Why, Tells}
-use Rattle.trio_state.specs.Step.{CtlAnswer, Accepted, Refused, NotClosed, NoMemory, Release, Step, ReleaseEnd, Parted, IsAccepted, IsRefused}
-use Rattle.trio_state.specs.Kept.{Kept}
-use Rattle.trio_state.specs.Given.{GivenTo}
-use Rattle.trio_surveys.specs.Reading.{pages_read}
+use Rattle.trio_laws.proofs.Words.{◌++◌, ◌∙◌, ◌≡◌, Accepted, Bundle, CtlAnswer, Ends, FileRead, GivenTo, Image, In, IsAccepted, IsRefused, Kept, Kind, List, NoMemory, None, NotClosed, Option, Parted, Refused, Release, ReleaseEnd, Sheet, Some, State, Step, Tells, Why, Write, ap, arith, both_ways, covered, creds_of, false, inl, inr, is_accepted, map-append, next, page_of, pages_read, parted_hold, plain, refl, refused_image, settled, settled_body, sheet_numbers, slice_get, sound_parts, subst, survey, survey_local, sym, true, uncovered, with_pages_apart, ℕ}
 use Rattle.trio_laws.specs.Laws.{IsVerdict, IsBack, RefusalKeeps}
-use Rattle.trio_surveys.proofs.Local.{survey_local}
-use Rattle.trio_surveys.proofs.Owned.{sound_parts}
-use Rattle.trio_surveys.proofs.Sheets.{with_pages_apart}
 use Rattle.trio_laws.proofs.Agreeing.{body_still}
 use Rattle.trio_laws.proofs.Bundles.{Closed, closed_unparted}
 use Rattle.trio_laws.proofs.Refusing.{agree, fit', pages}

@@ -1,39 +1,10 @@
 -- A write grant on a file without open grants keeps what holds of a state.
-use Rattle.std.proofs.Common.{◌≡◌, ℕ, Bool, true, ◌&&◌, eqb, List, [], ◌∷◌, ◌++◌, get_or, Option, Some, None, slice_get, sym, refl, ap, ◌∙◌, subst, inl, inr, ◌⊎◌, arith}
-use Rattle.std.specs.Prelude.{Ok, is_some}
-use Rattle.std.specs.List.{list_any, flat_map}
-use Rattle.std.proofs.lemmas.List.{map-append, append-nil}
-use Rattle.std.proofs.lemmas.List.Folds.{list_any-append}
-use Rattle.std.proofs.lemmas.List.Concat.{flat_map-append}
-use Rattle.std.proofs.lemmas.List.Quantifiers.{all_pairs_push}
-use Rattle.std.proofs.lemmas.Bool.{or_left}
-use Rattle.trio_rights.specs.Row.{Row}
-use Rattle.trio_rights.specs.declared.kind.Kind.{Kind}
-use Rattle.trio_rights.specs.declared.kind.Kind.TheVariants.{Regular, Directory}
-use Rattle.trio_nodes.specs.declared.grant.GrantKind.TheVariants.{Write, Hold}
-use Rattle.trio_layout.specs.Body.{body_of}
-use Rattle.trio_layout.specs.Chain.{chain_of}
-use Rattle.trio_layout.specs.Core.{Core, nowhere, page_of}
-use Rattle.trio_lists.specs.Lists.{there_or, result_then, is_among, are_new, In}
+use Rattle.trio_laws.proofs.Words.{◌&&◌, ◌++◌, ◌∙◌, ◌∷◌, ◌≡◌, ◌⊎◌, AgreeOn, Bool, Core, Directory, FileRead, Hold, HoldStands, In, In-cases, In-is_among, In-left, In-list_any, In-right, IsFit, Kept, Kind, LentIsListed, List, MayBothStand, Met, None, OpenGrant, Option, Pages, Regular, Row, Sheet, Some, State, Write, [], all_pairs_push, among_cases, ap, append-nil, are_new, arith, block_sheets, body_of, chain_of, covered, eqb, file_agrees, file_of, flat_map, flat_map-append, get_or, get_or-In, has_parent_grant, index_apart, inl, inr, is_among, is_some, is_write, length-with_pages, length-without, lent_pages, list_any, list_any-append, map-In, map-append, nowhere, opened, opens, or_left, page_of, page_owner, page_same, page_there, pages_are, pages_of, pages_read, place_there, place_within, plain, reads_from, refl, result_then, row_at, row_at_is, row_by, row_met, settled, settled_body, settled_body_met, settled_chain, sheet_numbers, sheets_all, sheets_in, sheets_of, slice_get, some_of, sound_parts, subst, survey, sym, there_or, true, with_other, with_pages, with_pages-append, with_pages_apart, with_pages_cong, with_pages_known, without_absent, without_apart, without_pages, without_there, ℕ}
+use Rattle.std.specs.Prelude.{Ok}
 use Rattle.trio_layout.specs.Sound.{listed_pages}
-use Rattle.trio_layout.specs.Survey.{Met, plain, FileRead, file_of, survey, pages_of, row_by}
-use Rattle.trio_state.specs.Grants.{has_parent_grant, opened, lent_pages, opens}
-use Rattle.trio_layout.specs.Pages.{sheets_of, settled_chain, index_sheets, block_sheets}
-use Rattle.trio_layout.specs.Image.{IsFit, settled_body, row_at}
-use Rattle.trio_state.specs.Kept.{Kept, LentIsListed, MayBothStand, HoldStands}
-use Rattle.trio_rights.specs.Sheets.{Sheet, sheet_numbers, with_pages, without_pages}
-use Rattle.trio_state.specs.State.{covered, OpenGrant, State, settled}
-use Rattle.trio_nodes.specs.GrantKinds.{is_write}
+use Rattle.trio_layout.specs.Pages.{index_sheets}
 use Rattle.trio_laws.proofs.Agreeing.{image_with, verifies_still, met_still, lent_still, body_still}
-use Rattle.trio_surveys.proofs.Images.{some_of, settled_body_met, row_at_is, row_met}
-use Rattle.trio_surveys.proofs.Local.{reads_from, file_agrees}
-use Rattle.trio_lists.proofs.Members.{In-left, In-right, In-cases, map-In, In-is_among}
-use Rattle.trio_surveys.proofs.Owned.{sound_parts, page_owner, pages_are, index_apart}
-use Rattle.trio_surveys.proofs.SheetLaws.{length-with_pages}
-use Rattle.trio_surveys.proofs.Sheets.{Pages, with_pages-append, with_pages_cong, with_pages_known, with_pages_apart, without_apart, without_there, without_absent, length-without, page_same, page_there, among_cases, place_there, place_within, sheets_in, sheets_all}
 use Rattle.trio_laws.proofs.StateFacts.{tables, pages_there, lent_file, checkpoint_lent}
-use Rattle.trio_lists.proofs.Filters.{In-list_any, get_or-In}
-use Rattle.trio_surveys.specs.Reading.{with_other, AgreeOn, pages_read}
 
 -- a page that is read is an index page or a block of a directory
 pub read_cases : (kind : Kind) (f : FileRead) (p : ℕ) → In p (pages_read kind f) → In p f.chain.index ⊎ (In p f.chain.blocks × (kind ≡ Directory))

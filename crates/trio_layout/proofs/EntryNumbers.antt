@@ -1,22 +1,10 @@
 -- The entries on directory pages: inode numbers of the image, and at most 16 a page.
-use Rattle.std.proofs.Common.{◌≡◌, ◌≤◌, ◌*◌, length, ℕ, suc, zero, ◌+◌, Bool, true, false, ◌&&◌, cond, eqb, ltb, leb, List, [], ◌∷◌, take, Option, Some, None, Result, Ok, Err, IfOk, sym, refl, ap, ◌∙◌, arith}
-use Rattle.std.specs.List.{list_all}
-use Rattle.std.specs.Str.{bytes_eq}
-use Rattle.std.proofs.lemmas.List.{length-append}
-use Rattle.std.proofs.lemmas.List.Folds.{list_all-append}
-use Rattle.std.proofs.lemmas.Bool.{and_parts, and_from}
-use Rattle.std.proofs.lemmas.Bool.Decides.{nat_tests}
-use Rattle.trio_names.specs.Name.{is_name}
-use Rattle.trio_rights.specs.declared.kind.Kind.{Kind}
-use Rattle.trio_rights.specs.declared.kind.Kind.TheVariants.{Regular, Directory}
-use Rattle.trio_layout.specs.declared.slot.EntryPart.{EntryPart}
-use Rattle.trio_layout.specs.declared.slot.SlotRead.{SlotRead}
-use Rattle.trio_layout.specs.declared.slot.SlotRead.TheVariants.{Empty, Entry, Bad}
-use Rattle.trio_layout.specs.Slot.{slot_of, entry_at, entry_bytes, entry_fits}
-use Rattle.trio_lists.specs.Lists.{result_map, result_then, both, gathered, gathered_below}
-use Rattle.trio_layout.specs.Core.{Core, Location, page_of}
-use Rattle.trio_layout.specs.Entries.{Listed, body_in_slot, slot_bytes, listed_at, slot_entries, entries_on, unless_repeated, repeated_name, with_names_apart}
-use Rattle.trio_layout.specs.Within.{entries_where, entries_within}
+use Rattle.trio_layout.proofs.Words.{◌&&◌, ◌*◌, ◌+◌, ◌∙◌, ◌∷◌, ◌≡◌, ◌≤◌, Bad, Bool, Core, Directory, Empty, Entry, EntryPart, Kind, List, Listed, Location, None, Ok, Option, Regular, Result, SlotRead, Some, [], and_from, and_parts, ap, arith, bytes_eq, cond, entries_within, entry_at, entry_fits, eqb, false, is_name, length, length-append, list_all, list_all-append, nat_tests, page_of, refl, result_map, result_then, suc, sym, take, true, zero, ℕ}
+use Rattle.std.proofs.Common.{ltb, leb, Err, IfOk}
+use Rattle.trio_layout.specs.Slot.{slot_of, entry_bytes}
+use Rattle.trio_lists.specs.Lists.{both, gathered, gathered_below}
+use Rattle.trio_layout.specs.Entries.{body_in_slot, slot_bytes, listed_at, slot_entries, entries_on, unless_repeated, repeated_name, with_names_apart}
+use Rattle.trio_layout.specs.Within.{entries_where}
 
 -- what holds of each answer of the steps
 pub if_ok_then : {X Y E : Type 0} (r : Result X E) (g : X → Result Y E) (P : Y → Type 0) → ((x : X) → r ≡ Ok x → IfOk (g x) P) → IfOk (result_then g r) P

@@ -1,20 +1,15 @@
 -- Index pages: the numbers that stand in bytes, against their spelling.
-use Rattle.std.proofs.Common.{◌≡◌, ℕ, zero, suc, ◌+◌, ◌-◌, ◌*◌, ◌^◌, ◌<◌, ◌≤◌, Bool, true, false, ◌&&◌, ◌==◌, nat_lt, nat_le, IsTrue, IfSome, Option, Some, None, List, [], ◌∷◌, ◌++◌, length, get_or, take, drop, refl, sym, ap, ◌∙◌, inl, inr, append_assoc, eq-eqb, arith}
-use Rattle.std.specs.Int.{w64, to_le_bytes, from_le_bytes}
-use Rattle.std.specs.List.{list_all, flat_map}
-use Rattle.std.specs.Str.{bytes_eq}
-use Rattle.std.proofs.lemmas.Bool.{and_parts, and_from, ltb-true, lt-ltb, eqb-true, cases_lt}
+use Rattle.trio_layout.proofs.Words.{◌&&◌, ◌*◌, ◌++◌, ◌+◌, ◌-◌, ◌<◌, ◌==◌, ◌^◌, ◌∙◌, ◌∷◌, ◌≡◌, ◌≤◌, Bool, CoreRange, IfSome, Index, IsBytes, IsIndexPage, IsTrue, List, None, Option, Some, [], and_from, and_parts, ap, append-nil, append_assoc, arith, bytes_eq, cases_lt, drop, eqb-true, false, flat_map, get_or, get_or_append_left, index_at, index_fits, inl, inr, is_core, length, length-append, length-drop, length-zeros, link_fits, list_all, list_all-append, lt-ltb, ltb-true, nat_le, nat_lt, nil_from_length, number_at-lt, number_here, number_is, numbers_in, refl, suc, sym, take, take-append-drop, to_le_bytes, true, w64, wide64, zero, ℕ}
+use Rattle.std.proofs.Common.{eq-eqb}
+use Rattle.std.specs.Int.{from_le_bytes}
 use Rattle.std.proofs.lemmas.Grind.{same_number_lists}
-use Rattle.std.proofs.lemmas.List.{get_or-append_right, get_or_default, take_at, drop_at, take-append-drop, append-nil, length-append, length-take, length-drop, get_or-replicate, get_or_append_left, drop-drop, nil_from_length}
+use Rattle.std.proofs.lemmas.List.{get_or-append_right, get_or_default, take_at, drop_at, length-take, get_or-replicate, drop-drop}
 use Rattle.std.proofs.lemmas.List.Sums.{AllPass-from_list_all, list_all-from_AllPass}
-use Rattle.std.proofs.lemmas.List.Folds.{list_all-append}
 use Rattle.std.proofs.Math.Seq.{take-add}
 use Rattle.trio_page.specs.Field.{number_at, zeros}
 use Rattle.trio_page.proofs.Fields.{length-to_le_bytes}
-use Rattle.trio_page.proofs.Cursor.{IsBytes, IsBytes-take, IsBytes-drop, wide64, number_here, number_is, number_at-lt, length-zeros}
-use Rattle.trio_layout.specs.declared.range.CoreRange.{CoreRange}
-use Rattle.trio_layout.specs.Range.{is_core}
-use Rattle.trio_layout.specs.Index.{Index, index_at, index_bytes, index_fits, index_of, link_fits, numbers_in, IsIndexPage}
+use Rattle.trio_page.proofs.Cursor.{IsBytes-take, IsBytes-drop}
+use Rattle.trio_layout.specs.Index.{index_bytes, index_of}
 use Rattle.trio_layout.specs.inner.Fields.{AreNumbers, AreNarrow}
 use Rattle.trio_layout.proofs.Reading.{reading, bytes_eq-true, true-bytes_eq}
 

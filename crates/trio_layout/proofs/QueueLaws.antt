@@ -1,13 +1,9 @@
 -- A walk with a queue meets what a walk by levels meets.
-use Rattle.std.proofs.Common.{◌≡◌, ℕ, suc, zero, ◌+◌, ◌-◌, ◌<◌, ◌≤◌, Bool, true, false, cond, List, [], ◌∷◌, ◌++◌, length, get_or, take, drop, sym, refl, ap, ◌∙◌, inl, inr, ◌⊎◌, arith, append_assoc, length-append, not, ◌||◌, eqb}
-use Rattle.std.specs.List.{flat_map}
-use Rattle.std.proofs.lemmas.List.{append-nil, map-append, length-drop, take-append-drop, get_or_append_left}
-use Rattle.std.proofs.lemmas.Bool.{cases_lt, and_from, cases_eq, or_left}
-use Rattle.trio_layout.specs.Survey.{Met, Front, descend, levels, first_listed, numbers}
-use Rattle.trio_lists.specs.Lists.{is_among, are_new}
-use Rattle.trio_lists.proofs.Marked.{are_new-append, is_among-append}
-use Rattle.trio_layout.specs.Queue.{pass_on, pass, queue}
-use Rattle.std.proofs.lemmas.Bool.Decides.{nat_tests}
+use Rattle.trio_layout.proofs.Words.{◌++◌, ◌+◌, ◌-◌, ◌<◌, ◌||◌, ◌∙◌, ◌∷◌, ◌≡◌, ◌≤◌, ◌⊎◌, Bool, Front, List, Met, [], and_from, ap, append-nil, append_assoc, are_new, are_new-append, arith, cases_eq, cases_lt, cond, descend, drop, eqb, false, first_listed, flat_map, get_or, get_or_append_left, inl, inr, is_among, length, length-drop, levels, map-append, nat_tests, not, numbers, pass, pass_on, refl, suc, sym, take, take-append-drop, true, zero, ℕ}
+use Rattle.std.proofs.Common.{length-append}
+use Rattle.std.proofs.lemmas.Bool.{or_left}
+use Rattle.trio_lists.proofs.Marked.{is_among-append}
+use Rattle.trio_layout.specs.Queue.{queue}
 
 abbrev pub pass_many : (Met → List Met) → ℕ → Front → Front
 pass_many kids zero f = f

@@ -1,7 +1,5 @@
 -- Reading as the inverse of a spelling: what a reader answers, against the value that the definitions compute.
-use Rattle.std.proofs.Common.{◌≡◌, Bool, true, false, ◌&&◌, ℕ, IfSome, List, Option, Some, None, cond, refl}
-use Rattle.std.specs.Str.{bytes_eq}
-use Rattle.std.proofs.lemmas.Bool.{false≢true}
+use Rattle.trio_layout.proofs.Words.{◌&&◌, ◌≡◌, Bool, IfSome, List, None, Option, Some, bytes_eq, cond, false, false≢true, refl, true, ℕ}
 use Rattle.std.proofs.lemmas.Slice.Eq.{bytes_eq-Decides}
 
 pub bytes_eq-true : (xs ys : List ℕ) → bytes_eq xs ys ≡ true → xs ≡ ys

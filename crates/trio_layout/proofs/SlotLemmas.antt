@@ -1,22 +1,12 @@
 -- Entries that are spelled are read, and what is read is spelled so.
-use Rattle.std.proofs.Common.{◌≡◌, ◌≢◌, Bool, true, false, ◌&&◌, ◌==◌, nat_lt, nat_le, cond, ℕ, ◌<◌, ◌+◌, ◌-◌, ◌^◌, ◌≤◌, List, [], ◌∷◌, ◌++◌, length, get_or, take, drop, refl, sym, ap, subst, ◌∙◌, append_assoc, arith}
-use Rattle.std.specs.Prelude.{slice_range}
-use Rattle.std.proofs.lemmas.List.{take-append-drop, append_cancel_right}
-use Rattle.std.specs.Int.{w16, w32, to_le_bytes}
-use Rattle.trio_page.specs.Field.{number_at, with_number, with_part, zeros}
-use Rattle.trio_page.proofs.Fields.{length-slice}
-use Rattle.trio_page.proofs.Cursor.{IsBytes, wide16, wide32, number_here, number_known, number_at-lt, follow, byte_known, part_here, Stands, byte_is, after_part, after_number, part_is, number_is, no_front, put_number, put_part, whole_front, length-zeros}
-use Rattle.trio_names.specs.Name.{IsName, is_name}
-use Rattle.trio_rights.specs.declared.kind.Kind.{Kind}
-use Rattle.trio_rights.specs.declared.kind.Kind.TheVariants.{Regular, Directory}
-use Rattle.trio_layout.specs.declared.slot.EntryPart.{EntryPart}
+use Rattle.trio_layout.proofs.Words.{◌&&◌, ◌++◌, ◌+◌, ◌-◌, ◌<◌, ◌==◌, ◌^◌, ◌∙◌, ◌∷◌, ◌≡◌, ◌≤◌, Bad, Bool, Directory, Empty, Entry, EntryPart, IsBytes, IsEntry, IsName, Kind, List, Regular, SlotRead, Stands, [], after_number, after_part, and_from, and_parts, ap, append_assoc, arith, bytes_eq, cond, drop, entry_at, entry_fits, eqb-true, false, false≢true, follow, get_or, is_name, leb-true, length, length-slice, length-zeros, lt-ltb, ltb-true, nat_le, nat_lt, ne_eqb, no_front, number_at, number_at-lt, number_here, number_is, number_known, part_here, part_is, put_number, put_part, refl, slice_range, subst, sym, take, take-append-drop, to_le_bytes, true, w16, w32, whole_front, wide16, wide32, with_number, with_part, zeros, ℕ}
+use Rattle.std.proofs.Common.{◌≢◌}
+use Rattle.std.proofs.lemmas.List.{append_cancel_right}
+use Rattle.trio_page.proofs.Cursor.{byte_known, byte_is}
 use Rattle.trio_names.proofs.NameFacts.{name_facts}
 use Rattle.trio_rights.specs.Kind.{kind_byte, kind_from}
-use Rattle.std.specs.Str.{bytes_eq}
-use Rattle.std.proofs.lemmas.Bool.{false≢true, and_parts, and_from, leb-true, ltb-true, lt-ltb, le-leb, eqb-true, ne_eqb}
-use Rattle.trio_layout.specs.declared.slot.SlotRead.{SlotRead}
-use Rattle.trio_layout.specs.declared.slot.SlotRead.TheVariants.{Empty, Entry, Bad}
-use Rattle.trio_layout.specs.Slot.{entry_at, entry_bytes, entry_fits, slot_of, IsEntry}
+use Rattle.std.proofs.lemmas.Bool.{le-leb}
+use Rattle.trio_layout.specs.Slot.{entry_bytes, slot_of}
 use Rattle.trio_layout.specs.inner.Fields.{HasSlotZeros}
 use Rattle.trio_layout.proofs.Reading.{bytes_eq-true, true-bytes_eq}
 

@@ -1,16 +1,12 @@
 -- Walks from several files on, level by level: each file is met once, and no file is missed.
-use Rattle.std.proofs.Common.{Bool, List, [], ap, append_assoc, arith, cond, eqb, false, inl, inr, length, not, refl, subst, suc, sym, true, zero, ℕ, ◌++◌, ◌+◌, ◌-◌, ◌<◌, ◌||◌, ◌∙◌, ◌∷◌, ◌≡◌, ◌≤◌, ◌⊎◌}
-use Rattle.std.proofs.lemmas.Bool.{and_from, and_parts, cases_eq, cases_lt, eq-eqb, ne_eqb, not-true, or_right}
-use Rattle.std.proofs.lemmas.List.{append-nil, length-append, length-map, map-append, nil_from_length}
+use Rattle.trio_layout.proofs.Words.{◌++◌, ◌+◌, ◌-◌, ◌<◌, ◌||◌, ◌∙◌, ◌∷◌, ◌≡◌, ◌≤◌, ◌⊎◌, Bool, Front, In, In-cases, In-left, In-right, List, Met, [], and_from, and_parts, ap, append-nil, append_assoc, are_new, are_new-append, arith, cases_eq, cases_lt, cond, descend, eqb, false, first_listed, flat_map, inl, inr, is_among, length, length-append, levels, map-append, ne_eqb, nil_from_length, not, numbers, pass, pass_on, refl, subst, suc, sym, true, zero, ℕ}
+use Rattle.std.proofs.lemmas.Bool.{eq-eqb, not-true, or_right}
+use Rattle.std.proofs.lemmas.List.{length-map}
 use Rattle.std.proofs.lemmas.List.Concat.{flat_map-append}
-use Rattle.std.specs.List.{flat_map}
-use Rattle.trio_lists.proofs.Members.{In-cases, In-left, In-right, flat_map-In, map-In}
-use Rattle.trio_lists.specs.Lists.{In, are_new, is_among}
-use Rattle.trio_lists.proofs.Marked.{are_new-append, is_among-push}
+use Rattle.trio_lists.proofs.Members.{flat_map-In, map-In}
+use Rattle.trio_lists.proofs.Marked.{is_among-push}
 use Rattle.trio_layout.proofs.QueueLaws.{descend_is, met_by, new-first_listed, pass_many}
 use Rattle.trio_layout.specs.JudgedFiles.{fronts}
-use Rattle.trio_layout.specs.Queue.{pass, pass_on}
-use Rattle.trio_layout.specs.Survey.{Front, Met, descend, first_listed, levels, numbers}
 
 -- how many numbers below n are not among these
 abbrev left_of : ℕ → List ℕ → ℕ

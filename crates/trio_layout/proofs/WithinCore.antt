@@ -1,23 +1,16 @@
 -- A file that is read as far as its pages are there, by its parts; the pages that it lists are core pages.
-use Rattle.std.proofs.Common.{Bool, List, None, Ok, Option, Result, Some, [], ap, arith, cond, eqb, inl, inr, length, min, subst, suc, sym, true, zero, ℕ, ◌&&◌, ◌++◌, ◌-◌, ◌∙◌, ◌∷◌, ◌≡◌, ◌⊎◌}
-use Rattle.std.proofs.lemmas.Bool.{and_parts, cases_eq, ne_eqb}
+use Rattle.trio_layout.proofs.Words.{◌&&◌, ◌++◌, ◌-◌, ◌∙◌, ◌∷◌, ◌≡◌, ◌⊎◌, Body, Bool, Core, CoreRange, In, In-cases, In-left, In-right, Index, Kind, List, Listed, Location, Met, None, Ok, Option, Result, Some, [], and_parts, ap, arith, block_count, body_at, body_fits, bytes_eq, cases_eq, cond, core_count, entries_within, eqb, head_fits, index_at, index_fits, inl, inr, is_core, length, link_fits, list_all, ne_eqb, page_of, result_map, result_then, size_fits, subst, suc, sym, true, zero, ℕ}
+use Rattle.std.proofs.Common.{min}
 use Rattle.std.proofs.lemmas.Option.{cond_some}
-use Rattle.std.specs.List.{list_all}
 use Rattle.std.specs.Prelude.{nat_le}
-use Rattle.std.specs.Str.{bytes_eq}
-use Rattle.trio_rights.specs.declared.kind.Kind.{Kind}
-use Rattle.trio_lists.proofs.Members.{In-cases, In-left, In-right, list_all-In, result_map-Ok, result_then-Ok, there_or-Ok}
-use Rattle.trio_lists.specs.Lists.{In, result_map, result_then, there_or}
-use Rattle.trio_layout.specs.Body.{block_count, body_at, body_bytes, body_fits, body_of, head_fits, size_fits}
+use Rattle.trio_lists.proofs.Members.{list_all-In, result_map-Ok, result_then-Ok, there_or-Ok}
+use Rattle.trio_lists.specs.Lists.{there_or}
+use Rattle.trio_layout.specs.Body.{body_bytes, body_of}
 use Rattle.trio_layout.specs.Chain.{Chain, index_count, with_index}
-use Rattle.trio_layout.specs.Core.{Core, Location, at_page, nowhere, page_of}
-use Rattle.trio_layout.specs.Entries.{Listed}
-use Rattle.trio_layout.specs.Index.{Index, index_at, index_bytes, index_fits, index_of, link_fits}
-use Rattle.trio_layout.specs.Range.{core_count, is_core}
-use Rattle.trio_layout.specs.Survey.{FileRead, Met}
-use Rattle.trio_layout.specs.Within.{chain_within, entries_within, file_with_within, file_within, index_within}
-use Rattle.trio_layout.specs.declared.body.Body.{Body}
-use Rattle.trio_layout.specs.declared.range.CoreRange.{CoreRange}
+use Rattle.trio_layout.specs.Core.{at_page, nowhere}
+use Rattle.trio_layout.specs.Index.{index_bytes, index_of}
+use Rattle.trio_layout.specs.Survey.{FileRead}
+use Rattle.trio_layout.specs.Within.{chain_within, file_with_within, file_within, index_within}
 
 -- a file that is read within what is there, by its parts
 pub record ReadsWithin (core : Core) (m : Met) (f : FileRead) : Type 0 where

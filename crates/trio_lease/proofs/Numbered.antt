@@ -1,6 +1,7 @@
 -- Things by their numbers.
-use Rattle.std.proofs.Common.{Bor, ◌≡◌, ℕ, eqb, List, [], ◌∷◌, Option, Some, None, refl, inl, inr}
-use Rattle.std.specs.Prelude.{map, is_some}
+use Rattle.trio_lease.proofs.Words.{◌∷◌, ◌≡◌, List, None, Option, Some, [], inl, inr, is_some, refl, ℕ}
+use Rattle.std.proofs.Common.{Bor, eqb}
+use Rattle.std.specs.Prelude.{map}
 use Rattle.std.specs.List.{find}
 use Rattle.std.specs.Option.{option_copied}
 use Rattle.std.proofs.lemmas.Bool.{cases_Bool}

@@ -1,15 +1,12 @@
 -- A bundle with other bytes in one of its pages: all else that it has is the same.
-use Rattle.std.proofs.Common.{◌≡◌, ℕ, zero, suc, List, [], ◌∷◌, map, Option, None, Some, true, refl, ap, ◌∙◌}
-use Rattle.std.specs.Prelude.{slice_get, slice_set}
+use Rattle.trio_lease.proofs.Words.{◌∙◌, ◌∷◌, ◌≡◌, LentFile, LentPage, List, None, Option, PageNo, Some, [], ap, lent_at, map, refl, slice_get, slice_set, suc, true, with_touched, zero, ℕ}
 use Rattle.std.specs.Option.{option_map_or}
-use Rattle.trio_page.specs.declared.page.PageNo.{PageNo}
 use Rattle.trio_lease.specs.Bundles.{Bundled}
 use Rattle.trio_lease.specs.Places.{changed_at, place_in, with_block, with_bytes, with_bytes_at, with_index}
-use Rattle.trio_lease.specs.Shown.{LentFile, lent_at, with_page, with_touched}
+use Rattle.trio_lease.specs.Shown.{with_page}
 use Rattle.trio_lease.specs.declared.bundle.PagePlace.{PagePlace}
 use Rattle.trio_lease.specs.declared.bundle.PagePlace.TheVariants.{Index, Block, Fresh}
 use Rattle.trio_lease.specs.declared.parts.FreshParts.{FreshParts}
-use Rattle.trio_lease.specs.declared.parts.LentPage.{LentPage}
 
 -- ---- an element changed in what isn't asked for
 

@@ -1,13 +1,10 @@
 -- The places of pages, and what stands there.
-use Rattle.std.proofs.Common.{◌≡◌, ℕ, ◌<◌, ◌≤◌, false, List, [], drop, length, Some, None, sym, ap, ◌∙◌}
+use Rattle.trio_lease.proofs.Words.{◌<◌, ◌∙◌, ◌≡◌, ◌≤◌, LentFile, LentPage, List, None, PageNo, Some, [], ap, drop, length, lent_at, place_in_files, slice_get, slice_set, sym, ℕ}
+use Rattle.std.proofs.Common.{false}
 use Rattle.std.proofs.lemmas.List.{at_drop_all, set-get_or}
 use Rattle.std.proofs.lemmas.Option.{slice_get-get_or, slice_get_past, get_or_from_slice_get}
-use Rattle.std.specs.Prelude.{slice_get, slice_set}
 use Rattle.std.specs.Option.{option_map}
-use Rattle.trio_page.specs.declared.page.PageNo.{PageNo}
-use Rattle.trio_lease.specs.declared.parts.LentPage.{LentPage}
-use Rattle.trio_lease.specs.Shown.{LentFile, page_at, lent_at}
-use Rattle.trio_lease.specs.Places.{place_in_files}
+use Rattle.trio_lease.specs.Shown.{page_at}
 
 -- no lease is left
 pub place_end : (fs : List LentFile) (i : ℕ) (number : PageNo) → length fs ≤ i → place_in_files i (drop i fs) number ≡ None

@@ -1,11 +1,8 @@
 -- Blocks that aren't marked as touched are as they were lent.
-use Rattle.std.proofs.Common.{◌≡◌, ◌⊎◌, ℕ, zero, suc, ◌+◌, ◌<◌, ◌≤◌, true, List, [], ◌∷◌, length, map, take, sym, ap, ◌∙◌, subst, inl, inr}
+use Rattle.trio_lease.proofs.Words.{◌<◌, ◌∙◌, ◌∷◌, ◌≡◌, ◌≤◌, In, LentPage, List, [], ap, as_touched, inl, inr, length, lent_at, map, slice_index_or, slice_set, subst, suc, sym, take, true, with_touched, zero, ℕ}
+use Rattle.std.proofs.Common.{◌⊎◌, ◌+◌}
 use Rattle.std.proofs.lemmas.List.{take_more, take_all}
-use Rattle.std.specs.Prelude.{slice_index_or, slice_set}
-use Rattle.trio_lists.specs.Lists.{In}
 use Rattle.trio_lists.proofs.Members.{In-cases}
-use Rattle.trio_lease.specs.declared.parts.LentPage.{LentPage}
-use Rattle.trio_lease.specs.Shown.{as_touched, lent_at, with_touched}
 
 -- what stands in a list with one page put in stood in it before, or is that page
 in_set : (pages : List LentPage) (i : ℕ) (q p : LentPage) → In p (slice_set pages i q) → (p ≡ q) ⊎ In p pages

@@ -1,20 +1,9 @@
 -- The ways that a call can go, and what a walk that comes to its end has found.
-use Rattle.std.proofs.Common.{◌≡◌, ℕ, zero, suc, ◌-◌, Bool, true, false, cond, not, List, [], ◌∷◌, ◌++◌, length, take, Option, Some, None, is_some, Result, Ok, Err, refl, sym, ap, ◌∙◌, arith}
+use Rattle.trio_onetree.proofs.Words.{◌++◌, ◌∙◌, ◌∷◌, ◌≡◌, Applied, Bool, Creds, Denied, Directory, Err, IsDirectory, Kind, List, Need, Node, Nodes, None, NotDir, NotFound, Ok, Option, Path, Regular, Reply, Result, Some, [], ap, arith, cond, dir_of, enter, false, false≢true, find_named, found_from, in_directory, is_directory, is_done, is_root, is_some, lacks, length, listed_in, name_of, need_at, node_at, not, of_node, ok_or, path_found, reached, refl, refused, suc, sym, take, then_found, true, walk, walk_from, walk_into, zero, ℕ}
+use Rattle.std.proofs.Common.{◌-◌}
 use Rattle.std.specs.Prelude.{slice_index_or}
-use Rattle.std.specs.Option.{ok_or}
-use Rattle.std.proofs.lemmas.Bool.{false≢true}
-use Rattle.trio_rights.specs.declared.kind.Kind.{Kind}
-use Rattle.trio_rights.specs.declared.kind.Kind.TheVariants.{Regular, Directory}
-use Rattle.trio_rights.specs.declared.rights.Creds.{Creds}
-use Rattle.trio_rights.specs.declared.rights.Need.{Need}
-use Rattle.trio_nodes.specs.declared.node.Node.{Node}
-use Rattle.trio_nodes.specs.declared.call.Reply.{Reply}
-use Rattle.trio_nodes.specs.declared.call.Reply.TheVariants.{NotFound, NotDir, Denied}
-use Rattle.trio_nodes.specs.Nodes.{Nodes, node_at, find_named}
-use Rattle.trio_nodes.specs.Walk.{Path, is_root, dir_of, name_of, is_directory, lacks, enter_node, enter, and_then, need_at, walk_from, walk, walk_into}
-use Rattle.trio_nodes.specs.Found.{found_from, path_found, then_found}
-use Rattle.trio_nodes.specs.Apply.{Applied, refused, reached, of_node, at_file, in_directory, listed_in, is_done}
-use Rattle.trio_nodes.specs.Tree.{IsDirectory}
+use Rattle.trio_nodes.specs.Walk.{enter_node, and_then}
+use Rattle.trio_nodes.specs.Apply.{at_file}
 
 -- ---- a path with its last name
 

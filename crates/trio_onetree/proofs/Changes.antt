@@ -1,23 +1,8 @@
 -- Which nodes a call changes.
-use Rattle.std.proofs.Common.{◌≡◌, ℕ, ◌+◌, ltb, Bool, true, false, cond, not, ◌||◌, eqb, List, [], ◌∷◌, length, take, drop, Option, Some, None, is_some, refl, sym, ap, ◌∙◌, subst, inl, inr}
-use Rattle.std.proofs.lemmas.Bool.{both_ways}
-use Rattle.trio_rights.specs.declared.kind.Kind.{Kind}
-use Rattle.trio_rights.specs.declared.kind.Kind.TheVariants.{Regular, Directory}
-use Rattle.trio_rights.specs.declared.rights.Creds.{Creds}
-use Rattle.trio_rights.specs.declared.rights.Mode.{Mode}
-use Rattle.trio_rights.specs.declared.rights.Need.TheVariants.{Read as ToRead, Write as ToWrite}
-use Rattle.trio_nodes.specs.declared.node.Node.{Node}
-use Rattle.trio_nodes.specs.declared.call.Answer.{Answer}
-use Rattle.trio_nodes.specs.declared.call.Answer.TheVariants.{Done as IsDone, Count, Bytes, Names as AreNames, Stat as IsStat}
-use Rattle.trio_nodes.specs.declared.call.Call.{Call}
-use Rattle.trio_nodes.specs.declared.call.Call.TheVariants.{Mkdir, Create, Write, Read, Truncate, Unlink, Rmdir, Rename, List as ListNames, Stat, Chmod}
-use Rattle.trio_nodes.specs.declared.call.Reply.{Reply}
-use Rattle.trio_nodes.specs.declared.call.Reply.TheVariants.{Ok as Replied, NotFound, Exists, NotDir, IsDir, NotEmpty, Denied, IntoItself, NoSpace, NoInodes, TooLarge}
-use Rattle.trio_nodes.specs.Nodes.{Nodes, node_at, with_node, find_named, count_in, names_in}
-use Rattle.trio_nodes.specs.Walk.{Path, is_root, dir_of, name_of, is_above, is_directory, lacks}
-use Rattle.trio_nodes.specs.Found.{found_from, path_found}
-use Rattle.trio_nodes.specs.Apply.{Applied, refused, done, in_directory, listed_in, largest_size, resized, put_at, new_node, make, write, read, truncate, unlink, rmdir, rename, list, size_of, stat, chmod, applied, LacksRoom, is_done}
-use Rattle.trio_onetree.specs.CallLaws.{only_looks, changed_number, changed_node, made_node, rewritten, moved, ChangesJust, CallChangesOne}
+use Rattle.trio_onetree.proofs.Words.{◌+◌, ◌||◌, ◌∙◌, ◌∷◌, ◌≡◌, Answer, Applied, AreNames, Bool, Bytes, Call, Chmod, Count, Create, Creds, Denied, Directory, Exists, IntoItself, IsDir, IsDone, IsStat, Kind, List, ListNames, Mkdir, Mode, Node, Nodes, None, NotDir, NotEmpty, NotFound, Option, Path, Read, Regular, Rename, Replied, Reply, Rmdir, Some, Stat, ToRead, ToWrite, TooLarge, Truncate, Unlink, Write, [], ap, applied, both_ways, changed_node, changed_number, chmod, cond, count_in, dir_of, done, drop, eqb, false, find_named, found_from, in_directory, inl, inr, is_above, is_directory, is_done, is_root, is_some, lacks, largest_size, length, list, listed_in, ltb, make, name_of, names_in, new_node, node_at, not, only_looks, path_found, put_at, read, refl, refused, rename, resized, rmdir, size_of, stat, subst, sym, take, true, truncate, unlink, with_node, write, ℕ}
+use Rattle.trio_nodes.specs.declared.call.Reply.TheVariants.{NoSpace, NoInodes}
+use Rattle.trio_nodes.specs.Apply.{LacksRoom}
+use Rattle.trio_onetree.specs.CallLaws.{made_node, rewritten, moved, ChangesJust, CallChangesOne}
 use Rattle.trio_nodes.specs.After.{moded_node}
 use Rattle.trio_onetree.proofs.Children.{found-more, found-one}
 use Rattle.trio_onetree.proofs.CallCases.{Entered, dir_and_name, walk_found, on_if, on_file_at, on_directory, on_listed}

@@ -1,16 +1,10 @@
 -- The files that a directory lists, and the paths that lead to them.
-use Rattle.std.proofs.Common.{◌≡◌, ℕ, zero, suc, ◌+◌, ◌<◌, eqb, Bool, true, false, cond, List, [], ◌∷◌, ◌++◌, Option, Some, None, is_some, refl, sym, ap, ◌∙◌, subst, arith}
+use Rattle.trio_onetree.proofs.Words.{◌++◌, ◌+◌, ◌<◌, ◌∙◌, ◌∷◌, ◌≡◌, Bool, IsTree, List, Node, Nodes, None, Option, Path, Some, [], ap, arith, both_ways, bytes_eq, bytes_eq-Decides, cond, count_in, eqb, false, false≢true, find_named, found_from, is_some, node_at, path_found, refl, subst, suc, sym, then_found, true, zero, ℕ}
 use Rattle.std.specs.List.{position_from}
-use Rattle.std.specs.Str.{bytes_eq}
 use Rattle.std.specs.Prelude.{count_by}
-use Rattle.std.proofs.lemmas.Bool.{and_parts, and_from, eqb-true, eq-eqb, both_ways, false≢true}
+use Rattle.std.proofs.lemmas.Bool.{and_parts, and_from, eqb-true, eq-eqb}
 use Rattle.std.proofs.lemmas.List.Sums.{sum_by-cons}
-use Rattle.std.proofs.lemmas.Slice.Eq.{bytes_eq-Decides}
-use Rattle.trio_nodes.specs.declared.node.Node.{Node}
-use Rattle.trio_nodes.specs.Nodes.{Nodes, node_at, find_named, is_named, is_in, count_in}
-use Rattle.trio_nodes.specs.Walk.{Path}
-use Rattle.trio_nodes.specs.Found.{found_from, path_found, then_found}
-use Rattle.trio_nodes.specs.Tree.{IsTree}
+use Rattle.trio_nodes.specs.Nodes.{is_named, is_in}
 
 -- the directory lists this file by this name
 pub record Child (nodes : Nodes) (dir : ℕ) (name' : List ℕ) (n : ℕ) : Type 0 where

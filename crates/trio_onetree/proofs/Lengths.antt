@@ -1,22 +1,14 @@
 -- Calls make nodes at no number behind the last one, where what they make gets none.
-use Rattle.std.proofs.Common.{◌≡◌, ◌⊎◌, ◌<◌, ℕ, Bool, true, List, [], ◌∷◌, length, Some, None, ◌&&◌, refl, sym, ap, ◌∙◌, subst, inl, inr}
-use Rattle.std.specs.Prelude.{MatchBool}
+use Rattle.trio_onetree.proofs.Words.{◌<◌, ◌∙◌, ◌∷◌, ◌≡◌, ◌⊎◌, Bool, Call, Chmod, Create, Creds, IsTree, List, ListNames, MadeFits, MatchBool, Mkdir, Nodes, None, Path, Read, Rename, Rmdir, Some, Stat, Truncate, Unlink, Write, [], ap, call_nodes, changed_node, changed_number, inl, inr, is_done, length, node_at, only_looks, path_found, refl, subst, sym, true, ℕ}
+use Rattle.std.proofs.Common.{◌&&◌}
 use Rattle.std.proofs.lemmas.List.{length-set}
 use Rattle.std.proofs.lemmas.Bool.{cases_Bool}
-use Rattle.trio_rights.specs.declared.rights.Creds.{Creds}
 use Rattle.trio_lists.specs.Lists.{In}
-use Rattle.trio_nodes.specs.declared.call.Call.{Call}
-use Rattle.trio_nodes.specs.declared.call.Call.TheVariants.{Mkdir, Create, Write, Read, Truncate, Unlink, Rmdir, Rename, List as ListNames, Stat, Chmod}
 use Rattle.trio_nodes.specs.declared.call.Done.{Done}
-use Rattle.trio_nodes.specs.Nodes.{Nodes, node_at}
-use Rattle.trio_nodes.specs.Walk.{Path}
-use Rattle.trio_nodes.specs.Found.{path_found}
-use Rattle.trio_nodes.specs.Apply.{Apply, is_done, makes_file}
-use Rattle.trio_nodes.specs.After.{batch_nodes, call_nodes}
-use Rattle.trio_nodes.specs.Legal.{LegalCalls, MadeFits}
-use Rattle.trio_nodes.specs.Tree.{IsTree}
+use Rattle.trio_nodes.specs.Apply.{Apply, makes_file}
+use Rattle.trio_nodes.specs.After.{batch_nodes}
+use Rattle.trio_nodes.specs.Legal.{LegalCalls}
 use Rattle.trio_nodes.proofs.NodeFacts.{node_at-within, with_node-set}
-use Rattle.trio_onetree.specs.CallLaws.{changed_node, changed_number, only_looks}
 use Rattle.trio_onetree.proofs.Changes.{call_changes_one}
 use Rattle.trio_onetree.proofs.Children.{found_live, path_found-is}
 use Rattle.trio_onetree.proofs.TreeStays.{tree_stays}

@@ -9,3 +9,4 @@ pub mod CallCases
 pub mod TreeStays
 mod Changes
 pub mod Lengths
+mod Words

@@ -1,15 +1,7 @@
 -- What a list of names comes to.
-use Rattle.std.proofs.Common.{◌≡◌, ℕ, if◌then◌else◌, true, false, not, List, [], Ok, take, drop, refl, ap, ◌∙◌}
-use Rattle.trio_rights.specs.declared.kind.Kind.{Kind}
-use Rattle.trio_rights.specs.declared.rights.Creds.{Creds}
-use Rattle.trio_rights.specs.declared.rights.Need.TheVariants.{Read as ToRead}
-use Rattle.trio_nodes.specs.declared.node.Node.{Node}
+use Rattle.trio_onetree.proofs.Words.{if◌then◌else◌, ◌∙◌, ◌≡◌, Applied, Creds, Denied, Kind, List, Node, Nodes, NotDir, Ok, Path, Reached, ToRead, [], ap, count_in, done, drop, false, is_directory, lacks, list, names_in, not, on_file, refl, refused, take, true, walk, ℕ}
 use Rattle.trio_nodes.specs.declared.call.Answer.TheVariants.{Names}
-use Rattle.trio_nodes.specs.declared.call.Reply.TheVariants.{NotDir, Denied}
-use Rattle.trio_nodes.specs.Nodes.{Nodes, count_in, names_in}
-use Rattle.trio_nodes.specs.Walk.{Path, is_directory, lacks, walk}
-use Rattle.trio_nodes.specs.Apply.{Applied, refused, done, list}
-use Rattle.trio_onetree.specs.inner.Gives.{Reached, file_of, on_file}
+use Rattle.trio_onetree.specs.inner.Gives.{file_of}
 use Rattle.trio_onetree.proofs.Outcomes.{Does, does, of_reached}
 
 abbrev list_file : Nodes → Creds → ℕ → ℕ → Node → Applied

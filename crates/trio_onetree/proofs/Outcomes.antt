@@ -1,18 +1,8 @@
 -- What each call comes to, where its walk and its checks have come out so.
-use Rattle.std.proofs.Common.{◌≡◌, ℕ, ◌==◌, if◌then◌else◌, ◌||◌, nat_lt, Bool, true, false, not, List, [], ◌∷◌, Option, None, Some, is_some, Result, Ok, Err, refl, sym, ap, ◌∙◌}
-use Rattle.std.specs.Option.{ok_or}
-use Rattle.trio_rights.specs.declared.kind.Kind.{Kind}
-use Rattle.trio_rights.specs.declared.rights.Creds.{Creds}
-use Rattle.trio_rights.specs.declared.rights.Mode.{Mode}
-use Rattle.trio_nodes.specs.declared.node.Node.{Node}
-use Rattle.trio_nodes.specs.declared.call.Answer.{Answer}
+use Rattle.trio_onetree.proofs.Words.{if◌then◌else◌, ◌||◌, ◌∙◌, ◌∷◌, ◌≡◌, Answer, Applied, Bool, Creds, Denied, Err, Exists, IsDir, Kind, List, Mode, Node, Nodes, None, NotDir, NotEmpty, NotFound, Ok, Option, Path, Reached, Replied, Reply, Result, Some, [], ap, chmod, count_in, dir_of, done, false, find_named, in_directory, is_above, is_directory, is_root, is_some, listed_in, make, name_of, new_node, node_at, not, of_node, ok_or, on_file, reached, refl, refused, rename, rmdir, sym, true, unlink, walk_into, with_node, ℕ}
+use Rattle.std.proofs.Common.{◌==◌, nat_lt}
 use Rattle.trio_nodes.specs.declared.call.Answer.TheVariants.{Done}
-use Rattle.trio_nodes.specs.declared.call.Reply.{Reply}
-use Rattle.trio_nodes.specs.declared.call.Reply.TheVariants.{Ok as Replied, NotFound, Exists, NotDir, IsDir, NotEmpty, Denied}
-use Rattle.trio_nodes.specs.Nodes.{Nodes, node_at, with_node, find_named, count_in}
-use Rattle.trio_nodes.specs.Walk.{Path, is_root, dir_of, name_of, is_above, is_directory, walk_into}
-use Rattle.trio_nodes.specs.Apply.{Applied, refused, done, reached, of_node, in_directory, listed_in, new_node, make, unlink, rmdir, rename, chmod}
-use Rattle.trio_onetree.specs.inner.Gives.{Reached, with_its_node, node_reached, file_in, named_in, entry_of, on_file}
+use Rattle.trio_onetree.specs.inner.Gives.{with_its_node, node_reached, file_in, named_in, entry_of}
 use Rattle.trio_onetree.proofs.Setting.{with_mode, with_place}
 
 -- ---- answers

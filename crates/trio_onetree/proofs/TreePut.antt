@@ -1,14 +1,9 @@
 -- A tree with another node at one number, and one without a node.
-use Rattle.std.proofs.Common.{◌≡◌, ℕ, List, [], ◌∷◌, ◌++◌, length, Option, Some, None, is_some, cond, refl, sym, ap, ◌∙◌, subst, inl, inr, ◌⊎◌, arith, append-nil}
+use Rattle.trio_onetree.proofs.Words.{◌++◌, ◌∙◌, ◌∷◌, ◌≡◌, ◌⊎◌, Directory, IsDirectory, IsTree, List, Node, Nodes, None, Option, Path, Some, [], ap, append_assoc, arith, cond, find_named, found_from, inl, inr, is_some, length, node_at, path_found, refl, subst, sym, with_node, ℕ}
+use Rattle.std.proofs.Common.{append-nil}
 use Rattle.std.proofs.lemmas.Bool.{cases_eq}
-use Rattle.std.proofs.lemmas.List.{append_assoc, length-append}
-use Rattle.trio_rights.specs.declared.kind.Kind.TheVariants.{Directory}
-use Rattle.trio_nodes.specs.declared.node.Node.{Node}
-use Rattle.trio_nodes.specs.Nodes.{Nodes, node_at, with_node, find_named}
-use Rattle.trio_nodes.specs.Walk.{Path}
-use Rattle.trio_nodes.specs.Found.{found_from, path_found}
+use Rattle.std.proofs.lemmas.List.{length-append}
 use Rattle.trio_nodes.proofs.NodeFacts.{with_node-same, with_node-else}
-use Rattle.trio_nodes.specs.Tree.{IsDirectory, IsTree}
 use Rattle.trio_onetree.proofs.Children.{Child, Names, one_node, find_named-Child, Child-find_named, then_found-Some, found-more, found-one, found-each, one_path, path_found-is}
 
 -- a path leads to the file

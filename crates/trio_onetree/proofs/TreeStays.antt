@@ -1,27 +1,6 @@
 -- A tree stays a tree through each call.
-use Rattle.std.proofs.Common.{◌≡◌, ℕ, ◌+◌, ltb, Bool, true, false, cond, not, ◌||◌, eqb, List, [], ◌∷◌, ◌++◌, length, take, drop, Some, None, is_some, refl, sym, ap, ◌∙◌, subst, inl, inr, arith}
-use Rattle.std.specs.Prelude.{MatchBool}
-use Rattle.std.proofs.lemmas.Bool.{both_ways, false≢true, ltb-false}
-use Rattle.std.proofs.lemmas.List.{append_assoc}
-use Rattle.std.proofs.lemmas.Slice.Eq.{bytes_eq-Decides}
-use Rattle.trio_rights.specs.declared.kind.Kind.{Kind}
-use Rattle.trio_rights.specs.declared.kind.Kind.TheVariants.{Regular, Directory}
-use Rattle.trio_rights.specs.declared.rights.Creds.{Creds}
-use Rattle.trio_rights.specs.declared.rights.Mode.{Mode}
-use Rattle.trio_rights.specs.declared.rights.Need.TheVariants.{Read as ToRead, Write as ToWrite}
-use Rattle.trio_nodes.specs.declared.node.Node.{Node}
-use Rattle.trio_nodes.specs.declared.call.Answer.TheVariants.{Done as IsDone, Count, Bytes, Names as AreNames, Stat as IsStat}
-use Rattle.trio_nodes.specs.declared.call.Call.{Call}
-use Rattle.trio_nodes.specs.declared.call.Call.TheVariants.{Mkdir, Create, Write, Read, Truncate, Unlink, Rmdir, Rename, List as ListNames, Stat, Chmod}
-use Rattle.trio_nodes.specs.declared.call.Reply.{Reply}
-use Rattle.trio_nodes.specs.declared.call.Reply.TheVariants.{Exists, NotDir, IsDir, NotEmpty, Denied, IntoItself, TooLarge}
-use Rattle.trio_nodes.specs.Nodes.{Nodes, node_at, with_node, find_named, count_in, names_in}
-use Rattle.trio_nodes.specs.Walk.{Path, is_root, dir_of, name_of, is_above, is_directory, lacks}
-use Rattle.trio_nodes.specs.Found.{found_from}
-use Rattle.trio_nodes.specs.Apply.{Applied, refused, done, in_directory, listed_in, largest_size, resized, put_at, new_node, make, write, read, truncate, unlink, rmdir, rename, list, size_of, stat, chmod, applied, is_done}
-use Rattle.trio_nodes.specs.After.{call_nodes}
-use Rattle.trio_nodes.specs.Legal.{MadeFits}
-use Rattle.trio_nodes.specs.Tree.{IsDirectory, IsTree}
+use Rattle.trio_onetree.proofs.Words.{◌++◌, ◌+◌, ◌||◌, ◌∙◌, ◌∷◌, ◌≡◌, Applied, AreNames, Bool, Bytes, Call, Chmod, Count, Create, Creds, Denied, Directory, Exists, IntoItself, IsDir, IsDirectory, IsDone, IsStat, IsTree, Kind, List, ListNames, MadeFits, MatchBool, Mkdir, Mode, Node, Nodes, None, NotDir, NotEmpty, Path, Read, Regular, Rename, Reply, Rmdir, Some, Stat, ToRead, ToWrite, TooLarge, Truncate, Unlink, Write, [], ap, append_assoc, applied, arith, both_ways, bytes_eq-Decides, call_nodes, chmod, cond, count_in, dir_of, done, drop, eqb, false, false≢true, find_named, found_from, in_directory, inl, inr, is_above, is_directory, is_done, is_root, is_some, lacks, largest_size, length, list, listed_in, ltb, make, name_of, names_in, new_node, node_at, not, put_at, read, refl, refused, rename, resized, rmdir, size_of, stat, subst, sym, take, true, truncate, unlink, with_node, write, ℕ}
+use Rattle.std.proofs.lemmas.Bool.{ltb-false}
 use Rattle.trio_onetree.specs.CallLaws.{TreeStays, TreeStaysThrough}
 use Rattle.trio_onetree.proofs.Children.{Child, one_node, find_named-Child, Child-is_some, child-counts, found-more, found-one, one_path, found_live}
 use Rattle.trio_onetree.proofs.TreePut.{Fits, tree_put, tree_same, tree_without}

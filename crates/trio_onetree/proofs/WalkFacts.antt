@@ -1,14 +1,8 @@
 -- A walk, step by step.
-use Rattle.std.proofs.Common.{◌≡◌, ℕ, suc, ◌+◌, ◌<◌, Bool, true, false, List, [], ◌∷◌, ◌++◌, length, take, drop, get_or, Bor, Ok, Err, refl, sym, add-one}
+use Rattle.trio_onetree.proofs.Words.{◌++◌, ◌+◌, ◌<◌, ◌∷◌, ◌≡◌, Bool, Creds, Err, List, Nodes, NotFound, Ok, Path, Reply, [], drop, enter, false, find_named, get_or, length, need_at, ok_or, paths_of, refl, same_path, suc, sym, take, true, walk_from, ℕ}
+use Rattle.std.proofs.Common.{Bor, add-one}
 use Rattle.std.specs.List.{list_any}
-use Rattle.std.specs.Option.{ok_or}
 use Rattle.std.proofs.Math.Seq.{drop-cons, take-suc}
-use Rattle.trio_rights.specs.declared.rights.Creds.{Creds}
-use Rattle.trio_nodes.specs.declared.call.Reply.{Reply}
-use Rattle.trio_nodes.specs.declared.call.Reply.TheVariants.{NotFound}
-use Rattle.trio_nodes.specs.Nodes.{Nodes, find_named}
-use Rattle.trio_nodes.specs.Walk.{Path, enter, need_at, same_path, walk_from}
-use Rattle.trio_onetree.specs.inner.Paths.{paths_of}
 
 -- ---- what a directory needs
 

@@ -1,22 +1,10 @@
 -- Grants that end in the table, and those that stay.
-use Rattle.std.proofs.Common.{◌≡◌, ℕ, suc, ◌+◌, ◌<◌, Bool, true, false, ◌==◌, ◌||◌, List, [], ◌∷◌, ◌++◌, length, map, take, drop, get_or, Some, IsSome, IsTrue, refl, sym, ap, subst, ◌∙◌, inl, arith}
-use Rattle.std.proofs.Math.Seq.{drop-cons, take-suc}
-use Rattle.std.specs.Prelude.{if◌then◌else◌, not}
-use Rattle.std.specs.List.{filter, find}
-use Rattle.std.specs.Option.{option_map}
-use Rattle.std.proofs.lemmas.Bool.{and_from, and_parts, eq-eqb, false≢true, not-true}
-use Rattle.std.proofs.lemmas.List.{append_assoc, map-append}
+use Rattle.trio_open.proofs.Words.{if◌then◌else◌, ◌++◌, ◌+◌, ◌<◌, ◌==◌, ◌||◌, ◌∙◌, ◌∷◌, ◌≡◌, Bool, Bundle, HasKey, In-left, In-right, Keyed, LibNo, List, Opened, Some, [], and_from, and_parts, ap, are_new, are_new-append, are_new-before, are_new-fewer, arith, drop, drop-cons, eq-eqb, false, false≢true, filter, find, get_or, inl, is_among, is_in_bundle, keyed, length, map, map-append, not-true, option_map, refl, subst, suc, sym, take, take-suc, true, without, ℕ}
+use Rattle.std.proofs.Common.{IsSome, IsTrue}
+use Rattle.std.specs.Prelude.{not}
+use Rattle.std.proofs.lemmas.List.{append_assoc}
 use Rattle.std.proofs.lemmas.List.Elements.{filter-append}
-use Rattle.trio_rights.specs.declared.rights.LibNo.{LibNo}
-use Rattle.trio_rights.specs.Bundle.{Bundle}
-use Rattle.trio_grants.specs.Grants.{Keyed, HasKey, without}
-use Rattle.trio_lists.specs.Lists.{are_new, is_among}
-use Rattle.trio_lists.proofs.Marked.{are_new-append}
-use Rattle.trio_lists.proofs.Members.{In-left, In-right}
-use Rattle.trio_lists.proofs.New.{are_new-before, are_new-fewer}
 use Rattle.trio_surveys.proofs.Sheets.{not_among}
-use Rattle.trio_state.specs.Bundles.{is_in_bundle}
-use Rattle.trio_open.specs.Open.{Opened, keyed}
 
 abbrev pub keys : List Opened → List ℕ
 keys files = map (λ o. o.key) files

@@ -1,14 +1,7 @@
 -- How many things a bundle has.
-use Rattle.std.proofs.Common.{◌≡◌, ℕ, ◌+◌, ◌<◌, List, [], ◌∷◌, ◌++◌, length, map, drop, get_or, suc, refl, sym, ap, ◌∙◌, arith}
-use Rattle.std.proofs.Math.Seq.{drop-cons}
-use Rattle.std.specs.List.{flat_map}
+use Rattle.trio_open.proofs.Words.{◌++◌, ◌+◌, ◌<◌, ◌∙◌, ◌∷◌, ◌≡◌, Bundled, LentFile, List, Sheet, Written, [], ap, arith, bundle_in, bundle_pages, drop, drop-cons, flat_map, fresh_sheet, get_or, length, lent_sheet, map, pages_shown, refl, suc, sym, written_in, ℕ}
 use Rattle.std.proofs.lemmas.List.{length-append, length-map}
-use Rattle.trio_rights.specs.Bundle.{Written, bundle_pages, bundle_sheets}
-use Rattle.trio_rights.specs.Sheets.{Sheet}
-use Rattle.trio_lease.specs.Bundles.{Bundled}
-use Rattle.trio_lease.specs.Shown.{LentFile}
-use Rattle.trio_lease.specs.Views.{bundle_in, fresh_sheet, lent_sheet, written_in}
-use Rattle.trio_open.specs.inner.Room.{pages_shown}
+use Rattle.trio_rights.specs.Bundle.{bundle_sheets}
 
 -- ---- how many pages the leases and the allotments show
 

@@ -1,21 +1,9 @@
 -- The pages of a bundle are whole where those of its leases and its allotted ones are.
-use Rattle.std.proofs.Common.{◌≡◌, ℕ, zero, suc, ◌+◌, ◌<◌, get_or, List, [], ◌∷◌, ◌++◌, length, map, take, Option, Some, inl, inr, refl, sym, ap, subst, ◌∙◌, arith}
-use Rattle.std.specs.Prelude.{slice_get}
-use Rattle.std.specs.List.{flat_map}
-use Rattle.std.specs.Option.{option_map}
+use Rattle.trio_open.proofs.Words.{◌++◌, ◌+◌, ◌<◌, ◌∙◌, ◌∷◌, ◌≡◌, AreWhole, Bundled, FreshParts, In, LentFile, LentPage, List, Option, Sheet, Some, Written, [], ap, arith, bundle_in, flat_map, fresh_sheet, get_or, inl, inr, length, lent_sheet, map, map-In, option_map, page_at, refl, slice_get, subst, suc, sym, take, written_in, zero, ℕ}
 use Rattle.std.proofs.lemmas.List.{take_all}
 use Rattle.std.proofs.lemmas.Option.{slice_get_read}
-use Rattle.trio_lists.specs.Lists.{In}
-use Rattle.trio_lists.proofs.Members.{In-cases, flat_map-In, map-In}
-use Rattle.trio_rights.specs.Bundle.{Written}
-use Rattle.trio_rights.specs.Sheets.{Sheet}
-use Rattle.trio_lease.specs.Bundles.{Bundled}
-use Rattle.trio_lease.specs.Shown.{LentFile, page_at}
-use Rattle.trio_lease.specs.Views.{bundle_in, fresh_sheet, lent_sheet, written_in}
-use Rattle.trio_lease.specs.declared.parts.FreshParts.{FreshParts}
-use Rattle.trio_lease.specs.declared.parts.LentPage.{LentPage}
+use Rattle.trio_lists.proofs.Members.{In-cases, flat_map-In}
 use Rattle.trio_state.specs.Moves.{IsFull}
-use Rattle.trio_open.specs.Belonging.{AreWhole}
 use Rattle.trio_open.proofs.Given.{whole_sheets}
 
 -- each of a list, where each of its first i is and the next one is

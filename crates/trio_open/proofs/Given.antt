@@ -1,23 +1,12 @@
 -- Pages and their numbers, and things that stand once.
-use Rattle.std.proofs.Common.{◌≡◌, ℕ, zero, suc, ◌+◌, ◌<◌, Bool, true, false, not, ◌&&◌, List, [], ◌∷◌, ◌++◌, length, map, take, drop, get_or, Some, inl, inr, refl, sym, ap, subst, ◌∙◌, arith}
-use Rattle.std.proofs.Math.Seq.{drop-cons, take-suc}
+use Rattle.trio_open.proofs.Words.{◌&&◌, ◌++◌, ◌+◌, ◌<◌, ◌∙◌, ◌∷◌, ◌≡◌, AreWhole, Bool, In, LentPage, List, Read, Sheet, Some, Write, [], and_from, and_parts, ap, are_new, are_numbered, arith, drop, drop-cons, eq-eqb, false, false≢true, get_or, inl, inr, is_among, is_numbered, length, lent_sheet, list_any, map, map-In, map-append, no_at, not, option_map, page_at, refl, subst, suc, sym, take, take-suc, true, zero, ℕ}
 use Rattle.std.specs.Prelude.{◌==◌}
-use Rattle.std.specs.List.{list_any}
-use Rattle.std.specs.Option.{option_map}
-use Rattle.std.proofs.lemmas.Bool.{and_from, and_parts, eq-eqb, eqb-true, false≢true}
-use Rattle.std.proofs.lemmas.List.{map-append}
-use Rattle.trio_rights.specs.Sheets.{Sheet}
+use Rattle.std.proofs.lemmas.Bool.{eqb-true}
 use Rattle.trio_nodes.specs.GrantKinds.{is_hold}
 use Rattle.trio_nodes.specs.declared.grant.GrantKind.{GrantKind}
-use Rattle.trio_nodes.specs.declared.grant.GrantKind.TheVariants.{Read, Write, Hold}
-use Rattle.trio_lease.specs.Shown.{no_at, page_at}
-use Rattle.trio_lease.specs.Views.{lent_sheet}
-use Rattle.trio_lease.specs.declared.parts.LentPage.{LentPage}
-use Rattle.trio_lists.specs.Lists.{In, are_new, is_among}
+use Rattle.trio_nodes.specs.declared.grant.GrantKind.TheVariants.{Hold}
 use Rattle.trio_lists.proofs.Filters.{list_any-map}
-use Rattle.trio_lists.proofs.Members.{map-In}
-use Rattle.trio_open.specs.Belonging.{AreWhole, lent_numbers}
-use Rattle.trio_open.specs.inner.Given.{are_numbered, is_numbered}
+use Rattle.trio_open.specs.Belonging.{lent_numbers}
 
 -- ---- pages and their numbers
 

@@ -1,38 +1,31 @@
 -- Pages that leave home one after another.
-use Rattle.std.proofs.Common.{◌≡◌, ℕ, suc, ◌+◌, ◌<◌, Bool, true, false, not, ◌&&◌, List, [], ◌∷◌, ◌++◌, length, map, take, drop, get_or, set, Option, Some, None, is_some, inl, inr, refl, sym, ap, ◌∙◌, arith, subst}
-use Rattle.std.proofs.Math.Seq.{take-suc}
-use Rattle.std.specs.Prelude.{if◌then◌else◌, Ok, Err, Result}
+use Rattle.trio_open.proofs.Words.{if◌then◌else◌, ◌&&◌, ◌++◌, ◌+◌, ◌<◌, ◌∙◌, ◌∷◌, ◌≡◌, Bool, In, In-left, In-right, LentFile, LentPage, LibNo, List, None, Opened, Option, Read, Sheet, Some, Write, [], and_parts, ap, are_new, are_new-append, are_new-before, are_new-fewer, arith, core_of, drop, false, false≢true, get_or, get_or_default, inl, inr, is_among, is_some, length, lent_sheet, map, map-append, not, not-true, option_map, refl, sheets_of, subst, suc, sym, take, take-suc, true, untouched, without_pages, ℕ}
+use Rattle.std.proofs.Common.{set}
+use Rattle.std.specs.Prelude.{Ok, Err, Result}
 use Rattle.std.specs.List.{cons_option, list_all}
-use Rattle.std.specs.Option.{option_map, option_and_then}
-use Rattle.std.proofs.lemmas.Bool.{and_parts, not-true, false≢true}
-use Rattle.std.proofs.lemmas.List.{map-append, take-append-drop, get_or_default}
+use Rattle.std.specs.Option.{option_and_then}
+use Rattle.std.proofs.lemmas.List.{take-append-drop}
 use Rattle.std.proofs.lemmas.List.Elements.{filter_map-append}
 use Rattle.std.proofs.lemmas.List.Folds.{list_all-append}
 use Rattle.trio_rights.specs.declared.kind.Kind.{Kind}
 use Rattle.trio_rights.specs.declared.kind.Kind.TheVariants.{Regular, Directory}
-use Rattle.trio_rights.specs.declared.rights.LibNo.{LibNo}
-use Rattle.trio_nodes.specs.declared.grant.GrantKind.TheVariants.{Read, Write}
 use Rattle.trio_layout.specs.Chain.{Chain}
 use Rattle.trio_layout.specs.Core.{Core, Location, page_of}
 use Rattle.trio_layout.specs.Range.{is_core}
-use Rattle.trio_lists.specs.Lists.{is_among, are_new, In}
 use Rattle.trio_layout.specs.declared.range.CoreRange.{CoreRange}
-use Rattle.trio_lists.proofs.Marked.{are_new-append, are_new-more}
-use Rattle.trio_lease.specs.declared.parts.LentPage.{LentPage}
-use Rattle.trio_layout.specs.Pages.{covered_of, sheets_of}
-use Rattle.trio_lease.specs.Views.{lent_sheet}
-use Rattle.trio_rights.specs.Sheets.{Sheet, sheet_numbers, without_pages}
+use Rattle.trio_lists.proofs.Marked.{are_new-more}
+use Rattle.trio_layout.specs.Pages.{covered_of}
+use Rattle.trio_rights.specs.Sheets.{sheet_numbers}
 use Rattle.trio_rights.specs.ByKind.{covers_blocks}
-use Rattle.trio_checkpoint.specs.Covered.{Checkpointed, are_there, core_of, covered_numbers, covered_pages}
+use Rattle.trio_checkpoint.specs.Covered.{Checkpointed, are_there, covered_numbers, covered_pages}
 use Rattle.trio_lists.proofs.Filters.{get_or-In}
-use Rattle.trio_lists.proofs.Members.{In-is_among, In-left, In-right, list_all-In}
-use Rattle.trio_lists.proofs.New.{are_new-before, are_new-fewer}
+use Rattle.trio_lists.proofs.Members.{In-is_among, list_all-In}
 use Rattle.trio_surveys.proofs.SheetLaws.{page_at}
 use Rattle.trio_surveys.proofs.Images.{some_of}
 use Rattle.trio_surveys.proofs.Sheets.{Pages, sheets_all, without_apart}
-use Rattle.trio_lease.specs.Shown.{LentFile, Shown}
+use Rattle.trio_lease.specs.Shown.{Shown}
 use Rattle.trio_open.specs.inner.Lending.{IsLendable}
-use Rattle.trio_open.specs.Open.{Opened, grant_on, lease_of, shown_of, untouched}
+use Rattle.trio_open.specs.Open.{grant_on, lease_of, shown_of}
 use Rattle.trio_open.specs.Covers.{CoversLent}
 
 pub sheets_untouched : (xs : List Sheet) → map lent_sheet (map untouched xs) ≡ xs

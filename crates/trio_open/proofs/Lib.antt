@@ -5,3 +5,4 @@ pub mod LendLemmas
 pub mod Fullness
 pub mod ClosingFacts
 pub mod PartedHolds
+mod Words

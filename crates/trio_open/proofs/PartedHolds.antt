@@ -1,19 +1,12 @@
 -- The lowest hold that is parted, by one walk over the open grants.
-use Rattle.std.proofs.Common.{◌≡◌, ℕ, suc, ◌+◌, ◌<◌, ◌≤◌, ◌==◌, ◌||◌, Bool, true, false, List, [], ◌∷◌, length, map, drop, get_or, Option, Some, None, is_some, refl, sym, ap, ◌∙◌, arith}
-use Rattle.std.proofs.Math.Seq.{drop-cons}
-use Rattle.std.specs.Prelude.{if◌then◌else◌, nat_le}
-use Rattle.std.specs.List.{filter, find, list_any}
+use Rattle.trio_open.proofs.Words.{if◌then◌else◌, ◌+◌, ◌<◌, ◌==◌, ◌||◌, ◌∙◌, ◌∷◌, ◌≡◌, ◌≤◌, Bool, Bundle, Bundled, LentFile, List, None, Opened, Option, Some, Written, [], ap, arith, bundle_in, drop, drop-cons, false, filter, find, get_or, is_among, is_some, length, list_any, lower, lowest_parted, map, refl, suc, sym, true, written_in, ℕ}
+use Rattle.std.specs.Prelude.{nat_le}
 use Rattle.std.proofs.lemmas.Bool.{leb-false, leb-true}
-use Rattle.trio_rights.specs.Bundle.{Bundle, Written, is_written}
-use Rattle.trio_lists.specs.Lists.{is_among}
-use Rattle.trio_lease.specs.Bundles.{Bundled}
-use Rattle.trio_lease.specs.Shown.{LentFile}
-use Rattle.trio_lease.specs.Views.{bundle_in, written_in}
+use Rattle.trio_rights.specs.Bundle.{is_written}
 use Rattle.trio_lease.specs.declared.parts.HoldParts.{HoldParts}
 use Rattle.trio_rights.specs.Row.{Row}
-use Rattle.trio_state.specs.Bundles.{lower, lowest}
-use Rattle.trio_open.specs.Open.{Opened}
-use Rattle.trio_open.specs.inner.Parting.{is_parted_by, lowest_parted}
+use Rattle.trio_state.specs.Bundles.{lowest}
+use Rattle.trio_open.specs.inner.Parting.{is_parted_by}
 
 -- ---- what a bundle has
 

@@ -1,7 +1,7 @@
 -- Lists of which one has, place by place, what is made of the other.
-use Rattle.std.proofs.Common.{◌≡◌, ℕ, zero, suc, ◌+◌, List, [], ◌∷◌, ◌++◌, map, take, sym, refl, ap, ◌∙◌, add-one}
-use Rattle.std.specs.Prelude.{slice_get}
-use Rattle.std.specs.Option.{option_map, option_to_list}
+use Rattle.trio_open.proofs.Words.{◌++◌, ◌+◌, ◌∙◌, ◌∷◌, ◌≡◌, List, [], ap, map, option_map, refl, slice_get, suc, sym, take, zero, ℕ}
+use Rattle.std.proofs.Common.{add-one}
+use Rattle.std.specs.Option.{option_to_list}
 
 taken : {Z : Type 0} (zs : List Z) (i : ℕ) → take (suc i) zs ≡ take i zs ++ option_to_list (slice_get zs i)
 taken [] zero = refl

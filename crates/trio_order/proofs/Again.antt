@@ -1,26 +1,21 @@
 -- From two states of which the same is known, an event comes to the same.
-use Rattle.std.proofs.Common.{◌≡◌, ℕ, ◌+◌, ◌⊎◌, Bool, true, false, Option, None, Some, sym, refl, ap, ◌∙◌, subst, inl, inr, arith, cond, ltb, length, take}
+use Rattle.trio_order.proofs.Words.{◌+◌, ◌∙◌, ◌≡◌, ◌⊎◌, Allot, Back, BadMode, Beside, Bool, Bundle, BusyMode, CtlAnswer, Done, Entry, Event, Grant, GrantKind, Known, ModeFault, NoFile, NoModeMemory, None, NotOwner, Option, Outcome, Release, SetMode, Settle, Some, State, Step, ap, arith, bundle_handed, does_told, entry_of, inl, inr, known, length, logged, mode_fault, mode_outcome, moded_to, plain_state, refl, row_at, subst, sym, ℕ}
+use Rattle.std.proofs.Common.{true, false, cond, ltb, take}
 use Rattle.trio_rights.specs.Row.{Row}
-use Rattle.trio_rights.specs.Bundle.{Bundle}
 use Rattle.trio_layout.specs.Accept.{next}
-use Rattle.trio_layout.specs.Image.{Image, row_at}
+use Rattle.trio_layout.specs.Image.{Image}
 use Rattle.trio_nodes.specs.declared.call.Call.{Call}
 use Rattle.trio_nodes.specs.declared.answers.GrantFault.{GrantFault}
 use Rattle.trio_nodes.specs.declared.answers.GrantFault.TheVariants.{NotLive, Denied, NoParent, Busy, NoMemory as NoGrantMemory}
-use Rattle.trio_nodes.specs.declared.answers.ModeFault.{ModeFault}
-use Rattle.trio_nodes.specs.declared.answers.ModeFault.TheVariants.{NotLive as NoFile, NotOwner, BadMode, Busy as BusyMode, NoMemory as NoModeMemory}
-use Rattle.trio_nodes.specs.declared.entry.Entry.{Entry}
-use Rattle.trio_nodes.specs.declared.grant.GrantKind.{GrantKind}
 use Rattle.trio_state.specs.Allotments.{allots, free_numbers, free_pages}
 use Rattle.trio_state.specs.Bundles.{parted_hold, refused_image}
 use Rattle.trio_state.specs.Grants.{grant_fault}
-use Rattle.trio_state.specs.State.{State, logged, settled}
-use Rattle.trio_state.specs.Step.{Event, Grant, Allot, Back, Release, Settle, SetMode, CtlAnswer, Granted, NotGranted, Given, NoPages, NoInodes, Done, Accepted, Refused, Settled, ModeSet, NotModeSet, Outcome, Does, Step, ReleaseEnd, Parted, IsAccepted, IsRefused, allot_outcome, grant_outcome, granted_to, mode_fault, mode_outcome, moded_to}
-use Rattle.trio_laws.specs.Known.{Known, known, plain_state, refused_rule, SameAnswer}
-use Rattle.trio_laws.specs.history.Entries.{Beside, bundle_handed, entry_of, event_of, answer_of, grant_entry, mode_entry, raw_entry, refused_for}
+use Rattle.trio_state.specs.State.{settled}
+use Rattle.trio_state.specs.Step.{Granted, NotGranted, Given, NoPages, NoInodes, Accepted, Refused, Settled, ModeSet, NotModeSet, Does, ReleaseEnd, Parted, IsAccepted, IsRefused, allot_outcome, grant_outcome, granted_to}
+use Rattle.trio_laws.specs.Known.{refused_rule, SameAnswer}
+use Rattle.trio_laws.specs.history.Entries.{event_of, answer_of, grant_entry, mode_entry, raw_entry, refused_for}
 use Rattle.trio_laws.proofs.Cases.{after_allot, after_no_grant, after_no_mode}
 use Rattle.trio_laws.proofs.KnownSteps.{known_decides, same_event_same_answer}
-use Rattle.trio_laws.proofs.StateLaws.{does_told}
 use Rattle.trio_nodes.specs.declared.answers.ReleaseAnswer.TheVariants.{Accepted as AcceptedBundle}
 use Rattle.trio_order.proofs.Standing.{Alike}
 

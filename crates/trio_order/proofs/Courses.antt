@@ -1,30 +1,12 @@
 -- A library's calls along a log, by what is known at each, and how they come apart at the log's first entry.
-use Rattle.std.proofs.Common.{◌≡◌, ℕ, ◌==◌, Bool, List, [], ◌∷◌, ◌++◌, map, Option, None, Some, sym, refl, ap, ◌∙◌, subst, inl, inr}
-use Rattle.std.specs.Prelude.{◌≢◌, if◌then◌else◌}
-use Rattle.std.specs.Option.{option_to_list}
-use Rattle.std.proofs.lemmas.Bool.{cases_Bool, eq-eqb, eqb-true, false≢true}
-use Rattle.std.proofs.lemmas.List.{append_assoc}
-use Rattle.std.proofs.lemmas.List.Elements.{filter-append}
-use Rattle.trio_rights.specs.declared.rights.LibNo.{LibNo}
-use Rattle.trio_lease.specs.Shown.{Shown}
-use Rattle.trio_nodes.specs.declared.entry.Entry.{Entry}
+use Rattle.trio_order.proofs.Words.{if◌then◌else◌, ◌++◌, ◌==◌, ◌∙◌, ◌∷◌, ◌≡◌, ◌≢◌, Along, AreBack, Ask, Bool, Call, Entry, GiveBack, Happens, Kept, Known, LibNo, List, ModeSet, None, Option, ReplaysFrom, Settled, Shown, Some, State, Told, [], all_back, all_parts, answer_of, ap, append_assoc, back_entries, backs_of, beside_of, entries_told, eq-eqb, event_of, filter-append, given_back, handed_back, inl, inr, known, known_after, known_from, made_by, maker, map, option_to_list, refl, step_kept, steps_are_known, subst, sym, ℕ}
+use Rattle.std.proofs.lemmas.Bool.{cases_Bool, eqb-true, false≢true}
 use Rattle.trio_nodes.specs.declared.entry.Entry.TheVariants.{Grant as GrantEntry, Allot as AllotEntry, Back, Raw, Batch, Mode}
-use Rattle.trio_desk.specs.Call.{Ask, Told, Grant, Allot, GiveBack, Release, Settle, SetMode, Settled, ModeSet}
-use Rattle.trio_desk.specs.Calls.{Call}
-use Rattle.trio_state.specs.Grants.{given_back}
-use Rattle.trio_state.specs.Kept.{Kept}
-use Rattle.trio_state.specs.State.{State}
+use Rattle.trio_desk.specs.Call.{Grant, Allot, Release, Settle, SetMode}
 use Rattle.trio_laws.specs.Laws.{library_of}
-use Rattle.trio_laws.specs.Known.{Known, known, known_after}
 use Rattle.trio_laws.specs.history.Entries as entries
-use Rattle.trio_laws.specs.history.Replays.{ReplaysFrom, known_from}
-use Rattle.trio_laws.proofs.KnownSteps.{steps_are_known}
-use Rattle.trio_laws.proofs.Runs.{step_kept}
-use Rattle.trio_turn.specs.Logs.{made_by, maker}
-use Rattle.trio_ctl.specs.Backs.{AreBack, all_back, back_entries}
 use Rattle.trio_ctl.proofs.LeasesBack.{backs_kept}
-use Rattle.trio_ctl.specs.Desk.{Happens, answer_of, backs_of, beside_of, entries_told, event_of, handed_back}
-use Rattle.trio_order.specs.Order.{Along, all_parts, back_call, parts_of}
+use Rattle.trio_order.specs.Order.{back_call, parts_of}
 use Rattle.trio_order.proofs.Standing.{back_kept, back_known}
 use Rattle.trio_order.proofs.Again.{entry_tells}
 use Rattle.trio_order.proofs.Redone.{beside_is, entry_made}

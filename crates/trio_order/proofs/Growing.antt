@@ -1,14 +1,5 @@
 -- A library's calls along a log that grows.
-use Rattle.std.proofs.Common.{◌≡◌, List, [], ◌∷◌, ◌++◌, sym, refl, ap, ◌∙◌, subst}
-use Rattle.std.proofs.lemmas.List.{append-nil, append_assoc}
-use Rattle.trio_rights.specs.declared.rights.LibNo.{LibNo}
-use Rattle.trio_nodes.specs.declared.entry.Entry.{Entry}
-use Rattle.trio_desk.specs.Calls.{Call}
-use Rattle.trio_state.specs.State.{State}
-use Rattle.trio_laws.specs.history.Replays.{ReplaysFrom}
-use Rattle.trio_turn.specs.Logs.{made_by}
-use Rattle.trio_ctl.specs.Desk.{Happens, entries_told}
-use Rattle.trio_order.specs.Order.{Along}
+use Rattle.trio_order.proofs.Words.{◌++◌, ◌∙◌, ◌∷◌, ◌≡◌, Along, Call, Entry, Happens, LibNo, List, ReplaysFrom, State, [], ap, append-nil, append_assoc, entries_told, made_by, refl, subst, sym}
 use Rattle.trio_order.specs.OrderLaws.{CallsEnd, CallsGrow}
 use Rattle.trio_order.proofs.Courses.{none_both}
 

@@ -1,12 +1,11 @@
 -- A bundle as it was handed in is the bundle.
-use Rattle.std.proofs.Common.{◌≡◌, List, [], ◌∷◌, map, refl, ap, ◌∙◌}
+use Rattle.trio_order.proofs.Words.{◌∙◌, ◌∷◌, ◌≡◌, Bundle, List, Shown, Written, [], ap, bundle_handed, map, refl}
 use Rattle.std.proofs.lemmas.Simd.{map-map}
-use Rattle.trio_rights.specs.Bundle.{Bundle, Written}
 use Rattle.trio_rights.specs.Sheets.{Sheet}
-use Rattle.trio_lease.specs.Shown.{LentFile, Shown}
+use Rattle.trio_lease.specs.Shown.{LentFile}
 use Rattle.trio_lease.specs.Views.{bundle_in, lent_sheet, written_in}
 use Rattle.trio_lease.specs.Bundles.{Bundled}
-use Rattle.trio_laws.specs.history.Entries.{bundle_handed, sheet_handed, written_handed}
+use Rattle.trio_laws.specs.history.Entries.{sheet_handed, written_handed}
 use Rattle.trio_entries.specs.Handed.{block_in, file_in, fresh_in, handed_in, index_in}
 
 file_is : (f : Shown) → written_handed (file_in f) ≡ written_in f

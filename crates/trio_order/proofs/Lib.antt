@@ -5,3 +5,4 @@ pub mod Redone
 pub mod Courses
 pub mod Orders
 pub mod Growing
+mod Words

@@ -1,31 +1,19 @@
 -- Calls of all libraries along a log, in one order: at each entry first the calls that make none, library by library, and then the
 -- call that makes it.
-use Rattle.std.proofs.Common.{◌≡◌, ℕ, zero, suc, ◌≤◌, ◌==◌, ◌⊎◌, Bool, List, [], ◌∷◌, ◌++◌, map, length, Option, None, Some, sym, refl, ap, ◌∙◌, subst, inl, inr, arith}
-use Rattle.std.specs.Prelude.{◌≢◌, if◌then◌else◌}
+use Rattle.trio_order.proofs.Words.{if◌then◌else◌, ◌++◌, ◌==◌, ◌∙◌, ◌∷◌, ◌≡◌, ◌≢◌, ◌≤◌, ◌⊎◌, Bool, Call, Entry, In, Kept, Known, LibNo, List, Move, None, Option, ReplaysFrom, Some, State, [], all_parts, ap, append-nil, arith, entries_told, eq-eqb, filter-append, inl, inr, known, known_after, length, made_by, maker, map, moves_of, option_to_list, refl, step_kept, steps_are_known, subst, sym, ℕ}
+use Rattle.std.proofs.Common.{zero, suc}
 use Rattle.std.specs.List.{filter}
-use Rattle.std.specs.Option.{option_to_list}
-use Rattle.std.proofs.lemmas.Bool.{cases_eq, cases_lt, eq-eqb, ne_eqb}
-use Rattle.std.proofs.lemmas.List.{append-nil, map-append}
+use Rattle.std.proofs.lemmas.Bool.{cases_eq, cases_lt, ne_eqb}
+use Rattle.std.proofs.lemmas.List.{map-append}
 use Rattle.std.proofs.lemmas.List.Concat.{flat_map-append}
-use Rattle.std.proofs.lemmas.List.Elements.{filter-append}
 use Rattle.trio_rights.specs.declared.rights.Creds.{Creds}
-use Rattle.trio_rights.specs.declared.rights.LibNo.{LibNo}
-use Rattle.trio_lists.specs.Lists.{In}
 use Rattle.trio_lists.proofs.Members.{In-cases}
-use Rattle.trio_nodes.specs.declared.entry.Entry.{Entry}
-use Rattle.trio_desk.specs.Calls.{Call}
-use Rattle.trio_state.specs.Kept.{Kept}
-use Rattle.trio_state.specs.Run.{Move, start}
-use Rattle.trio_state.specs.State.{IsLibrary, State}
-use Rattle.trio_laws.specs.Known.{Known, known, known_after}
+use Rattle.trio_state.specs.Run.{start}
+use Rattle.trio_state.specs.State.{IsLibrary}
 use Rattle.trio_laws.specs.history.Entries as entries
-use Rattle.trio_laws.specs.history.Replays.{ReplaysFrom}
-use Rattle.trio_laws.proofs.KnownSteps.{steps_are_known}
-use Rattle.trio_laws.proofs.Runs.{start_kept, step_kept}
+use Rattle.trio_laws.proofs.Runs.{start_kept}
 use Rattle.trio_laws.proofs.history.Grows.{step_creds}
-use Rattle.trio_turn.specs.Logs.{made_by, maker}
-use Rattle.trio_ctl.specs.Desk.{entries_told}
-use Rattle.trio_order.specs.Order.{InOrder, Happening, all_parts, calls_by, entries_in, moves_in, moves_of}
+use Rattle.trio_order.specs.Order.{InOrder, Happening, calls_by, entries_in, moves_in}
 use Rattle.trio_order.specs.OrderLaws.{ThreadsAreOrder}
 use Rattle.trio_order.proofs.Redone.{Redone, Runs, redone}
 use Rattle.trio_order.proofs.Courses.{AreQuiet, Course, Cut, Fact, Its, NotIts, Own, all_quiet, along_course, cut, none_more, whose}

@@ -1,39 +1,25 @@
 -- A call happens again in a state of which the same is known, and makes the entry that it made.
-use Rattle.std.proofs.Common.{◌≡◌, ℕ, ◌+◌, ◌≤◌, List, [], ◌∷◌, ◌++◌, length, Option, None, Some, sym, refl, ap, ◌∙◌, subst, inl, inr, arith}
-use Rattle.std.specs.Prelude.{Bool, true, false, if◌then◌else◌}
-use Rattle.std.specs.Option.{IsSomeAnd, option_to_list}
-use Rattle.trio_rights.specs.Bundle.{Bundle}
-use Rattle.trio_rights.specs.declared.rights.LibNo.{LibNo}
-use Rattle.trio_lease.specs.Shown.{Shown}
-use Rattle.trio_layout.specs.Image.{row_at}
+use Rattle.trio_order.proofs.Words.{if◌then◌else◌, ◌++◌, ◌+◌, ◌∙◌, ◌∷◌, ◌≡◌, ◌≤◌, Ask, BadMode, Beside, Bundle, BusyMode, CtlAnswer, Entry, Event, GiveBack, GivenEvent, Happens, Known, LibNo, List, ModeFault, ModeSet, Move, NoFile, NoModeMemory, None, NotOwner, Option, Outcome, ReplaysFrom, Settled, Shown, Some, State, Step, Told, [], all_back, answer_of, ap, arith, back_entries, backs_of, beside_of, does_told, entries_told, entry_of, event_of, handed_back, inl, inr, known, known_after, known_from, length, logged, mode_fault, mode_outcome, moded_to, moves_of, option_to_list, plain_state, refl, row_at, subst, sym, ℕ}
+use Rattle.std.specs.Prelude.{Bool, true, false}
+use Rattle.std.specs.Option.{IsSomeAnd}
 use Rattle.trio_nodes.specs.declared.call.Call as call
-use Rattle.trio_nodes.specs.declared.answers.ModeFault.{ModeFault}
-use Rattle.trio_nodes.specs.declared.answers.ModeFault.TheVariants.{NotLive as NoFile, NotOwner, BadMode, Busy as BusyMode, NoMemory as NoModeMemory}
 use Rattle.trio_nodes.specs.declared.call.Done as done
-use Rattle.trio_nodes.specs.declared.entry.Entry.{Entry}
-use Rattle.trio_desk.specs.Call.{Ask, Told, Grant, Allot, GiveBack, Release, Settle, SetMode, Lent, Settled, NotSettled, ModeSet, NotModeSet}
+use Rattle.trio_desk.specs.Call.{Grant, Allot, Release, Settle, SetMode, Lent, NotSettled, NotModeSet}
 use Rattle.trio_desk.specs.Out.{Parcel}
 use Rattle.trio_desk.specs.Ready.{bundle_of}
-use Rattle.trio_state.specs.Given.{GivenEvent}
 use Rattle.trio_state.specs.Grants.{opened_in}
-use Rattle.trio_state.specs.Run.{Move, Trace}
-use Rattle.trio_state.specs.State.{State, logged}
-use Rattle.trio_state.specs.Step.{Event, CtlAnswer, Step, Outcome, after_mode_fault, mode_fault, mode_outcome, moded_to}
+use Rattle.trio_state.specs.Run.{Trace}
+use Rattle.trio_state.specs.Step.{after_mode_fault}
 use Rattle.trio_state.specs.Step as step
-use Rattle.trio_laws.specs.Known.{Known, known, is_no_memory, known_after, plain_state}
-use Rattle.trio_laws.specs.history.Entries.{Beside, entry_of}
+use Rattle.trio_laws.specs.Known.{is_no_memory}
 use Rattle.trio_laws.specs.history.Entries as entries
-use Rattle.trio_laws.specs.history.Replays.{ReplaysFrom, known_from}
 use Rattle.trio_laws.specs.session.Others.{state_after}
-use Rattle.trio_laws.proofs.StateLaws.{does_told}
 use Rattle.trio_ctl.specs.Answers.{mode_fault_answer}
-use Rattle.trio_ctl.specs.Backs.{all_back, back_entries}
-use Rattle.trio_ctl.specs.Desk.{CallStep, Happens, LeaseIs, after_mode_refusal, answer_of, backs_of, beside_of, bundled_of, entries_told, event_of, handed_back}
+use Rattle.trio_ctl.specs.Desk.{CallStep, LeaseIs, after_mode_refusal, bundled_of}
 use Rattle.trio_ctl.specs.Open.{lent_by}
 use Rattle.trio_ctl.proofs.DeskSteps.{plain_step}
 use Rattle.trio_ctl.proofs.LeasesBack.{all_back_is}
 use Rattle.trio_order.proofs.Handed.{handed_is}
-use Rattle.trio_order.specs.Order.{moves_of}
 use Rattle.trio_order.proofs.Standing.{Alike, both_back, given_event}
 use Rattle.trio_order.proofs.Again.{Grew, IsBeside, entry_same, entry_tells, mode_again, moded_grew, rests}
 

@@ -1,23 +1,11 @@
 -- What is known of a state decides what a library can hand in there.
-use Rattle.std.proofs.Common.{◌≡◌, ℕ, List, [], ◌∷◌, map, sym, refl, ap, ◌∙◌, subst, inl}
-use Rattle.trio_rights.specs.declared.rights.LibNo.{LibNo}
-use Rattle.trio_rights.specs.Bundle.{Written, Bundle}
+use Rattle.trio_order.proofs.Words.{◌∙◌, ◌∷◌, ◌≡◌, Allot, AreBack, Back, Bundle, Done, Event, GivenEvent, Grant, GrantKind, In, Kept, Known, LibNo, List, Release, SetMode, Settle, Shown, State, Written, [], all_back, ap, given_back, inl, known, known_after, map, refl, step_kept, steps_are_known, subst, sym, ℕ}
 use Rattle.trio_rights.specs.Sheets.{sheet_numbers}
-use Rattle.trio_lists.specs.Lists.{In}
 use Rattle.trio_lists.proofs.Members.{In-map, map-In}
-use Rattle.trio_lease.specs.Shown.{Shown}
-use Rattle.trio_nodes.specs.declared.grant.GrantKind.{GrantKind}
 use Rattle.trio_nodes.specs.declared.grant.GrantKind.TheVariants.{Read, Hold}
-use Rattle.trio_state.specs.Given.{GivenEvent, GivenTo, HasGrant, HasNoRead, WasAllotted, WasLent}
-use Rattle.trio_state.specs.Grants.{given_back}
-use Rattle.trio_state.specs.Kept.{Kept}
-use Rattle.trio_state.specs.State.{OpenGrant, State}
-use Rattle.trio_state.specs.Step.{Event, Grant, Allot, Back, Release, Settle, SetMode, Done}
-use Rattle.trio_laws.specs.Known.{Known, known, known_after}
+use Rattle.trio_state.specs.Given.{GivenTo, HasGrant, HasNoRead, WasAllotted, WasLent}
+use Rattle.trio_state.specs.State.{OpenGrant}
 use Rattle.trio_laws.specs.OutLaws.{without_checkpoint}
-use Rattle.trio_laws.proofs.KnownSteps.{steps_are_known}
-use Rattle.trio_laws.proofs.Runs.{step_kept}
-use Rattle.trio_ctl.specs.Backs.{AreBack, all_back}
 
 -- two kept states of which the same is known
 pub record Alike (s t : State) : Type 0 where

@@ -1,23 +1,13 @@
 -- The test of the tables is the test of the files.
-use Rattle.std.proofs.Common.{◌≡◌, ℕ, zero, suc, ◌<◌, ◌≤◌, Bool, true, false, cond, eqb, not, ◌&&◌, ◌||◌, leb, ltb, List, [], ◌∷◌, Option, Some, None, sym, refl, ap, ◌∙◌, subst, inl, inr, ◌⊎◌, arith}
-use Rattle.std.specs.Prelude.{is_some}
+use Rattle.trio_proposal.proofs.Words.{◌&&◌, ◌<◌, ◌||◌, ◌∙◌, ◌∷◌, ◌≡◌, ◌≤◌, ◌⊎◌, Bool, Bundle, Core, Creds, Image, In, IsFit, List, Met, None, Option, Pick, Row, Some, [], and_from, and_parts, ap, arith, both_ways, bundle_pages, cond, eqb, false, false≢true, inl, inr, is_allowed, is_among, is_some, is_sound, is_written, leb, ltb, met_numbered, met_row, ne_eqb, not, owner_of, read_met, refl, row_at, row_may, row_met, row_of, subst, suc, survey, sym, true, zero, ℕ}
 use Rattle.std.specs.List.{list_all}
-use Rattle.std.proofs.lemmas.Bool.{and_parts, and_from, or_cases, or_left, or_right, ne_eqb, leb-true, ltb-true, false≢true, not-true, both_ways}
-use Rattle.trio_rights.specs.Row.{Row}
-use Rattle.trio_rights.specs.declared.rights.Creds.{Creds}
-use Rattle.trio_layout.specs.Core.{Core}
-use Rattle.trio_lists.specs.Lists.{In, is_among}
-use Rattle.trio_layout.specs.Sound.{is_sound}
-use Rattle.trio_layout.specs.Survey.{Met, Pick, survey, pages_of, owner_of, row_of}
-use Rattle.trio_layout.specs.Allowed.{same_row, all_up_to, keeps_rows, lists_own, has_owner, may_stand, is_allowed}
-use Rattle.trio_layout.specs.Image.{Image, IsFit, row_at}
-use Rattle.trio_rights.specs.Bundle.{Bundle, bundle_pages, is_written}
+use Rattle.std.proofs.lemmas.Bool.{or_cases, or_left, or_right, leb-true, ltb-true, not-true}
+use Rattle.trio_layout.specs.Survey.{pages_of}
+use Rattle.trio_layout.specs.Allowed.{same_row, all_up_to, keeps_rows, lists_own, has_owner, may_stand}
 use Rattle.trio_surveys.proofs.Alike.{up_to_at, same_row_is}
 use Rattle.trio_surveys.proofs.Cores.{listed_is_core}
-use Rattle.trio_surveys.proofs.Images.{row_met, met_row, read_met, met_numbered}
 use Rattle.trio_lists.proofs.Members.{list_all-In, list_all-each, is_among-In}
 use Rattle.trio_surveys.proofs.Owned.{sound_parts, owner_is}
-use Rattle.trio_proposal.specs.inner.Steps.{row_may}
 
 pub up_to_from : (p : ℕ → Bool) (n : ℕ) → ((j : ℕ) → 1 ≤ j → j ≤ n → p j ≡ true) → all_up_to p n ≡ true
 up_to_from p zero h = refl

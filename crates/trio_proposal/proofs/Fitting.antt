@@ -1,2 +1,2 @@
 -- Pages that fit an image, one after another. Cited by tests alone.
-use Rattle.std.proofs.Common.{◌-◌}
+use Rattle.trio_proposal.proofs.Words.{◌-◌}

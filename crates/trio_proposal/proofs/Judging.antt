@@ -1,32 +1,17 @@
 -- What the tables of the survey say of a bundle that is judged.
-use Rattle.std.proofs.Common.{◌≡◌, ℕ, ◌+◌, ◌-◌, ◌<◌, ◌≤◌, Bool, true, false, cond, eqb, ltb, not, ◌&&◌, ◌||◌, List, [], length, get_or, Option, Some, None, sym, refl, ap, ◌∙◌, subst, arith}
-use Rattle.std.specs.Prelude.{is_some, IsTrue}
-use Rattle.std.proofs.lemmas.Bool.{and_parts, and_from, le-ltb, false_from_ne_true, both_ways}
-use Rattle.trio_rights.specs.Row.{Row, row_in}
-use Rattle.trio_rights.specs.declared.rights.Creds.{Creds}
-use Rattle.trio_layout.specs.declared.range.CoreRange.{CoreRange}
-use Rattle.trio_layout.specs.Core.{Core}
-use Rattle.trio_lists.specs.Lists.{is_among}
-use Rattle.trio_layout.specs.Sound.{is_sound, rows_table, owners_table}
-use Rattle.trio_layout.specs.Survey.{Pick, survey, owner_of, row_of}
-use Rattle.trio_lease.specs.Bundles.{Bundled}
-use Rattle.trio_layout.specs.Accept.{is_accepted, next, with_bodies}
-use Rattle.trio_layout.specs.Allowed.{is_allowed}
-use Rattle.trio_lease.specs.Views.{bundle_in}
-use Rattle.trio_layout.specs.Image.{Image, IsFit, row_at}
-use Rattle.trio_rights.specs.Bundle.{bundle_sheets, bundle_pages, is_written}
-use Rattle.trio_layout.specs.Proposed.{proposed, proposed_pick}
-use Rattle.trio_rights.specs.Sheets.{with_pages}
+use Rattle.trio_proposal.proofs.Words.{◌&&◌, ◌+◌, ◌-◌, ◌<◌, ◌||◌, ◌∙◌, ◌≡◌, ◌≤◌, Bool, Bundled, CanBeJudged, Core, CoreRange, Creds, Image, IsFit, List, None, Option, Pick, Row, Some, [], and_from, and_parts, ap, arith, both_ways, bundle_in, bundle_pages, bundle_sheets, cond, eqb, false, get_or, image_of, is_allowed, is_among, is_some, is_sound, is_written, length, ltb, mets_below, not, owner_may, owner_of, pick_of, proposed, proposed_pick, refl, row_at, row_in, row_may, row_of, subst, survey, sym, true, with_bodies, with_pages, ℕ}
+use Rattle.std.specs.Prelude.{IsTrue}
+use Rattle.std.proofs.lemmas.Bool.{le-ltb, false_from_ne_true}
+use Rattle.trio_layout.specs.Sound.{rows_table, owners_table}
+use Rattle.trio_layout.specs.Accept.{is_accepted, next}
 use Rattle.trio_survey.specs.Answer.{core_of}
 use Rattle.trio_survey.specs.declared.whole.Found.{Found}
-use Rattle.trio_survey.specs.Picks.{pick_of}
 use Rattle.trio_surveys.proofs.Accepted.{fit_proposed}
 use Rattle.trio_surveys.proofs.Images.{TablesOf, row_at_is, owner_at}
 use Rattle.trio_lists.proofs.Tabulated.{tabulated-length}
 use Rattle.trio_proposal.specs.declared.propose.Proposal.{Proposal}
-use Rattle.trio_proposal.specs.Judgement.{CanBeJudged, image_of}
 use Rattle.trio_proposal.specs.inner.Proposes.{Proposes}
-use Rattle.trio_proposal.specs.inner.Steps.{row_may, RowsMay, owner_may, OwnersMay, mets_below}
+use Rattle.trio_proposal.specs.inner.Steps.{RowsMay, OwnersMay}
 use Rattle.trio_proposal.proofs.Allowing.{may_own, allowed_from, rows_stand, owners_stand}
 use Rattle.trio_proposal.proofs.Keeping.{live_below, written_is, root_is, kept_of, picks_are}
 use Rattle.trio_proposal.proofs.Placing.{bodies_placed}

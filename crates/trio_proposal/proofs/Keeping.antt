@@ -1,25 +1,15 @@
 -- The bodies that are kept, in the words of a proposed image.
-use Rattle.std.proofs.Common.{◌≡◌, ℕ, ◌<◌, Bool, true, false, cond, eqb, List, [], ◌∷◌, length, get_or, map, Option, Some, None, sym, refl, ap, ◌∙◌, inl, inr, arith}
-use Rattle.std.specs.Prelude.{is_some, unwrap_or}
-use Rattle.std.specs.List.{find}
-use Rattle.std.specs.Option.{option_map, option_map_or}
+use Rattle.trio_proposal.proofs.Words.{◌<◌, ◌∙◌, ◌∷◌, ◌≡◌, AreLentBodies, ArePlaced, Bool, Bundled, CanBeJudged, Core, CoreRange, Image, LentFile, List, None, Option, Row, Some, Written, [], ap, arith, bundle_in, cond, eqb, false, false≢true, find, get_or, image_of, inl, inr, is_place_of, is_some, is_written, kept_at, kept_body, length, lent_body, map, option_map, page_of, pick_of, picked_by, proposed_pick, refl, row_in, sym, true, written_in, ℕ}
+use Rattle.std.specs.Prelude.{unwrap_or}
+use Rattle.std.specs.Option.{option_map_or}
 use Rattle.std.proofs.lemmas.List.{get_or_past}
-use Rattle.std.proofs.lemmas.Bool.{false≢true, cases_lt, eqb-false}
+use Rattle.std.proofs.lemmas.Bool.{cases_lt, eqb-false}
 use mathlib.Core.Path.{fun_ext}
-use Rattle.trio_rights.specs.Row.{Row, row_in}
-use Rattle.trio_layout.specs.declared.range.CoreRange.{CoreRange}
 use Rattle.trio_layout.specs.Range.{is_core}
-use Rattle.trio_layout.specs.Core.{Core, page_of}
-use Rattle.trio_lease.specs.Shown.{LentFile}
-use Rattle.trio_lease.specs.Bundles.{Bundled}
-use Rattle.trio_lease.specs.Views.{bundle_in, written_in}
-use Rattle.trio_layout.specs.Image.{Image, settled_body}
-use Rattle.trio_rights.specs.Bundle.{Written, is_written}
-use Rattle.trio_layout.specs.Proposed.{kept_body, is_place_of, proposed_pick}
+use Rattle.trio_layout.specs.Image.{settled_body}
 use Rattle.trio_survey.specs.declared.picks.Picked.{Picked}
-use Rattle.trio_survey.specs.Picks.{pick_of, body_picked}
-use Rattle.trio_proposal.specs.Judgement.{CanBeJudged, image_of}
-use Rattle.trio_proposal.specs.inner.Steps.{lent_body, AreLentBodies, body_on, ArePlaced, kept_at, AreKept, picked_by, ArePicked}
+use Rattle.trio_survey.specs.Picks.{body_picked}
+use Rattle.trio_proposal.specs.inner.Steps.{body_on, AreKept, ArePicked}
 
 abbrev Pages : Type 0
 Pages = List (Option (List ℕ))

@@ -1,13 +1,8 @@
 -- The first lease on each file.
-use Rattle.std.proofs.Common.{◌≡◌, ℕ, ◌<◌, true, false, eqb, List, [], ◌∷◌, ◌++◌, length, get_or, set, Option, Some, None, sym, refl, ap, ◌∙◌, subst, inl, inr}
-use Rattle.std.specs.Prelude.{is_some}
-use Rattle.std.specs.List.{find}
-use Rattle.std.specs.Option.{option_map, option_or}
+use Rattle.trio_proposal.proofs.Words.{◌++◌, ◌<◌, ◌∙◌, ◌∷◌, ◌≡◌, AreLentBodies, LentFile, List, None, Option, Some, [], ap, cases_eq, eq-eqb, eqb, false, false≢true, find, get_or, inl, inr, is_some, length, lent_body, ne_eqb, option_map, refl, set, subst, sym, true, ℕ}
+use Rattle.std.specs.Option.{option_or}
 use Rattle.std.proofs.lemmas.List.{length-set, get_or-set_same, get_or-set_other}
 use Rattle.std.proofs.lemmas.List.Folds.{find-append}
-use Rattle.std.proofs.lemmas.Bool.{false≢true, cases_eq, eq-eqb, ne_eqb}
-use Rattle.trio_lease.specs.Shown.{LentFile}
-use Rattle.trio_proposal.specs.inner.Steps.{lent_body, AreLentBodies}
 
 abbrev first : List LentFile → ℕ → Option LentFile
 first leases n = find (λ (f : LentFile). eqb f.stands.ino n) leases

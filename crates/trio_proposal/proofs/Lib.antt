@@ -5,3 +5,4 @@ pub mod Allowing
 pub mod Placing
 pub mod Judging
 pub mod Fitting
+mod Words

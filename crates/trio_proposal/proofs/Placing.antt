@@ -1,26 +1,19 @@
 -- The kept bodies at their places are the bodies of all files at theirs.
-use Rattle.std.proofs.Common.{◌≡◌, ℕ, zero, suc, ◌+◌, ◌<◌, ◌≤◌, Bool, true, false, cond, eqb, leb, ◌&&◌, List, [], ◌∷◌, ◌++◌, length, get_or, set, Option, Some, None, ◌*◌, add-one, sym, refl, ap, ◌∙◌, subst, inl, inr, ◌⊎◌, arith}
+use Rattle.trio_proposal.proofs.Words.{◌&&◌, ◌++◌, ◌+◌, ◌<◌, ◌∙◌, ◌∷◌, ◌≡◌, ◌≤◌, ◌⊎◌, Bool, Bundle, Core, Creds, Image, In, In-left, In-right, IsFit, List, Met, None, Option, Pick, Row, Some, [], and_from, ap, arith, cases_eq, cond, eq-eqb, eqb, false, get_or, inl, inr, is_allowed, is_place_of, is_sound, kept_body, leb, length, met_numbered, met_row, mets_below, page_of, proposed, proposed_pick, read_met, refl, row_at, row_in, row_met, set, subst, suc, survey, sym, true, with_bodies, zero, ℕ}
+use Rattle.std.proofs.Common.{◌*◌, add-one}
 use Rattle.std.specs.Prelude.{◌≢◌}
-use Rattle.std.proofs.lemmas.Bool.{and_from, cases_eq, eq-eqb, leb-false, lt-leb}
+use Rattle.std.proofs.lemmas.Bool.{leb-false, lt-leb}
 use Rattle.std.proofs.lemmas.List.{set-set}
-use Rattle.trio_rights.specs.Row.{Row, row_in}
-use Rattle.trio_rights.specs.declared.rights.Creds.{Creds}
-use Rattle.trio_layout.specs.Core.{Core, page_of}
 use Rattle.trio_layout.specs.Entries.{Listed, body_in_slot}
-use Rattle.trio_lists.specs.Lists.{In}
-use Rattle.trio_layout.specs.Sound.{is_sound}
-use Rattle.trio_layout.specs.Survey.{Met, Pick, survey, children, row_by, met_in}
+use Rattle.trio_layout.specs.Survey.{children, row_by, met_in}
 use Rattle.trio_page.specs.Field.{with_part}
-use Rattle.trio_layout.specs.Accept.{with_bodies, with_body_at}
-use Rattle.trio_layout.specs.Allowed.{is_allowed}
-use Rattle.trio_layout.specs.Image.{Image, IsFit, row_at, body_at_place}
-use Rattle.trio_rights.specs.Bundle.{Bundle}
-use Rattle.trio_layout.specs.Proposed.{kept_body, is_place_of, proposed, proposed_pick}
-use Rattle.trio_surveys.proofs.Images.{row_met, met_row, read_met, met_numbered, root_or_listed}
-use Rattle.trio_lists.proofs.Members.{In-cases, In-left, In-right, flat_map-In}
+use Rattle.trio_layout.specs.Accept.{with_body_at}
+use Rattle.trio_layout.specs.Image.{body_at_place}
+use Rattle.trio_surveys.proofs.Images.{root_or_listed}
+use Rattle.trio_lists.proofs.Members.{In-cases, flat_map-In}
 use Rattle.trio_surveys.proofs.AnyOrder.{bodies_in_any_order}
 use Rattle.trio_surveys.proofs.Tree.{child_from, child_placed, picked_met}
-use Rattle.trio_proposal.specs.inner.Steps.{met_by, mets_below}
+use Rattle.trio_proposal.specs.inner.Steps.{met_by}
 use Rattle.trio_proposal.proofs.Allowing.{row_stays}
 
 abbrev Pages : Type 0

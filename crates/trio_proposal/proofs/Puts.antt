@@ -1,26 +1,17 @@
 -- Pages that are put in place and marked, one list after another.
-use Rattle.std.proofs.Common.{◌≡◌, ℕ, zero, suc, ◌+◌, ◌<◌, ◌≤◌, Bool, List, [], ◌∷◌, ◌++◌, length, get_or, take, map, Option, Some, None, sym, refl, ap, ◌∙◌, subst, inl, inr, append_assoc}
+use Rattle.trio_proposal.proofs.Words.{◌++◌, ◌+◌, ◌<◌, ◌∙◌, ◌∷◌, ◌≡◌, ◌≤◌, ArePut, AreWithin, Bool, Bundled, In, In-left, In-right, LentFile, LentPage, List, MarksJust, None, Option, Sheet, Some, Written, [], ap, bundle_in, bundle_sheets, flat_map, fresh_sheet, get_or, inl, inr, lease_sheets, length, lent_sheet, map, option_map, refl, sheet_numbers, subst, suc, sym, take, with_pages, written_in, zero, ℕ}
+use Rattle.std.proofs.Common.{append_assoc}
 use Rattle.std.specs.Prelude.{slice_get}
-use Rattle.std.specs.Option.{option_map}
 use Rattle.std.proofs.lemmas.List.{append-nil, map-append, take_more}
 use Rattle.std.proofs.lemmas.List.Folds.{flat_map-map}
-use Rattle.std.specs.List.{flat_map}
 use Rattle.std.proofs.lemmas.Grind.{flat_map-append}
 use Rattle.std.proofs.lemmas.Option.{slice_get_within, slice_get_cases, get_or_from_slice_get, slice_get-get_or, slice_get-map}
 use Rattle.trio_page.specs.declared.page.PageNo.{PageNo}
-use Rattle.trio_lease.specs.declared.parts.LentPage.{LentPage}
 use Rattle.trio_lease.specs.declared.parts.FreshParts.{FreshParts}
-use Rattle.trio_lease.specs.Shown.{LentFile, page_at, no_at}
-use Rattle.trio_lease.specs.Bundles.{Bundled}
-use Rattle.trio_lists.specs.Lists.{In}
-use Rattle.trio_lists.specs.Marked.{MarksJust}
-use Rattle.trio_lease.specs.Views.{bundle_in, fresh_sheet, lent_sheet, written_in}
-use Rattle.trio_rights.specs.Bundle.{Written, bundle_sheets}
-use Rattle.trio_rights.specs.Sheets.{Sheet, sheet_numbers, with_pages}
+use Rattle.trio_lease.specs.Shown.{page_at, no_at}
 use Rattle.trio_surveys.proofs.Sheets.{with_pages-append}
 use Rattle.trio_surveys.proofs.SheetLaws.{length-with_pages}
-use Rattle.trio_lists.proofs.Members.{In-flat, In-left, In-right}
-use Rattle.trio_proposal.specs.inner.Steps.{ArePut, AreWithin, lease_sheets}
+use Rattle.trio_lists.proofs.Members.{In-flat}
 
 abbrev Pages : Type 0
 Pages = List (Option (List ℕ))

@@ -1,28 +1,17 @@
 -- What comes of an answer of the desk, by cases of it.
-use Rattle.std.proofs.Common.{◌≡◌, ℕ, ◌+◌, ◌<◌, ◌≤◌, leb, ltb, length, true, false, eqb, not, List, [], ◌∷◌, ◌++◌, None, Some, refl, sym, ap, ◌∙◌, subst, inl, inr, Ok, arith}
+use Rattle.trio_raw.proofs.Words.{◌++◌, ◌+◌, ◌<◌, ◌∙◌, ◌∷◌, ◌≡◌, ◌≤◌, FreshParts, Given, Has, HasLeases, In, In-right, InoParts, IsClosed, LibNo, LibOut, List, NoReleaseMemory, None, NotJudged, Ok, OnList, OutAlike, Parcel, Shown, Sizes, Some, TellsClosed, [], and_parts, ap, are_new, are_new-fewer, arith, eqb, eqb-true, false, find-In, has_read, inl, ino_numbers, inr, is_among, keeps_allotted, leb, length, ltb, ltb-true, not, page_numbers, read_on, refl, subst, sym, true, with_allotted, with_given, with_reads, ℕ}
 use Rattle.std.specs.Prelude.{is_some}
-use Rattle.std.proofs.lemmas.Bool.{and_parts, eqb-true, ltb-true}
 use Rattle.std.proofs.lemmas.List.{length-map}
 use Rattle.std.specs.List.{filter, flat_map}
-use Rattle.trio_lists.specs.Lists.{In, are_new, is_among}
-use Rattle.trio_lists.proofs.Filters.{find-In}
-use Rattle.trio_lists.proofs.Members.{In-right}
-use Rattle.trio_lists.proofs.New.{are_new-fewer}
-use Rattle.trio_lease.specs.Shown.{Shown}
-use Rattle.trio_rights.specs.declared.rights.LibNo.{LibNo}
 use Rattle.trio_nodes.specs.declared.answers.ReleaseFault.{ReleaseFault}
-use Rattle.trio_nodes.specs.declared.answers.ReleaseFault.TheVariants.{NotClosed as NotClosedParcel, NoMemory as NoReleaseMemory}
+use Rattle.trio_nodes.specs.declared.answers.ReleaseFault.TheVariants.{NotClosed as NotClosedParcel}
 use Rattle.trio_nodes.specs.declared.entry.AllotAnswer.{AllotAnswer}
 use Rattle.trio_nodes.specs.declared.entry.AllotAnswer.TheVariants.{Given as GivenAnswer}
 use Rattle.trio_lease.specs.declared.fresh.Allotted.{Allotted}
-use Rattle.trio_lease.specs.declared.parts.FreshParts.{FreshParts}
-use Rattle.trio_lease.specs.declared.parts.InoParts.{InoParts}
-use Rattle.trio_desk.specs.Contents.{AreWithinLimits, Sizes}
-use Rattle.trio_desk.specs.Out.{AreRising, HasWanted, LibOut, OutAlike, Parcel, IsClosed, IsFreshAllotment, ino_numbers, numbers_of_file, page_numbers, pages_out, with_allotted, without_reads}
-use Rattle.trio_desk.specs.Call.{Given, NotJudged, TellsClosed}
-use Rattle.trio_raw.specs.Has.{Has, HasLeases, OnList, has_read, keeps_allotted, read_on, with_reads, without_read}
+use Rattle.trio_desk.specs.Contents.{AreWithinLimits}
+use Rattle.trio_desk.specs.Out.{AreRising, HasWanted, IsFreshAllotment, numbers_of_file, pages_out, without_reads}
+use Rattle.trio_raw.specs.Has.{without_read}
 use Rattle.trio_raw.specs.Asked.{AfterAllot}
-use Rattle.trio_raw.specs.inner.Stock.{with_given}
 use Rattle.trio_lease.proofs.Numbered.{found_among}
 use Rattle.trio_raw.proofs.Places.{without-same}
 use Rattle.trio_raw.proofs.Standing.{stands-allotted}

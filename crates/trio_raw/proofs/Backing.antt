@@ -1,16 +1,8 @@
 -- Read leases that go back, the last one first.
-use Rattle.std.proofs.Common.{◌≡◌, ℕ, true, List, [], ◌∷◌, ◌++◌, refl, sym, ap, ◌∙◌, subst, inl}
-use Rattle.std.proofs.lemmas.Bool.{and_parts}
-use Rattle.std.proofs.lemmas.List.{map-append}
-use Rattle.trio_lease.specs.Shown.{Shown}
-use Rattle.trio_lists.specs.Lists.{In, are_new}
-use Rattle.trio_lists.proofs.Marked.{are_new-append}
-use Rattle.trio_lists.proofs.Members.{In-left, In-map, In-right}
+use Rattle.trio_raw.proofs.Words.{◌++◌, ◌∙◌, ◌∷◌, ◌≡◌, Calls, Has, In, In-left, In-map, In-right, LibOut, List, OnList, Shown, [], and_parts, ap, are_new, are_new-append, inl, map-append, read_numbers, refl, subst, sym, true, with_reads, without_read, ℕ}
 use Rattle.trio_lists.proofs.New.{are_new-before}
-use Rattle.trio_desk.specs.Out.{LibOut, without_read}
 use Rattle.trio_desk.specs.Call.{Ask, Told}
-use Rattle.trio_desk.specs.Calls.{Call, Calls}
-use Rattle.trio_raw.specs.Has.{Has, OnList, read_numbers, with_reads}
+use Rattle.trio_desk.specs.Calls.{Call}
 use Rattle.trio_raw.proofs.Standing.{stands-left}
 
 -- one call more

@@ -1,22 +1,19 @@
 -- What a write keeps of the things of a library.
-use Rattle.std.proofs.Common.{◌≡◌, ℕ, zero, suc, ◌+◌, ◌≤◌, Bool, true, false, cond, eqb, leb, List, [], ◌∷◌, length, Option, Some, None, sym, refl, ap, ◌∙◌, subst, inl, inr, ◌⊎◌}
-use Rattle.std.specs.Prelude.{map, slice_get, slice_set}
-use Rattle.std.specs.List.{position}
+use Rattle.trio_raw.proofs.Words.{◌+◌, ◌∙◌, ◌∷◌, ◌≡◌, ◌≤◌, ◌⊎◌, AreWhole, Bool, Fresh, FreshParts, Has, HasLeases, In, IsLent, LentFile, LibOut, List, None, OnList, Option, SameFile, Some, [], ap, are_new, cond, eqb, false, file_numbers, inl, inr, leb, length, map, page_numbers, position, refl, slice_get, subst, suc, sym, true, ℕ}
+use Rattle.std.proofs.Common.{zero}
+use Rattle.std.specs.Prelude.{slice_set}
 use Rattle.std.specs.Option.{option_map}
 use Rattle.std.proofs.lemmas.Bool.{leb-true}
 use Rattle.std.proofs.lemmas.Option.{cond_some, get_or_from_slice_get}
 use Rattle.std.proofs.Math.Seq.{map-set_same}
 use Rattle.trio_page.specs.Field.{with_part}
 use Rattle.trio_page.proofs.Fields.{length-with_part}
-use Rattle.trio_lists.specs.Lists.{In, are_new}
 use Rattle.trio_lists.proofs.Members.{option_and_then-Some}
 use Rattle.trio_nodes.specs.declared.spot.Spot.{Spot}
-use Rattle.trio_nodes.specs.declared.spot.Spot.TheVariants.{Body, Index, Block, Fresh}
-use Rattle.trio_lease.specs.Shown.{LentFile}
-use Rattle.trio_lease.specs.declared.parts.FreshParts.{FreshParts}
+use Rattle.trio_nodes.specs.declared.spot.Spot.TheVariants.{Body, Index, Block}
 use Rattle.trio_lease.specs.declared.parts.LentPage.{LentPage}
-use Rattle.trio_desk.specs.Out.{LibOut, AreWhole, IsAllotted, IsLent, SameFile, file_numbers, page_numbers}
-use Rattle.trio_raw.specs.Has.{Has, HasLeases, OnList, changed_at, changed_first, poked, poked_block, poked_block_page, poked_body, poked_bytes, poked_fresh, poked_index, poked_index_page, with_file, with_fresh}
+use Rattle.trio_desk.specs.Out.{IsAllotted}
+use Rattle.trio_raw.specs.Has.{changed_at, changed_first, poked, poked_block, poked_block_page, poked_body, poked_bytes, poked_fresh, poked_index, poked_index_page, with_file, with_fresh}
 use Rattle.trio_raw.proofs.Leases.{leases_same}
 
 map_some : {X Y : Type 0} (f : X → Y) (o : Option X) (y : Y) → option_map f o ≡ Some y → (x : X) × (o ≡ Some x) × (f x ≡ y)

@@ -1,19 +1,8 @@
 -- A library has all leases and holds that are out, through all that its desk answers.
-use Rattle.std.proofs.Common.{◌≡◌, ℕ, true, not, List, [], ◌∷◌, ◌++◌, sym, refl, ap, ◌∙◌, subst, inl, inr}
-use Rattle.std.specs.Prelude.{map}
-use Rattle.std.proofs.lemmas.Bool.{both_ways, not-true}
-use Rattle.std.proofs.lemmas.List.{map-append}
-use Rattle.trio_rights.specs.declared.rights.LibNo.{LibNo}
-use Rattle.trio_lease.specs.Shown.{LentFile, Shown}
-use Rattle.trio_lease.specs.declared.lease.Lease.{Lease}
-use Rattle.trio_lease.specs.declared.lease.Lease.TheVariants.{Write, Read, Hold}
-use Rattle.trio_lease.specs.declared.parts.HoldParts.{HoldParts}
-use Rattle.trio_lists.specs.Lists.{In, is_among, are_new}
+use Rattle.trio_raw.proofs.Words.{◌++◌, ◌∙◌, ◌∷◌, ◌≡◌, Has, HasLeases, Hold, HoldParts, In, In-cases, In-left, In-map, In-right, IsFreshLease, Lease, LentFile, LibNo, LibOut, List, OutAlike, Read, Shown, Sizes, Write, [], ap, are_new, both_ways, file_numbers, has_all_of, hold_numbers, inl, inr, is_among, keeps_lease, map, map-In, map-append, named, not, parcel_named, refl, rest_of, subst, sym, true, with_lease, with_parcel, without_all, without_parcel, ℕ}
+use Rattle.std.proofs.lemmas.Bool.{not-true}
 use Rattle.trio_lists.proofs.Filters.{filter-In}
-use Rattle.trio_lists.proofs.Members.{In-cases, In-is_among, In-left, In-map, In-right, map-In}
-use Rattle.trio_desk.specs.Contents.{Sizes}
-use Rattle.trio_desk.specs.Out.{LibOut, OutAlike, IsFreshLease, file_numbers, hold_numbers, with_lease, without_parcel}
-use Rattle.trio_raw.specs.Has.{Has, HasLeases, has_all_of, keeps_lease, named, parcel_named, rest_of, with_parcel, without_all}
+use Rattle.trio_lists.proofs.Members.{In-is_among}
 use Rattle.trio_raw.proofs.Once.{left_or_named}
 use Rattle.trio_raw.proofs.Names.{names_once}
 

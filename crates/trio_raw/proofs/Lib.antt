@@ -6,3 +6,4 @@ pub mod Leases
 pub mod Kept
 pub mod Backing
 pub mod Asking
+mod Words

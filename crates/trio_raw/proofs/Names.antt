@@ -1,12 +1,6 @@
 -- Names of things that a library has.
-use Rattle.std.proofs.Common.{◌≡◌, ℕ, Bool, true, ◌&&◌, List, []}
-use Rattle.std.specs.Prelude.{map}
-use Rattle.std.specs.List.{list_all}
-use Rattle.std.proofs.lemmas.Bool.{and_parts}
-use Rattle.trio_lists.specs.Lists.{are_new, is_among}
-use Rattle.trio_lease.specs.declared.parts.FreshParts.{FreshParts}
-use Rattle.trio_lease.specs.declared.parts.InoParts.{InoParts}
-use Rattle.trio_raw.specs.Has.{Has, are_there, has_all_of, may_hand_in}
+use Rattle.trio_raw.proofs.Words.{◌&&◌, ◌≡◌, Bool, FreshParts, Has, InoParts, List, [], and_parts, are_new, has_all_of, is_among, list_all, map, true, ℕ}
+use Rattle.trio_raw.specs.Has.{are_there, may_hand_in}
 
 -- nothing that is named is named twice
 pub names_once : (has : Has) (inos pages numbers : List ℕ) → has_all_of has inos pages numbers ≡ true → (are_new [] inos ≡ true) × (are_new [] pages ≡ true) × (are_new [] numbers ≡ true)

@@ -1,16 +1,7 @@
 -- What is named and what is left, where no number stands twice.
-use Rattle.std.proofs.Common.{◌≡◌, ℕ, true, not, eqb, List, [], ◌∷◌, ◌++◌, Option, Some, None, sym, refl, ap, ◌∙◌, subst, inl, inr, ◌⊎◌}
-use Rattle.std.specs.Prelude.{map}
-use Rattle.std.specs.List.{find, cons_option}
-use Rattle.std.proofs.lemmas.Bool.{and_parts, and_from, eqb-true, eq-eqb, both_ways, cases_Bool, not_from_false}
-use Rattle.std.proofs.lemmas.List.{map-append}
-use Rattle.trio_lists.specs.Lists.{In, is_among, are_new}
-use Rattle.trio_raw.specs.Has.{named, without, without_all}
-use Rattle.trio_lists.proofs.Filters.{find-In}
-use Rattle.trio_lists.proofs.New.{are_new-first, are_new-fewer, is_among-not}
+use Rattle.trio_raw.proofs.Words.{◌++◌, ◌∙◌, ◌∷◌, ◌≡◌, ◌⊎◌, In, In-cases, In-left, In-map, List, None, Option, Some, [], and_from, and_parts, ap, are_new, are_new-append, are_new-fewer, are_new-first, both_ways, cases_Bool, cons_option, eqb, eqb-true, find, find-In, inl, inr, is_among, is_among-not, map, map-In, map-append, named, not, not_from_false, refl, subst, sym, true, without, without_all, ℕ}
+use Rattle.std.proofs.lemmas.Bool.{eq-eqb}
 use Rattle.trio_lists.proofs.Gathered.{new_beside}
-use Rattle.trio_lists.proofs.Marked.{are_new-append}
-use Rattle.trio_lists.proofs.Members.{In-cases, In-left, In-map, map-In}
 use Rattle.trio_raw.proofs.Places.{named-first}
 
 -- numbers that stand once, and more that stand once and apart

@@ -1,14 +1,11 @@
 -- The first things of their numbers, and steps through the numbers that are named.
-use Rattle.std.proofs.Common.{◌≡◌, ℕ, suc, ◌+◌, ◌<◌, ◌≤◌, Bool, true, false, cond, ◌&&◌, eqb, ltb, List, [], ◌∷◌, ◌++◌, length, drop, get_or, Some, None, sym, refl, ap, ◌∙◌, subst, inl, inr, arith}
-use Rattle.std.specs.Prelude.{slice_get}
-use Rattle.std.specs.List.{find, list_all, cons_option, position, position_or_len, remove}
-use Rattle.std.proofs.lemmas.Bool.{eqb-true, ne_eqb, ltb-true, ltb-false, cases_Bool}
-use Rattle.std.proofs.lemmas.List.{append_assoc, drop_more}
+use Rattle.trio_raw.proofs.Words.{◌&&◌, ◌++◌, ◌+◌, ◌<◌, ◌∙◌, ◌∷◌, ◌≡◌, ◌≤◌, Bool, In, List, None, Some, [], ap, append_assoc, are_new, are_new-first, arith, cases_Bool, cond, cons_option, drop, eqb, eqb-true, false, find, inl, inr, length, list_all, ltb, ltb-true, named, ne_eqb, position, refl, slice_get, subst, suc, sym, true, without, without_all, ℕ}
+use Rattle.std.proofs.Common.{get_or}
+use Rattle.std.specs.List.{position_or_len, remove}
+use Rattle.std.proofs.lemmas.Bool.{ltb-false}
+use Rattle.std.proofs.lemmas.List.{drop_more}
 use Rattle.std.proofs.lemmas.List.Folds.{find_at}
 use Rattle.std.proofs.lemmas.Option.{slice_get-get_or, slice_get_past}
-use Rattle.trio_lists.specs.Lists.{In, are_new}
-use Rattle.trio_raw.specs.Has.{named, without, without_all}
-use Rattle.trio_lists.proofs.New.{are_new-first}
 
 -- ---- the first that passes a test
 

@@ -1,24 +1,10 @@
 -- What a library has stands on its desk's list, through all that the desk answers.
-use Rattle.std.proofs.Common.{◌≡◌, ℕ, true, not, eqb, List, [], ◌∷◌, ◌++◌, length, sym, refl, ap, ◌∙◌, subst, inl, inr}
-use Rattle.std.specs.Prelude.{map}
-use Rattle.std.proofs.lemmas.Bool.{and_from, not_from_false, ne_eqb}
-use Rattle.std.proofs.lemmas.List.{map-append, map-id}
+use Rattle.trio_raw.proofs.Words.{◌++◌, ◌∙◌, ◌∷◌, ◌≡◌, AreWhole, FreshParts, Has, Hold, HoldParts, In, In-cases, In-left, In-map, In-right, InoParts, IsFreshLease, IsLent, Lease, LentFile, LibNo, LibOut, List, OnList, OutAlike, Read, SameFile, Shown, Sizes, WasGiven, Write, [], and_from, ap, are_new, are_new-fewer, eqb, file_numbers, has_all_of, hold_numbers, inl, ino_numbers, inr, is_among, is_among-not, keeps_allotted, keeps_lease, length, map, map-In, map-append, ne_eqb, not, not_from_false, page_numbers, parcel_named, read_numbers, refl, rest_of, subst, sym, true, whole_parcel, with_allotted, with_lease, with_parcel, with_reads, without, without_parcel, without_read, ℕ}
+use Rattle.std.proofs.lemmas.List.{map-id}
 use Rattle.std.proofs.lemmas.Simd.{map-map}
 use Rattle.trio_page.proofs.Cursor.{length-zeros}
-use Rattle.trio_rights.specs.declared.rights.LibNo.{LibNo}
-use Rattle.trio_lease.specs.Shown.{LentFile, Shown}
-use Rattle.trio_lease.specs.declared.lease.Lease.{Lease}
-use Rattle.trio_lease.specs.declared.lease.Lease.TheVariants.{Write, Read, Hold}
-use Rattle.trio_lease.specs.declared.parts.HoldParts.{HoldParts}
-use Rattle.trio_lease.specs.declared.parts.FreshParts.{FreshParts}
-use Rattle.trio_lease.specs.declared.parts.InoParts.{InoParts}
-use Rattle.trio_lists.specs.Lists.{In, is_among, are_new}
 use Rattle.trio_lists.proofs.Filters.{In-filter}
-use Rattle.trio_lists.proofs.Members.{In-cases, In-left, In-map, In-right, map-In}
-use Rattle.trio_lists.proofs.New.{are_new-fewer, is_among-not}
-use Rattle.trio_desk.specs.Contents.{Sizes}
-use Rattle.trio_desk.specs.Out.{AreWhole, LibOut, OutAlike, IsFreshLease, IsLent, SameFile, WasGiven, file_numbers, files_out, hold_numbers, ino_numbers, new_ino, page_numbers, with_allotted, with_lease, without_parcel, without_read, zero_page}
-use Rattle.trio_raw.specs.Has.{Has, OnList, has_all_of, keeps_allotted, keeps_lease, parcel_named, read_numbers, rest_of, whole_parcel, with_parcel, with_reads, without}
+use Rattle.trio_desk.specs.Out.{files_out, new_ino, zero_page}
 use Rattle.trio_raw.specs.Has.{without_read as has_without_read}
 use Rattle.trio_raw.proofs.Once.{back_in, back_once, gone, left_unnamed, named_in, named_once, once_more, without_all_in, without_all_once, without_in, without_new}
 use Rattle.trio_raw.proofs.Names.{names_once}

@@ -1,63 +1,17 @@
 -- In a script of one honest library each open grant is its own, and so none of its calls ends busy.
-use Rattle.std.proofs.Common.{◌≡◌, ◌≤◌, ◌<◌, ℕ, not, Bool, true, false, ◌&&◌, eqb, List, [], ◌∷◌, ◌++◌, length, map, get_or, set, Option, Some, None, sym, refl, ap, ◌∙◌, subst, inl, inr, arith}
-use Rattle.std.proofs.lemmas.List.{append-nil}
-use Rattle.std.specs.Prelude.{◌||◌, MatchBool, if◌then◌else◌, is_some, nat_lt, slice_get}
-use Rattle.std.specs.List.{filter}
-use Rattle.std.specs.Option.{option_map}
-use Rattle.trio_rights.specs.Bundle.{Bundle}
-use Rattle.trio_rights.specs.Row.{Row}
-use Rattle.trio_rights.specs.declared.rights.LibNo.{LibNo}
-use Rattle.trio_rights.specs.declared.rights.Mode.{Mode}
-use Rattle.trio_lists.specs.Lists.{In}
-use Rattle.trio_lists.proofs.Filters.{filter-In}
-use Rattle.trio_lists.proofs.Members.{In-cases, In-map, map-In}
-use Rattle.trio_lease.specs.Shown.{Shown}
-use Rattle.trio_nodes.specs.Nodes.{Nodes}
-use Rattle.trio_nodes.specs.Walk.{Path}
-use Rattle.trio_nodes.specs.GrantKinds.{is_read}
-use Rattle.trio_nodes.specs.declared.grant.Holder.{Holder}
-use Rattle.trio_nodes.specs.declared.grant.GrantKind.{GrantKind}
-use Rattle.trio_nodes.specs.declared.answers.GrantFault.{GrantFault}
-use Rattle.trio_nodes.specs.declared.answers.GrantFault.TheVariants.{NotLive, Denied, NoParent, Busy as BusyGrant}
-use Rattle.trio_nodes.specs.declared.answers.ModeFault.{ModeFault}
-use Rattle.trio_nodes.specs.declared.answers.ModeFault.TheVariants.{NotLive as NotLiveFile, NotOwner, BadMode, Busy as BusyMode, NoMemory as NoModeMemory}
+use Rattle.trio_runner.proofs.Words.{if◌then◌else◌, ◌&&◌, ◌++◌, ◌<◌, ◌∙◌, ◌∷◌, ◌≡◌, ◌≤◌, Again, Allot, AreMoves, Ask, AtStart, BadMode, BeginsWith, Begun, Bool, BreaksOff, Bundle, Busy, BusyGrant, BusyMode, Call, CallLine, Called, Calls, Chmod, ChmodCalled, ChmodTried, Comes, CtlAnswer, Denied, DeskSeen, DirTried, EndAnswer, Ends, EndsAs, EndsHandedIn, EndsModed, EntryCalled, Event, FileCalled, FileTried, GiveBack, GivesUp, Grant, GrantFault, GrantKind, HandsIn, Happens, Heard, Holder, Honest, HonestComes, HonestLine, Image, In, In-cases, In-map, InSession, IsAccepted, IsRefused, LeftOut, LibNo, LineAnswer, List, MatchBool, Mode, ModeFault, ModeSet, Move, NoMemory, NoModeMemory, NoParent, Nodes, None, NotLent, NotLive, NotModeSet, NotOwner, NotSettled, Noted, Notes, Once, OpenGrant, Option, Outcome, Parted, Path, Placed, Players, Plays, Release, Replied, Row, Says, SaysHonest, ScriptLib, ScriptLine, SessionCalled, SessionSeen, SetMode, SetsMode, Settle, SettleLine, SettledAll, Settles, Share, Shown, Some, State, Step, TakesTurn, Things, Told, Tried, TryEnds, Turn, TurnComes, Unbegun, Unsettled, [], all_back, answer_of, ap, append-nil, arith, bundle_of, creds_of, eqb, event_of, false, filter, filter-In, get_or, given_back, grant_fault, granted_to, grants_after, handed_back, inl, inr, is_dir_call, is_in_bundle, is_read, is_some, length, lent_part, lent_to, map, map-In, mode_ask, mode_fault, moded_to, nat_lt, not, nothing, opened, option_map, refl, row_at, sees, set, share_of, slice_get, subst, sym, told_outcome, told_to, true, turns_of, unnoted, untold, with_answer, with_end, ℕ}
+use Rattle.std.specs.Prelude.{◌||◌}
+use Rattle.trio_nodes.specs.declared.answers.ModeFault.TheVariants.{NotLive as NotLiveFile}
 use Rattle.trio_nodes.specs.declared.call.Call as call
-use Rattle.trio_nodes.specs.declared.call.Call.TheVariants.{Chmod}
 use Rattle.trio_nodes.specs.declared.call.Reply as reply
-use Rattle.trio_layout.specs.Image.{Image, row_at}
-use Rattle.trio_desk.specs.Call.{Ask, DeskSeen, Told, Grant, Allot, GiveBack, Release, Settle, SetMode, NotLent, NotSettled, ModeSet, NotModeSet, Settled as SettledAll}
-use Rattle.trio_desk.specs.Calls.{Call, Calls}
-use Rattle.trio_desk.specs.Ready.{bundle_of}
-use Rattle.trio_state.specs.Bundles.{Ends as BundleEnds, grants_after, is_in_bundle, lent_part}
-use Rattle.trio_state.specs.Grants.{denied_by, denied_or, excluding, given_back, grant_fault, holder_of, lacks_parent, opened}
-use Rattle.trio_state.specs.Run.{Move}
-use Rattle.trio_state.specs.State.{OpenGrant, State, creds_of}
-use Rattle.trio_state.specs.Step.{CtlAnswer, Event, Step, Parted, IsAccepted, IsRefused, granted_to, library_of, mode_fault, moded_to}
+use Rattle.trio_state.specs.Bundles.{Ends as BundleEnds}
+use Rattle.trio_state.specs.Grants.{denied_by, denied_or, excluding, holder_of, lacks_parent}
+use Rattle.trio_state.specs.Step.{library_of}
 use Rattle.trio_state.specs.Step as step
 use Rattle.trio_laws.proofs.Cases.{after_allot, after_no_grant, after_no_mode}
-use Rattle.trio_ctl.specs.Backs.{all_back}
-use Rattle.trio_ctl.specs.Desk.{Happens, after_mode_refusal, answer_of, event_of, handed_back}
-use Rattle.trio_raw.specs.Has.{nothing}
-use Rattle.trio_session.specs.Seen.{SessionSeen}
-use Rattle.trio_walk.specs.Asks.{Called, Settles, Tried, TryEnds, Once, Unsettled, Again, GivesUp, LeftOut}
-use Rattle.trio_walk.specs.declared.outcome.Outcome.{Outcome}
-use Rattle.trio_walk.specs.declared.outcome.Outcome.TheVariants.{Replied, Busy, NoMemory}
-use Rattle.trio_calls_file.specs.Asks.{FileCalled, FileTried}
-use Rattle.trio_calls_dir.specs.Asks.{DirTried, EntryCalled}
-use Rattle.trio_calls_dir.specs.Chmods.{BreaksOff, ChmodCalled, ChmodTried, Begun, Comes, EndsAs, EndsHandedIn, EndsModed, HandsIn, SetsMode, Unbegun, lent_to, mode_ask}
-use Rattle.trio_script.specs.declared.Lines.TheVariants.{Honest}
-use Rattle.trio_script.specs.declared.ScriptLib.{ScriptLib}
-use Rattle.trio_script.specs.declared.ScriptLine.{ScriptLine}
-use Rattle.trio_script.specs.declared.honest.HonestLine.{HonestLine}
-use Rattle.trio_script.specs.declared.honest.HonestLine.TheVariants.{Call as CallLine, Settle as SettleLine}
-use Rattle.trio_report.specs.declared.answer.LineAnswer.{LineAnswer}
+use Rattle.trio_ctl.specs.Desk.{after_mode_refusal}
 use Rattle.trio_report.specs.declared.answer.LineAnswer.TheVariants as answered
-use Rattle.trio_report.specs.declared.report.EndAnswer.{EndAnswer}
 use Rattle.trio_report.specs.declared.report.EndAnswer.TheVariants.{Settled}
-use Rattle.trio_runner.specs.Honest.{HonestComes, Noted, Notes, SessionCalled, sees, told_outcome, unnoted, is_dir_call}
-use Rattle.trio_runner.specs.Moves.{AreMoves}
-use Rattle.trio_runner.specs.Rounds.{Placed, Turn, Says, SaysHonest, Ends, turns_of}
-use Rattle.trio_runner.specs.Play.{AtStart, BeginsWith, Heard, InSession, Players, Plays, Share, TakesTurn, Things, TurnComes, share_of, told_to, untold, with_answer, with_end}
 use Rattle.trio_runner.specs.PlayLaws.{PlayedAlone}
 use Rattle.trio_runner.proofs.Held.{noted_of, same_library}
 use Rattle.trio_runner.proofs.Orders.{Within, turns_within}

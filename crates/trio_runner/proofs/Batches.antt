@@ -1,50 +1,15 @@
 -- The entries of a session's calls, and the calls that they tell.
-use Rattle.std.proofs.Common.{◌≡◌, ℕ, Bool, true, false, List, [], ◌∷◌, ◌++◌, length, map, Some, None, Ok, sym, refl, ap, ◌∙◌, subst, inl, inr}
-use Rattle.std.specs.Prelude.{MatchBool}
-use Rattle.std.specs.List.{AllByRecursion, flat_map}
-use Rattle.std.proofs.lemmas.Grind.{flat_map-append}
-use Rattle.std.proofs.lemmas.List.{append-nil, append_assoc}
-use Rattle.trio_lists.specs.Lists.{In}
-use Rattle.trio_lists.proofs.Members.{In-cases}
-use Rattle.trio_rights.specs.declared.rights.LibNo.{LibNo}
-use Rattle.trio_lease.specs.Shown.{Shown}
-use Rattle.trio_nodes.specs.declared.answers.GrantFault.TheVariants.{NotLive, Denied, NoParent, Busy as BusyGrant, NoMemory as NoGrantMemory}
-use Rattle.trio_nodes.specs.declared.answers.AllotFault.TheVariants.{NoPages, NoInodes, NoMemory as NoAllotMemory}
+use Rattle.trio_runner.proofs.Words.{◌++◌, ◌∙◌, ◌∷◌, ◌≡◌, Again, AllByRecursion, Allot, Ask, Batch, Begun, Bool, BreaksOff, Busy, BusyGrant, BusyMode, Call, CallLine, Called, Calls, Chmod, ChmodCalled, ChmodTried, Comes, Denied, DeskSeen, DirTried, EndsAs, EndsHandedIn, EndsModed, Entry, EntryCalled, FileCalled, FileTried, GiveBack, Given, GivesUp, Grant, HandsIn, HonestComes, HonestLine, In, In-cases, IsBack, IsGiven, LeftOut, Lent, LibNo, LineAnswer, LineMakes, List, MatchBool, Mode, ModeSet, NoAllotMemory, NoGrantMemory, NoInodes, NoMemory, NoModeMemory, NoPages, NoParent, Nodes, None, NotGiven, NotLent, NotLive, NotModeSet, NotSettled, Ok, Once, Outcome, Parcel, Path, Release, Replied, Reply, SessionCalled, SessionSeen, SetMode, SetsMode, Settle, SettleLine, Settled, Settles, Shown, Some, State, Told, Tried, TryEnds, Unbegun, Unsettled, [], ap, append-nil, append_assoc, back_entries, bundled_of, call_told, calls_in, entries_told, false, flat_map, flat_map-append, hand_in_ask, inl, inr, is_dir_call, length, lent_to, map, mode_ask, refl, subst, sym, told_outcome, took, true, with_calls, ℕ}
 use Rattle.trio_nodes.specs.declared.call.Call as call
 use Rattle.trio_nodes.specs.declared.call.Done.{Done}
-use Rattle.trio_nodes.specs.Nodes.{Nodes}
-use Rattle.trio_nodes.specs.declared.call.Reply.{Reply}
 use Rattle.trio_nodes.specs.declared.call.Reply.TheVariants as reply
-use Rattle.trio_nodes.specs.declared.entry.Entry.{Entry}
-use Rattle.trio_nodes.specs.declared.entry.Entry.TheVariants.{Batch, Mode as ModeEntry}
-use Rattle.trio_desk.specs.Out.{Parcel}
-use Rattle.trio_desk.specs.Call.{Ask, DeskSeen, Told, Grant, Allot, GiveBack, Release, Settle, SetMode, Lent, NotLent, Given, NotGiven, Settled, NotSettled, ModeSet, NotModeSet}
-use Rattle.trio_desk.specs.Calls.{Call, Calls}
-use Rattle.trio_state.specs.State.{State}
-use Rattle.trio_ctl.specs.Backs.{back_entries}
-use Rattle.trio_ctl.specs.Desk.{bundled_of, entries_told}
-use Rattle.trio_ctl.specs.Logged.{with_calls}
-use Rattle.trio_session.specs.Seen.{SessionSeen}
-use Rattle.trio_walk.specs.Asks.{Called, Settles, Tried, TryEnds, Once, Unsettled, Again, GivesUp, LeftOut}
-use Rattle.trio_calls_file.specs.Asks.{FileCalled, FileTried}
-use Rattle.trio_calls_dir.specs.Asks.{DirTried, EntryCalled}
-use Rattle.trio_calls_dir.specs.Chmods.{BreaksOff, Begun, ChmodCalled, ChmodTried, Comes, EndsAs, EndsHandedIn, EndsModed, HandsIn, SetsMode, Unbegun, hand_in_ask, lent_to, mode_ask}
-use Rattle.trio_nodes.specs.Walk.{Path}
-use Rattle.trio_rights.specs.declared.rights.Mode.{Mode}
-use Rattle.trio_nodes.specs.declared.call.Call.TheVariants.{Chmod}
+use Rattle.trio_nodes.specs.declared.entry.Entry.TheVariants.{Mode as ModeEntry}
 use Rattle.trio_nodes.specs.declared.call.Answer.TheVariants.{Done as AnsweredDone}
-use Rattle.trio_nodes.specs.declared.answers.ModeFault.TheVariants.{Busy as BusyMode, NoMemory as NoModeMemory}
-use Rattle.trio_walk.specs.declared.outcome.Outcome.{Outcome}
-use Rattle.trio_walk.specs.declared.outcome.Outcome.TheVariants.{Replied, Busy, NoMemory}
-use Rattle.trio_script.specs.declared.honest.HonestLine.{HonestLine}
-use Rattle.trio_script.specs.declared.honest.HonestLine.TheVariants.{Call as CallLine, Settle as SettleLine}
-use Rattle.trio_report.specs.declared.answer.LineAnswer.{LineAnswer}
 use Rattle.trio_report.specs.declared.answer.LineAnswer.TheVariants as answered
-use Rattle.trio_runner.specs.Honest.{CallComes, HonestComes, SessionCalled, told_outcome, is_dir_call}
-use Rattle.trio_runner.specs.Logged.{IsBack, IsSettle, LineMakes, call_told, calls_in}
+use Rattle.trio_runner.specs.Honest.{CallComes}
+use Rattle.trio_runner.specs.Logged.{IsSettle}
 use Rattle.trio_runner.proofs.Left.{left_by_chmod, left_by_dir, left_by_file, replied, took_calls, with_replies}
 use Rattle.trio_runner.proofs.Entries.{Makes}
-use Rattle.trio_session.specs.Asked.{IsGiven, took}
 
 -- calls, each with its reply
 abbrev pub Replies : Type 0

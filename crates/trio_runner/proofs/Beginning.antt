@@ -1,29 +1,7 @@
 -- A library at its seat, from the start of its script to its end.
-use Rattle.std.proofs.Common.{◌≡◌, ℕ, suc, ◌+◌, ◌-◌, ◌<◌, ◌≤◌, List, [], ◌∷◌, ◌++◌, length, take, get_or, Some, sym, refl, ap, ◌∙◌, subst, arith}
+use Rattle.trio_runner.proofs.Words.{◌++◌, ◌+◌, ◌-◌, ◌<◌, ◌∙◌, ◌∷◌, ◌≡◌, ◌≤◌, Arrives, BeginsWith, CourseGoes, Creds, DeskSeen, Ends, Entry, Heard, Held, HoldsAll, IsLibraryOf, LibSeat, Lines, List, MayGoOn, Origin, Place, RanAll, ScriptLib, Seated, Share, Shared, Some, WentThrough, [], ap, arith, arrives, begun, creds_in, creds_listed, desk, desk_left, desk_of, first, get_or, length, length-map, library, library_of, line_turns, map-append, place_at, refl, seated, seen, slice_get-get_or, started, subst, suc, sym, take, untold, ℕ}
 use Rattle.std.proofs.Math.Seq.{take-suc}
-use Rattle.std.proofs.lemmas.List.{length-map, map-append}
-use Rattle.std.proofs.lemmas.Option.{slice_get-get_or}
-use Rattle.trio_rights.specs.declared.rights.Creds.{Creds}
-use Rattle.trio_nodes.specs.Libraries.{creds_in as creds_listed}
-use Rattle.trio_nodes.specs.declared.entry.Entry.{Entry}
-use Rattle.trio_desk.specs.Call.{DeskSeen}
-use Rattle.trio_ctl.specs.Desk.{desk_of}
-use Rattle.trio_turn.specs.declared.seat.LibSeat.{LibSeat}
 use Rattle.trio_turn.specs.Marks.{Mark}
-use Rattle.trio_turn.specs.Origins.{Origin}
-use Rattle.trio_turn.specs.Seats.{begun, first, library, seen}
-use Rattle.trio_shared.specs.declared.cell.Shared.{Shared}
-use Rattle.trio_shared.specs.declared.held.Held.{Held}
-use Rattle.trio_shared.specs.Left.{desk_left, started}
-use Rattle.trio_shared.specs.Seats.{desk, library_of, seated}
-use Rattle.trio_shared.specs.Turns.{Seated}
-use Rattle.trio_script.specs.declared.Lines.{Lines}
-use Rattle.trio_script.specs.declared.ScriptLib.{ScriptLib}
-use Rattle.trio_runner.specs.Courses.{CourseGoes, Place, arrives}
-use Rattle.trio_runner.specs.Play.{BeginsWith, Heard, IsLibraryOf, Share, creds_in, untold}
-use Rattle.trio_runner.specs.Rounds.{Ends, line_turns}
-use Rattle.trio_runner.specs.inner.Ready.{HoldsAll}
-use Rattle.trio_runner.specs.inner.Threads.{Arrives, MayGoOn, RanAll, WentThrough, place_at}
 use Rattle.trio_runner.proofs.EndFree.{begins_all, creds_at}
 use Rattle.trio_runner.proofs.Seats.{begun_goes}
 

@@ -1,11 +1,10 @@
 -- A call within the limits is one of a directory or of a file.
-use Rattle.std.proofs.Common.{◌≡◌, true, false}
+use Rattle.trio_runner.proofs.Words.{◌≡◌, Chmod, Create, ListNames, Mkdir, Rename, Rmdir, Stat, Truncate, Unlink, false, is_dir_call, true}
 use Rattle.trio_nodes.specs.declared.call.Call.{Call}
-use Rattle.trio_nodes.specs.declared.call.Call.TheVariants.{Write, Read, Truncate, Stat, Mkdir, Create, Unlink, Rmdir, Rename, List as ListNames, Chmod}
+use Rattle.trio_nodes.specs.declared.call.Call.TheVariants.{Write, Read}
 use Rattle.trio_calls_file.specs.Asks.{IsFileCall}
 use Rattle.trio_calls_dir.specs.Dir.{IsDirCall}
 use Rattle.trio_script.specs.Within.{IsWithin}
-use Rattle.trio_runner.specs.Honest.{is_dir_call}
 
 pub dir_call_is : (call : Call) → is_dir_call call ≡ true → IsWithin call → IsDirCall call
 dir_call_is (Mkdir path mode) is h = h

@@ -1,17 +1,9 @@
 -- What a call that happens leaves out to its library.
-use Rattle.std.proofs.Common.{◌≡◌, ℕ, Bool, true, false, cond, List, length, take, sym, subst, inl, inr}
-use Rattle.std.specs.Prelude.{nat_lt, Ok, Err, ⊤}
-use Rattle.trio_rights.specs.declared.rights.LibNo.{LibNo}
-use Rattle.trio_nodes.specs.declared.answers.ModeFault.TheVariants.{NoMemory as NoModeMemory}
-use Rattle.trio_nodes.specs.declared.answers.ReleaseFault.TheVariants.{NoMemory as NoReleaseMemory}
-use Rattle.trio_desk.specs.Out.{LibOut, OutAlike, with_allotted}
-use Rattle.trio_desk.specs.Call.{Ask, Told, Grant, Allot, GiveBack, Release, SetMode, Lent, NotLent, Given, NotGiven, Done, Judged, NotJudged, ModeSet, NotModeSet, out_after}
-use Rattle.trio_state.specs.State.{State, logged}
-use Rattle.trio_state.specs.Kept.{Kept}
-use Rattle.trio_state.specs.Allotments.{allots, free_numbers, free_pages}
-use Rattle.trio_state.specs.Step.{Outcome, Comes, Step}
+use Rattle.trio_runner.proofs.Words.{◌≡◌, Allot, Ask, Bool, Done, GiveBack, Given, Grant, Happens, Judged, Kept, Lent, LibNo, LibOut, List, ModeSet, NoModeMemory, NoReleaseMemory, NotGiven, NotJudged, NotLent, NotModeSet, OutAlike, Release, SetMode, State, Step, Told, allots, cond, false, free_numbers, free_pages, inl, inr, length, logged, nat_lt, out_after, out_of, subst, sym, take, true, ℕ, ⊤}
+use Rattle.std.specs.Prelude.{Ok, Err}
+use Rattle.trio_desk.specs.Out.{with_allotted}
+use Rattle.trio_state.specs.Step.{Outcome, Comes}
 use Rattle.trio_state.specs.Step as step
-use Rattle.trio_ctl.specs.Desk.{Happens, out_of}
 use Rattle.trio_ctl.proofs.DeskFresh.{numbers_may, pages_may}
 use Rattle.trio_ctl.proofs.DeskOuts.{allotted_out}
 use Rattle.trio_ctl.proofs.DeskSteps.{allot_seen, back_seen, grant_seen, mode_seen, release_out}

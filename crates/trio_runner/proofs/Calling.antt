@@ -1,41 +1,18 @@
 -- What each line comes to at a desk.
-use Rattle.std.proofs.Common.{◌≡◌, ℕ, List, [], ◌∷◌, Option, Some, None, Result, Ok, Err, IfOk, OnOk, IsErr, sym, refl, ap, ◌∙◌, subst, inl, inr}
-use Rattle.std.specs.Prelude.{MatchOption, IsFalse, if◌then◌else◌}
-use Rattle.std.proofs.lemmas.Bool.{false≢true, true_from_ne_false}
-use Rattle.std.specs.Option.{option_map}
-use Rattle.trio_rights.specs.declared.rights.LibNo.{LibNo}
-use Rattle.trio_nodes.specs.declared.grant.GrantKind.{GrantKind}
-use Rattle.trio_nodes.specs.declared.answers.GrantFault.{GrantFault}
-use Rattle.trio_nodes.specs.declared.answers.GrantFault.TheVariants.{NoMemory as NoGrantMemory}
+use Rattle.trio_runner.proofs.Words.{if◌then◌else◌, ◌∙◌, ◌∷◌, ◌≡◌, Allot, AllotLine, Alone, Answer, AreMoves, Ask, Asks, BackLine, Call, Controller, DeskSeen, Done, Ended, Ends, Err, GiveBack, Given, GoesOn, Grant, GrantFault, GrantKind, GrantLine, Happens, Has, Heard, IfOk, InSession, Judged, Lent, LibNo, LibOut, LineAnswer, List, LogsCall, MatchOption, ModeFault, ModeLine, ModeSet, NoAllotMemory, NoGrantMemory, NoInodes, NoPages, NoReleaseMemory, None, NotClosedParcel, NotGiven, NotJudged, NotLent, NotModeSet, NotSettled, Noted, Ok, OnList, Option, RawLine, Release, ReleaseAnswer, ReleaseLine, Result, Said, Says, SaysHonest, SetMode, Settled, Share, Shown, Some, Things, Told, TookNext, TookTurn, Turn, TurnComes, TurnMade, TurnTaken, [], ap, ask_of, children_in, desk_of, false≢true, has_after, has_all_of, inl, inr, nothing, option_map, parcel_named, read_on, refl, subst, sym, told_grant, told_of, unnoted, with_end, with_told, ℕ}
+use Rattle.std.proofs.Common.{OnOk, IsErr}
+use Rattle.std.specs.Prelude.{IsFalse}
+use Rattle.std.proofs.lemmas.Bool.{true_from_ne_false}
 use Rattle.trio_nodes.specs.declared.answers.AllotFault.{AllotFault}
-use Rattle.trio_nodes.specs.declared.answers.AllotFault.TheVariants.{NoPages, NoInodes, NoMemory as NoAllotMemory}
-use Rattle.trio_nodes.specs.declared.answers.ReleaseAnswer.{ReleaseAnswer}
-use Rattle.trio_nodes.specs.declared.answers.ReleaseFault.TheVariants.{NotClosed as NotClosedParcel, NoMemory as NoReleaseMemory}
-use Rattle.trio_nodes.specs.declared.answers.ModeFault.{ModeFault}
 use Rattle.trio_nodes.specs.declared.entry.AllotAnswer.{AllotAnswer}
 use Rattle.trio_nodes.specs.declared.entry.AllotAnswer.TheVariants.{Given as GivenAnswer, Refused as RefusedAnswer}
-use Rattle.trio_lease.specs.Shown.{Shown}
-use Rattle.trio_desk.specs.Call.{Ask, Told, Grant, Allot, GiveBack, Release, SetMode, Lent, NotLent, Given, NotGiven, Done, Judged, NotJudged, Settled, NotSettled, ModeSet, NotModeSet}
-use Rattle.trio_desk.specs.Calls.{Call, OneCall, Made, NotMade}
-use Rattle.trio_raw.specs.Asked.{AfterAllot, AfterBack, AfterGrant, AfterMode, AfterRelease, Back, IsRefusal, NoAllot, NoGrant, NoRelease, children_in}
-use Rattle.trio_raw.specs.Has.{Has, OnList, nothing, has_all_of, parcel_named, read_on}
+use Rattle.trio_desk.specs.Calls.{OneCall, Made, NotMade}
+use Rattle.trio_raw.specs.Asked.{AfterAllot, AfterBack, AfterGrant, AfterMode, AfterRelease, Back, IsRefusal, NoAllot, NoGrant, NoRelease}
 use Rattle.trio_raw.specs.declared.raw.RawFault.{RawFault}
 use Rattle.trio_raw.specs.declared.raw.RawFault.TheVariants.{Absent, NotClosed, NoMemory}
-use Rattle.trio_script.specs.declared.line.RawLine.{RawLine}
-use Rattle.trio_script.specs.declared.line.RawLine.TheVariants.{Grant as GrantLine, Allot as AllotLine, Back as BackLine, Release as ReleaseLine, Mode as ModeLine}
-use Rattle.trio_report.specs.declared.answer.LineAnswer.{LineAnswer}
 use Rattle.trio_report.specs.declared.answer.LineAnswer.TheVariants as answered
-use Rattle.trio_runner.specs.Line.{Alone, Asks, ask_of, has_after, told_fault, told_grant, told_of, told_unmoded, told_verdict, told_want}
-use Rattle.trio_desk.specs.Call.{DeskSeen}
-use Rattle.trio_desk.specs.Out.{LibOut}
-use Rattle.trio_ctl.specs.Ctl.{Controller}
-use Rattle.trio_ctl.specs.Desk.{Happens, LogsCall, desk_of}
-use Rattle.trio_runner.specs.Rounds.{Turn, Says, SaysHonest, Ends}
-use Rattle.trio_runner.specs.Honest.{Noted, unnoted}
-use Rattle.trio_runner.specs.Moves.{AreMoves}
-use Rattle.trio_runner.specs.Play.{Heard, InSession, Share, Things, TurnComes, with_end}
-use Rattle.trio_runner.specs.Players.{Answer, Ended, GoesOn, LineCalled, Said, TurnMade, with_told}
-use Rattle.trio_runner.specs.inner.Ready.{TookNext, TookTurn, TurnTaken}
+use Rattle.trio_runner.specs.Line.{told_fault, told_unmoded, told_verdict, told_want}
+use Rattle.trio_runner.specs.Players.{LineCalled}
 use Rattle.trio_runner.proofs.Noting.{Stands, begins, line_noted, settle_noted}
 use Rattle.trio_runner.proofs.Moves.{MovesMade, moves_made}
 

@@ -1,42 +1,19 @@
 -- A script that ran on threads, from its seats at the start to the controller at the end.
-use Rattle.std.proofs.Common.{◌≡◌, ℕ, zero, suc, ◌+◌, ◌-◌, ◌<◌, ◌≤◌, List, [], ◌∷◌, length, map, get_or, Option, Some, None, Result, Ok, Err, IfOk, sym, refl, ap, ◌∙◌, subst, arith}
+use Rattle.trio_runner.proofs.Words.{◌+◌, ◌-◌, ◌<◌, ◌∙◌, ◌∷◌, ◌≡◌, ◌≤◌, Arrives, Controller, Creds, Entry, Err, Heard, Held, IfOk, IfSome, Image, IsLibrary, IsLibraryOf, IsSeatOf, IsSeenIn, Kept, Leaves, LibNo, LibRan, LibRun, LibSeat, List, None, Ok, Option, Origin, Place, RanAll, Result, ScriptLib, ScriptRan, Seated, Shared, Some, State, Things, [], ap, arith, arrives, begun, creds_in, first, get_or, get_or_from_slice_get, heard_by, length, length-map, library, library_of, made_by, map, nothing, option_map, origin_in, out_of, refl, seen, slice_get, slice_get_within, start, subst, suc, sym, untold, zero, ℕ}
 use denote.Param.Members.{Shared as Callable}
-use Rattle.std.specs.Prelude.{IfSome, slice_get}
 use Rattle.std.specs.Fork.{GivesJobs}
-use Rattle.std.specs.Option.{option_map}
-use Rattle.std.proofs.lemmas.List.{length-map}
-use Rattle.std.proofs.lemmas.Option.{get_or_from_slice_get, slice_get-map, slice_get_within}
+use Rattle.std.proofs.lemmas.Option.{slice_get-map}
 use mathlib.Core.List.{IsPrefix}
-use Rattle.trio_rights.specs.declared.rights.Creds.{Creds}
-use Rattle.trio_rights.specs.declared.rights.LibNo.{LibNo}
-use Rattle.trio_nodes.specs.declared.entry.Entry.{Entry}
-use Rattle.trio_layout.specs.Image.{Image}
-use Rattle.trio_raw.specs.Has.{nothing}
-use Rattle.trio_state.specs.Kept.{Kept}
 use Rattle.trio_state.specs.Moves.{begun_by}
-use Rattle.trio_state.specs.Run.{start}
-use Rattle.trio_state.specs.State.{State}
 use Rattle.trio_laws.specs.history.Recorded.{IsRecorded}
-use Rattle.trio_ctl.specs.Ctl.{Controller, IsLibrary, underway_of}
+use Rattle.trio_ctl.specs.Ctl.{underway_of}
 use Rattle.trio_ctl.specs.Ctl as ctl_words
-use Rattle.trio_ctl.specs.Desk.{out_of}
 use Rattle.trio_ctl.specs.Logged.{recorded}
-use Rattle.trio_turn.specs.declared.seat.LibSeat.{LibSeat}
-use Rattle.trio_turn.specs.Logs.{made_by}
-use Rattle.trio_turn.specs.Origins.{Origin}
-use Rattle.trio_turn.specs.Seats.{EverySeat, OfEach, begun, first, library, mine, seen}
+use Rattle.trio_turn.specs.Seats.{EverySeat, OfEach, mine}
 use Rattle.trio_shared.specs.Begun.{mark_of, marked}
-use Rattle.trio_shared.specs.declared.cell.Shared.{Shared}
-use Rattle.trio_shared.specs.declared.held.Held.{Held}
-use Rattle.trio_shared.specs.Left.{Leaves, origin_of}
-use Rattle.trio_shared.specs.Seats.{AllStart, IsSeatOf, Starts, library_count, library_of}
-use Rattle.trio_shared.specs.Turns.{Seated}
-use Rattle.trio_script.specs.declared.ScriptLib.{ScriptLib}
-use Rattle.trio_runner.specs.Courses.{LibRan, Place, arrives}
-use Rattle.trio_runner.specs.Play.{Heard, IsLibraryOf, Things, creds_in, heard_by, untold}
-use Rattle.trio_runner.specs.Runs.{IsSeenIn, ScriptRan, origin_in}
-use Rattle.trio_runner.specs.inner.Threads.{Arrives, HasRun, HaveRun, RanAll}
-use Rattle.trio_runner.specs.declared.threads.LibRun.{LibRun}
+use Rattle.trio_shared.specs.Left.{origin_of}
+use Rattle.trio_shared.specs.Seats.{AllStart, Starts, library_count}
+use Rattle.trio_runner.specs.inner.Threads.{HasRun, HaveRun}
 use Rattle.trio_runner.proofs.EndFree.{within_some}
 use Rattle.trio_runner.proofs.Held.{same_library}
 

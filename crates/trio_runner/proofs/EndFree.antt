@@ -1,43 +1,14 @@
 -- At a script's end nothing is lent or out.
-use Rattle.std.proofs.Common.{◌≡◌, ℕ, zero, suc, ◌+◌, ◌-◌, ◌<◌, ◌≤◌, Bool, true, false, cond, eqb, leb, ◌&&◌, List, [], ◌∷◌, length, map, Option, Some, None, Result, Ok, Err, sym, refl, ap, ◌∙◌, subst, inl, inr, arith, leb-true, le-leb}
-use Rattle.std.specs.Prelude.{slice_get, IfOk, IfSome}
+use Rattle.trio_runner.proofs.Words.{◌&&◌, ◌+◌, ◌-◌, ◌<◌, ◌∙◌, ◌∷◌, ◌≡◌, ◌≤◌, AreAsTold, AtStart, BeginsWith, Bool, Controller, Creds, DeskSeen, Err, GrantKind, Has, HasAll, Hold, HoldsAll, Honest, IfSome, Image, In, In-filter, In-map, IsFit, IsHeld, IsLibrary, IsLibraryOf, IsWhole, Kept, LentWhole, LibNo, LibOut, Lines, List, Move, None, NothingOut, Ok, OpenGrant, Option, OutAlike, Placed, Players, Plays, Raw, Read, Result, ScriptLib, Share, Some, State, TakesTurn, Verifies, Write, [], ap, arith, begins_to_call, both_ways, cond, creds_in, creds_listed, creds_of, desk_of, eq-eqb, eqb, eqb-true, false, false≢true, grants_of, inl, inr, is_hold, is_read, is_write, le-leb, leb, leb-true, length, length-map, map, no_lib_out, nothing, numbers_to, numbers_to-In, out_of, refl, share_of, slice_get, start, subst, suc, sym, told_to, true, turns_of, zero, ℕ}
+use Rattle.std.specs.Prelude.{IfOk}
 use Rattle.std.specs.Result.{result_ok}
-use Rattle.std.proofs.lemmas.Bool.{and_from, both_ways, eq-eqb, eqb-true, false≢true}
-use Rattle.std.proofs.lemmas.List.{length-map}
-use Rattle.trio_rights.specs.declared.rights.LibNo.{LibNo}
-use Rattle.trio_rights.specs.declared.rights.Creds.{Creds}
-use Rattle.trio_lists.specs.Lists.{In}
-use Rattle.trio_lists.proofs.Filters.{In-filter}
-use Rattle.trio_lists.proofs.Members.{In-map}
+use Rattle.std.proofs.lemmas.Bool.{and_from}
 use Rattle.trio_tables.specs.Out.{lib_at, none_out}
 use Rattle.trio_tables.proofs.OutLemmas.{lib_at-none_out}
-use Rattle.trio_nodes.specs.Libraries.{creds_in as creds_listed}
-use Rattle.trio_nodes.specs.declared.grant.GrantKind.{GrantKind}
-use Rattle.trio_nodes.specs.declared.grant.GrantKind.TheVariants.{Read, Write, Hold}
-use Rattle.trio_nodes.specs.GrantKinds.{is_hold, is_read, is_write}
-use Rattle.trio_layout.specs.Image.{Image, IsFit}
-use Rattle.trio_layout.specs.Verifies.{Verifies}
-use Rattle.trio_desk.specs.Call.{DeskSeen}
-use Rattle.trio_desk.specs.Out.{LibOut, OutAlike, nothing_out as no_lib_out}
-use Rattle.trio_state.specs.State.{OpenGrant, State, creds_of}
-use Rattle.trio_laws.specs.history.Recorded.{LentWhole}
-use Rattle.trio_state.specs.Kept.{Kept}
-use Rattle.trio_state.specs.Run.{start, IsWhole, Move}
-use Rattle.trio_laws.specs.OutLaws.{numbers_to}
 use Rattle.trio_laws.proofs.Runs.{start_kept}
-use Rattle.trio_ctl.specs.Ctl.{AreAsTold, Controller, IsLibrary}
 use Rattle.trio_ctl.specs.Open.{hold_of, shown_of}
-use Rattle.trio_ctl.specs.Desk.{desk_of, grants_of, out_of}
-use Rattle.trio_ctl.proofs.DeskOuts.{In-numbers_to, numbers_to-In}
-use Rattle.trio_raw.specs.Has.{Has, nothing}
-use Rattle.trio_script.specs.declared.ScriptLib.{ScriptLib}
-use Rattle.trio_script.specs.declared.Lines.{Lines}
-use Rattle.trio_script.specs.declared.Lines.TheVariants.{Raw, Honest}
-use Rattle.trio_edit_laws.proofs.Called.{begins_to_call}
-use Rattle.trio_runner.specs.Rounds.{Placed, turns_of}
-use Rattle.trio_runner.specs.Play.{AtStart, BeginsWith, IsLibraryOf, Players, Plays, Share, TakesTurn, creds_in, share_of, told_to}
-use Rattle.trio_runner.specs.PlayLaws.{NothingOut, PlayedEndsFree}
-use Rattle.trio_runner.specs.inner.Ready.{HasAll, HoldsAll, IsHeld}
+use Rattle.trio_ctl.proofs.DeskOuts.{In-numbers_to}
+use Rattle.trio_runner.specs.PlayLaws.{PlayedEndsFree}
 use Rattle.trio_runner.proofs.Held.{end_none, held_after, held_stands, is_end, library_after, noted_of, others_seen, same_creds, same_library}
 use Rattle.trio_runner.proofs.Orders.{Within, all_ended, ended, turns_within}
 

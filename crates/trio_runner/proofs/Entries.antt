@@ -1,34 +1,11 @@
 -- The entries that calls of a library make, whatever state each of them finds.
-use Rattle.std.proofs.Common.{◌≡◌, Bool, true, cond, eqb, List, [], ◌∷◌, ◌++◌, map, Option, Some, None, Ok, sym, refl, ap, ◌∙◌, subst, inl, inr}
-use Rattle.std.specs.List.{filter}
+use Rattle.trio_runner.proofs.Words.{◌++◌, ◌∙◌, ◌∷◌, ◌≡◌, Allot, AreMoves, Ask, Back, Batch, Bool, BusyMode, Call, Calls, Entry, GiveBack, Grant, In, In-cases, LibNo, List, ModeSet, Move, None, NotModeSet, Noted, Notes, Ok, Option, Release, SetMode, Settle, Settled, Shown, Some, State, Told, [], all_back, answer_of, ap, apart, append-nil, append_assoc, back_call, back_entries, backs_of, beside_of, bundled_of, cond, entries_by, entries_of, entries_told, eq-eqb, eqb, event_of, filter, filter-append, filter-none, handed_back, inl, inr, made_by, maker, map, ne_eqb, refl, subst, sym, true, whose, with_calls}
 use Rattle.std.specs.Option.{option_to_list}
-use Rattle.std.proofs.lemmas.Bool.{eq-eqb, ne_eqb}
-use Rattle.std.proofs.lemmas.List.{append-nil, append_assoc}
-use Rattle.std.proofs.lemmas.List.Elements.{filter-append}
-use Rattle.trio_lists.specs.Lists.{In}
-use Rattle.trio_lists.proofs.Filters.{filter-none}
-use Rattle.trio_lists.proofs.Members.{In-cases}
-use Rattle.trio_rights.specs.declared.rights.LibNo.{LibNo}
-use Rattle.trio_lease.specs.Shown.{Shown}
-use Rattle.trio_nodes.specs.declared.answers.ModeFault.TheVariants.{Busy as BusyMode}
-use Rattle.trio_nodes.specs.declared.entry.Entry.{Entry}
-use Rattle.trio_nodes.specs.declared.entry.Entry.TheVariants.{Back, Batch, Mode}
-use Rattle.trio_desk.specs.Call.{Ask, Told, Grant, Allot, GiveBack, Release, Settle, SetMode, Settled, ModeSet, NotModeSet}
-use Rattle.trio_desk.specs.Calls.{Call, Calls}
-use Rattle.trio_state.specs.State.{State}
-use Rattle.trio_state.specs.Run.{Move}
+use Rattle.trio_nodes.specs.declared.entry.Entry.TheVariants.{Mode}
 use Rattle.trio_laws.specs.Laws.{library_of}
 use Rattle.trio_laws.specs.history.Entries.{entry_of, event_of as event_told}
-use Rattle.trio_ctl.specs.Backs.{all_back, back_entries}
-use Rattle.trio_ctl.specs.Desk.{answer_of, backs_of, beside_of, bundled_of, entries_told, event_of, handed_back}
-use Rattle.trio_ctl.specs.Logged.{with_calls}
 use Rattle.trio_order.proofs.Again.{entry_tells}
-use Rattle.trio_order.proofs.Courses.{whose}
 use Rattle.trio_order.proofs.Redone.{beside_is}
-use Rattle.trio_turn.specs.Logs.{made_by, maker}
-use Rattle.trio_runner.specs.Honest.{Noted, Notes}
-use Rattle.trio_runner.specs.Logged.{entries_by}
-use Rattle.trio_runner.specs.Moves.{AreMoves, apart, back_call, entries_of}
 use Rattle.trio_runner.proofs.Moves.{entries_joined, moves_joined, moves_parted}
 
 -- ---- whose they are

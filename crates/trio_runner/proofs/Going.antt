@@ -1,30 +1,8 @@
 -- A library's turns at its seat.
-use Rattle.std.proofs.Common.{◌≡◌, ℕ, suc, ◌+◌, ◌<◌, List, [], ◌∷◌, ◌++◌, length, get_or, take, Option, Some, sym, refl, ap, ◌∙◌, subst, arith, take-suc}
-use Rattle.trio_rights.specs.declared.rights.LibNo.{LibNo}
-use Rattle.trio_desk.specs.Call.{Ask, DeskSeen, Told}
-use Rattle.trio_desk.specs.Calls.{Call, Calls}
-use Rattle.trio_state.specs.State.{State}
-use Rattle.trio_ctl.specs.Desk.{desk_of}
-use Rattle.trio_session.specs.Seen.{SessionSeen}
-use Rattle.trio_walk.specs.Asks.{Settles}
-use Rattle.trio_turn.specs.Seats.{first, library, seen}
-use Rattle.trio_turn.specs.declared.seat.LibSeat.{LibSeat}
-use Rattle.trio_shared.specs.declared.cell.Shared.{Shared}
-use Rattle.trio_shared.specs.declared.held.Held.{Held}
-use Rattle.trio_shared.specs.Left.{Leaves, desk_left}
-use Rattle.trio_shared.specs.Laws.{DeskIsLeft, OthersLeave}
-use Rattle.trio_shared.specs.Seats.{IsIdle, IsSeatOf, desk, library_of, seated}
-use Rattle.trio_shared.specs.Turns.{Seated}
+use Rattle.trio_runner.proofs.Words.{◌++◌, ◌+◌, ◌<◌, ◌∙◌, ◌∷◌, ◌≡◌, Answer, Ask, Call, Calls, CourseGoes, DeskIsLeft, DeskSeen, Ended, Ends, Goes, GoesOn, Going, HasAll, HasClosed, Heard, Held, HoldsAll, HonestComes, HonestLine, InSession, IsSeatOf, Leaves, LibNo, LibSeat, LineAnswer, List, Option, OthersLeave, Place, Said, Says, SaysHonest, Seated, SessionSeen, Settles, Share, Shared, Some, State, Things, Told, Turn, TurnGoes, TurnMade, TurnTaken, Went, [], ap, arith, desk, desk_left, desk_of, first, get_or, length, library, library_of, place_at, refl, seated, seen, sees_at, subst, suc, sym, take, take-suc, with_end, with_told, ℕ}
+use Rattle.trio_shared.specs.Seats.{IsIdle}
 use Rattle.trio_shared.specs.Turns as turns
-use Rattle.trio_script.specs.declared.honest.HonestLine.{HonestLine}
-use Rattle.trio_report.specs.declared.answer.LineAnswer.{LineAnswer}
-use Rattle.trio_runner.specs.Honest.{HonestComes}
-use Rattle.trio_runner.specs.Rounds.{Turn, Says, SaysHonest, Ends}
-use Rattle.trio_runner.specs.Play.{Heard, Share, Things, InSession, with_end}
-use Rattle.trio_runner.specs.Players.{Answer, Ended, GoesOn, HasClosed, Said, TurnMade, with_told}
-use Rattle.trio_runner.specs.Courses.{CourseGoes, Goes, Going, Place, TurnGoes, sees_at}
-use Rattle.trio_runner.specs.inner.Ready.{HasAll, HoldsAll, TurnTaken}
-use Rattle.trio_runner.specs.inner.Threads.{Sits, TookAtSeat, Went, place_at}
+use Rattle.trio_runner.specs.inner.Threads.{Sits, TookAtSeat}
 use Rattle.trio_runner.proofs.Held.{CallLeaves, Leave, end_held, happens_leaves, line_held}
 use Rattle.trio_runner.proofs.Leaving.{found_desk, left_stands}
 use Rattle.trio_runner.proofs.Noting.{calls_follow, line_follows, settles_follow}

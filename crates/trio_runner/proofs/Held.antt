@@ -1,53 +1,13 @@
 -- Between turns each library has all that is out to it, and nothing is out to anybody else.
-use Rattle.std.proofs.Common.{◌≡◌, ℕ, ◌-◌, Ok, ◌≤◌, Bool, true, false, cond, ◌&&◌, eqb, List, [], ◌∷◌, ◌++◌, length, get_or, set, Option, Some, None, sym, refl, ap, ◌∙◌, subst, inl, inr, arith}
+use Rattle.trio_runner.proofs.Words.{◌&&◌, ◌++◌, ◌-◌, ◌∙◌, ◌∷◌, ◌≡◌, ◌≤◌, Allot, AllotLine, Alone, AreMoves, Ask, Asks, BackLine, Bool, Call, CallLine, Creds, DeskSeen, Done, EndAnswer, EndComes, Ends, EndsAll, EndsAlone, GiveBack, Given, Grant, GrantKind, GrantLine, Happens, Has, HasAll, Heard, Hold, HoldsAll, HonestComes, HonestLine, In, InSession, IsHeld, IsLibrary, IsSomeAnd, Judged, Kept, Lease, LeaseIs, Lent, LentWhole, LibNo, LibOut, LineAnswer, LineComes, List, MatchOption, MayCall, ModeLine, ModeSet, Move, None, NotGiven, NotJudged, NotLent, NotModeSet, NotSettled, Noted, Notes, Ok, OpenGrant, Option, OutAlike, Peek, Placed, Players, Poke, RawLine, Read, Release, ReleaseLine, Row, Says, SaysHonest, SeenAfter, SessionSeen, SetMode, Settle, SettleLine, Settled, Settles, Share, Shown, Some, State, TakesTurn, Things, Told, Turn, TurnComes, Write, [], and_parts, ap, append-nil, append_assoc, arith, back_calls, begins_to_call, both_ways, cases_Bool, cond, desk_of, emptied, eq-eqb, eqb, eqb-true, false, false≢true, find-In, get_or, has_after, has_all_of, has_nothing, inl, inr, length, length-set, lent_by, may_be_settled, no_lib_out, nothing, opened, option_map, out_after, out_of, parcel_named, poked, read_on, refl, release_call, row_at, sees, set, share_of, subst, sym, told_of, told_to, true, unnoted, with_reads, without_read, ℕ, ⊤}
 use Rattle.std.proofs.Math.Dec.{eqb-suc-zero}
-use Rattle.std.specs.Prelude.{⊤, MatchOption}
-use Rattle.std.specs.Option.{IsSomeAnd, option_map}
-use Rattle.std.proofs.lemmas.Bool.{and_parts, both_ways, eq-eqb, eqb-true, false≢true, cases_Bool, MatchBool-at_true, MatchBool-at_false}
-use Rattle.std.proofs.lemmas.List.{append-nil, append_assoc, get_or-set_other, get_or-set_same, length-set}
-use Rattle.trio_rights.specs.declared.rights.LibNo.{LibNo}
-use Rattle.trio_rights.specs.declared.rights.Creds.{Creds}
-use Rattle.trio_rights.specs.Row.{Row}
-use Rattle.trio_lists.specs.Lists.{In}
-use Rattle.trio_lists.proofs.Filters.{find-In}
-use Rattle.trio_nodes.specs.declared.grant.GrantKind.{GrantKind}
-use Rattle.trio_nodes.specs.declared.grant.GrantKind.TheVariants.{Read, Write, Hold}
-use Rattle.trio_lease.specs.Shown.{Shown}
-use Rattle.trio_lease.specs.declared.lease.Lease.{Lease}
-use Rattle.trio_desk.specs.Call.{DeskSeen}
-use Rattle.trio_desk.specs.Out.{LibOut, OutAlike, nothing_out as no_lib_out}
+use Rattle.std.proofs.lemmas.Bool.{MatchBool-at_true, MatchBool-at_false}
+use Rattle.std.proofs.lemmas.List.{get_or-set_other, get_or-set_same}
 use Rattle.trio_desk.specs.Out as out_words
-use Rattle.trio_desk.specs.Call.{Ask, Told, Grant, Allot, GiveBack, Release, SetMode, Settle, SeenAfter, Lent, NotLent, Given, NotGiven, Done, Judged, NotJudged, Settled, NotSettled, ModeSet, NotModeSet, out_after}
-use Rattle.trio_desk.specs.Calls.{Call}
-use Rattle.trio_layout.specs.Image.{row_at}
-use Rattle.trio_state.specs.State.{OpenGrant, State}
-use Rattle.trio_state.specs.Kept.{Kept}
-use Rattle.trio_laws.specs.history.Recorded.{LentWhole}
-use Rattle.trio_state.specs.Grants.{opened}
-use Rattle.trio_state.specs.Run.{Move}
-use Rattle.trio_ctl.specs.Ctl.{IsLibrary}
-use Rattle.trio_ctl.specs.Open.{given_by, lent_by}
-use Rattle.trio_ctl.specs.Desk.{Happens, LeaseIs, desk_of, out_of}
+use Rattle.trio_ctl.specs.Open.{given_by}
 use Rattle.trio_raw.proofs.Asking.{mode_alike}
-use Rattle.trio_raw.specs.Has.{Has, nothing, has_all_of, has_nothing, parcel_named, poked, read_on, with_reads, without_read}
-use Rattle.trio_raw.specs.Asked.{back_calls, release_call}
-use Rattle.trio_script.specs.declared.line.RawLine.{RawLine}
-use Rattle.trio_script.specs.declared.line.RawLine.TheVariants.{Grant as GrantLine, Allot as AllotLine, Back as BackLine, Poke, Peek, Release as ReleaseLine, Mode as ModeLine}
-use Rattle.trio_report.specs.declared.answer.LineAnswer.{LineAnswer}
-use Rattle.trio_report.specs.declared.report.EndAnswer.{EndAnswer}
-use Rattle.trio_runner.specs.Line.{Alone, Asks, LineComes, EndsAlone, EndsAll, EndComes, has_after, has_alone, has_poked, told_of}
-use Rattle.trio_script.specs.declared.honest.HonestLine.{HonestLine}
-use Rattle.trio_script.specs.declared.honest.HonestLine.TheVariants.{Call as CallLine, Settle as SettleLine}
-use Rattle.trio_session.specs.Seen.{SessionSeen, emptied}
-use Rattle.trio_edit_laws.specs.Calls.{MayCall}
-use Rattle.trio_edit_laws.proofs.Called.{begins_to_call, may_be_settled}
-use Rattle.trio_walk.specs.Asks.{Settles}
+use Rattle.trio_runner.specs.Line.{has_alone, has_poked}
 use Rattle.trio_ctl.proofs.Settling.{settle_seen}
-use Rattle.trio_runner.specs.Rounds.{Placed, Turn, Says, SaysHonest, Ends}
-use Rattle.trio_runner.specs.Honest.{HonestComes, Noted, Notes, sees, unnoted}
-use Rattle.trio_runner.specs.Moves.{AreMoves}
-use Rattle.trio_runner.specs.Play.{Heard, Players, Share, TakesTurn, Things, InSession, TurnComes, share_of, told_to}
-use Rattle.trio_runner.specs.inner.Ready.{HasAll, HoldsAll, IsHeld}
 use Rattle.trio_runner.proofs.CallLeaves.{Fits, call_leaves}
 use Rattle.trio_runner.proofs.Moves.{Stands, call_stands, moves_creds, moves_others, moves_stand}
 use Rattle.trio_runner.proofs.Outs.{AsLent, has_all-alike, has_all-allotted, has_all-back, has_all-last, has_all-lease, has_all-poked, has_all-rest, has_all-returned, has_all-whole}

@@ -1,29 +1,20 @@
 -- The calls of a legal log are a history of the tree on one thread.
-use Rattle.std.proofs.Common.{◌≡◌, ℕ, zero, eqb, Bool, true, false, ◌&&◌, cond, List, [], ◌∷◌, ◌++◌, length, map, Option, Some, None, is_some, Ok, Err, sym, refl, ap, ◌∙◌, subst, inl, inr}
-use Rattle.std.specs.Prelude.{MatchBool}
-use Rattle.std.specs.List.{AllByRecursion, flat_map}
-use Rattle.std.proofs.lemmas.Bool.{false≢true, both_ways, eqb-true, eq-eqb}
-use Rattle.trio_rights.specs.declared.kind.Kind.{Kind}
-use Rattle.trio_rights.specs.declared.kind.Kind.TheVariants.{Regular, Directory}
-use Rattle.trio_rights.specs.declared.rights.Creds.{Creds}
+use Rattle.trio_runner.proofs.Words.{◌&&◌, ◌++◌, ◌∙◌, ◌∷◌, ◌≡◌, AllByRecursion, Applied, Apply, Back, BadMode, Batch, Bool, Chmod, Create, Creds, Directory, Entry, Err, IsDone, IsReplied, Kind, LegalCalls, List, ListNames, MatchBool, Mkdir, Nodes, None, NotOwner, Ok, Option, Path, Regular, Rename, Reply, Rmdir, Some, Stat, Truncate, Unlink, [], ap, batch_nodes, both_ways, call_nodes, cond, dir_of, done, eq-eqb, eqb, eqb-true, false, false≢true, find_named, flat_map, inl, inr, is_done, is_root, length, make, map, name_of, new_node, refl, refused, subst, sym, true, with_node, zero, ℕ}
+use Rattle.std.proofs.Common.{is_some}
 use Rattle.trio_rights.specs.declared.rights.Mode.{Mode as FileMode}
-use Rattle.trio_nodes.specs.declared.answers.ModeFault.TheVariants.{NotLive, NotOwner, BadMode, Busy, NoMemory}
+use Rattle.trio_nodes.specs.declared.answers.ModeFault.TheVariants.{NotLive, Busy, NoMemory}
 use Rattle.trio_nodes.specs.declared.node.Node.{Node}
-use Rattle.trio_nodes.specs.declared.call.Answer.TheVariants.{Done as IsDone}
 use Rattle.trio_nodes.specs.declared.call.Call.{Call}
-use Rattle.trio_nodes.specs.declared.call.Call.TheVariants.{Mkdir, Create, Write, Read, Truncate, Unlink, Rmdir, Rename, List as ListNames, Stat, Chmod}
+use Rattle.trio_nodes.specs.declared.call.Call.TheVariants.{Write, Read}
 use Rattle.trio_nodes.specs.declared.call.Done.{Done}
-use Rattle.trio_nodes.specs.declared.call.Reply.{Reply}
-use Rattle.trio_nodes.specs.declared.call.Reply.TheVariants.{Ok as IsReplied, Denied, Exists}
-use Rattle.trio_nodes.specs.declared.entry.Entry.{Entry}
-use Rattle.trio_nodes.specs.declared.entry.Entry.TheVariants.{Grant, Allot, Back, Raw, Batch, Mode}
-use Rattle.trio_nodes.specs.Nodes.{Nodes, node_at, with_node, find_named}
-use Rattle.trio_nodes.specs.Walk.{Path, is_root, dir_of, name_of}
-use Rattle.trio_nodes.specs.Apply.{Applied, Apply, done, in_directory, is_done, make, makes_file, new_node, refused}
-use Rattle.trio_nodes.specs.After.{batch_nodes, call_nodes, moded_node, moded_nodes, nodes_after}
+use Rattle.trio_nodes.specs.declared.call.Reply.TheVariants.{Denied, Exists}
+use Rattle.trio_nodes.specs.declared.entry.Entry.TheVariants.{Grant, Allot, Raw, Mode}
+use Rattle.trio_nodes.specs.Nodes.{node_at}
+use Rattle.trio_nodes.specs.Apply.{in_directory, makes_file}
+use Rattle.trio_nodes.specs.After.{moded_node, moded_nodes, nodes_after}
 use Rattle.trio_nodes.specs.Libraries.{IsLibrary, creds_in}
 use Rattle.trio_nodes.proofs.LibraryFacts.{batch_after}
-use Rattle.trio_nodes.specs.Legal.{library_in, IsLegal, LegalCalls, LegalFrom, MadeFits, Past, beginning, past_after}
+use Rattle.trio_nodes.specs.Legal.{library_in, IsLegal, LegalFrom, MadeFits, Past, beginning, past_after}
 use Rattle.trio_nodes.proofs.NodeFacts.{with_node-same, with_node-else}
 use Rattle.trio_onetree.proofs.CallCases.{on_if, on_directory}
 use Rattle.trio_onetree.proofs.Children.{Child-is_some}

@@ -1,16 +1,6 @@
 -- What each call of a library keeps, its turns keep.
-use Rattle.std.proofs.Common.{◌≡◌, List, [], ◌∷◌, sym, refl, ap, subst}
-use Rattle.trio_desk.specs.Call.{Ask, Told}
-use Rattle.trio_desk.specs.Calls.{Call}
+use Rattle.trio_runner.proofs.Words.{◌∷◌, ◌≡◌, Ask, Call, CourseGoes, Ends, Goes, Going, Heard, HonestComes, HonestLine, InSession, LineAnswer, List, Place, Says, SaysHonest, SessionSeen, Settles, Share, Things, Told, Turn, TurnGoes, [], ap, refl, sees_at, subst, sym}
 use Rattle.trio_desk.specs.Calls as desk
-use Rattle.trio_session.specs.Seen.{SessionSeen}
-use Rattle.trio_walk.specs.Asks.{Settles}
-use Rattle.trio_script.specs.declared.honest.HonestLine.{HonestLine}
-use Rattle.trio_report.specs.declared.answer.LineAnswer.{LineAnswer}
-use Rattle.trio_runner.specs.Honest.{HonestComes}
-use Rattle.trio_runner.specs.Rounds.{Turn, Says, SaysHonest, Ends}
-use Rattle.trio_runner.specs.Play.{Heard, Share, Things, InSession}
-use Rattle.trio_runner.specs.Courses.{CourseGoes, Goes, Going, Place, TurnGoes, sees_at}
 use Rattle.trio_runner.proofs.Noting.{calls_follow, line_follows, settles_follow}
 
 -- what is true of a library, and stays so with each call

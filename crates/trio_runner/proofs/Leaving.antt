@@ -1,20 +1,6 @@
 -- What holds of each state that the entries of a controller leave.
-use Rattle.std.proofs.Common.{◌≡◌, List, [], ◌∷◌, ◌++◌, sym, ◌∙◌, subst}
-use Rattle.trio_rights.specs.declared.rights.LibNo.{LibNo}
-use Rattle.trio_rights.specs.declared.rights.Creds.{Creds}
-use Rattle.trio_nodes.specs.declared.entry.Entry.{Entry}
-use Rattle.trio_state.specs.State.{State}
-use Rattle.trio_state.specs.Kept.{Kept}
+use Rattle.trio_runner.proofs.Words.{◌++◌, ◌∙◌, ◌∷◌, ◌≡◌, Creds, DeskIsLeft, Entry, Kept, Leaves, LibNo, List, Origin, OthersLeave, ReplaysFrom, State, [], desk_left, desk_of, made_by, started, step_kept, step_told, step_whole, subst, sym}
 use Rattle.trio_laws.specs.history.Entries.{event_of, answer_of}
-use Rattle.trio_laws.specs.history.Replays.{ReplaysFrom}
-use Rattle.trio_laws.proofs.Runs.{step_kept}
-use Rattle.trio_laws.proofs.history.Grows.{step_whole}
-use Rattle.trio_ctl.specs.Desk.{desk_of}
-use Rattle.trio_ctl.proofs.Told.{step_told}
-use Rattle.trio_turn.specs.Logs.{made_by}
-use Rattle.trio_turn.specs.Origins.{Origin}
-use Rattle.trio_shared.specs.Left.{Leaves, desk_left, started}
-use Rattle.trio_shared.specs.Laws.{DeskIsLeft, OthersLeave}
 use Rattle.trio_runner.proofs.Moves.{Stands}
 
 replays_stand : (s : State) (log : List Entry) (t : State) → Stands s → ReplaysFrom s log t → Stands t

@@ -1,36 +1,20 @@
 -- What a try leaves of the calls that a session has done: its call stands behind them, with its reply.
-use Rattle.std.proofs.Common.{◌≡◌, ℕ, ◌+◌, Bool, true, false, cond, eqb, ltb, List, [], ◌∷◌, ◌++◌, length, map, Option, Some, None, sym, refl, ap, ◌∙◌}
-use Rattle.std.specs.Prelude.{is_some}
+use Rattle.trio_runner.proofs.Words.{◌++◌, ◌+◌, ◌∙◌, ◌∷◌, ◌≡◌, Bool, Busy, Creds, Directory, Given, HoldLent, IsAlike, Kind, Lease, LeavesBy, Lent, List, Mode, NoMemory, None, Option, Outcome, Path, ReadLent, Regular, Replied, Reply, SessionSeen, Some, Target, Told, WriteLent, [], ap, append-nil, cond, eqb, false, is_some, length, ltb, map, map-append, name_of, new_body, new_number, noted, refl, sym, took, true, with_allotted, with_lease, with_slot, ℕ}
 use Rattle.std.specs.Option.{option_map_or}
-use Rattle.std.proofs.lemmas.List.{append-nil, map-append}
-use Rattle.trio_rights.specs.declared.kind.Kind.{Kind}
-use Rattle.trio_rights.specs.declared.kind.Kind.TheVariants.{Directory, Regular}
-use Rattle.trio_rights.specs.declared.rights.Creds.{Creds}
-use Rattle.trio_rights.specs.declared.rights.Mode.{Mode}
-use Rattle.trio_lease.specs.declared.lease.Lease.{Lease}
-use Rattle.trio_lease.specs.declared.lease.Lease.TheVariants.{Write as WriteLent, Read as ReadLent, Hold as HoldLent}
 use Rattle.trio_nodes.specs.declared.call.Call as call
 use Rattle.trio_nodes.specs.declared.call.Call.TheVariants as calls
 use Rattle.trio_nodes.specs.declared.call.Done.{Done}
-use Rattle.trio_nodes.specs.declared.call.Reply.{Reply}
 use Rattle.trio_nodes.specs.declared.call.Reply.TheVariants as reply
-use Rattle.trio_nodes.specs.Walk.{Path, name_of}
-use Rattle.trio_desk.specs.Call.{Told, Lent, Given}
-use Rattle.trio_session.specs.Asked.{with_allotted, with_lease, IsAlike, took}
 use Rattle.trio_session.specs.Layout.{size_in}
-use Rattle.trio_session.specs.Seen.{SessionSeen, body_in, clear, empty_shown, entry_shown, fill, is_allotted, place_shown, retitle}
-use Rattle.trio_walk.specs.Asks.{noted}
-use Rattle.trio_walk.specs.declared.outcome.Outcome.{Outcome}
-use Rattle.trio_walk.specs.declared.outcome.Outcome.TheVariants.{Replied, Busy, NoMemory}
+use Rattle.trio_session.specs.Seen.{body_in, clear, empty_shown, entry_shown, fill, is_allotted, place_shown, retitle}
 use Rattle.trio_calls_file.specs.Asks.{new_length}
 use Rattle.trio_calls_file.specs.Asks as on_file
 use Rattle.trio_calls_file.proofs.Writes.{calls-cut, calls-put}
-use Rattle.trio_calls_dir.specs.Asks.{Target, filled_new, moved}
+use Rattle.trio_calls_dir.specs.Asks.{filled_new, moved}
 use Rattle.trio_calls_dir.specs.Asks as on_dir
-use Rattle.trio_calls_dir.specs.Chmods.{LeavesBy}
 use Rattle.trio_runner.specs.Logged.{call_and_reply}
 use Rattle.trio_session.proofs.Alike.{calls-grown}
-use Rattle.trio_session.specs.Deeds.{sized, moved_shown, new_body, new_number, with_slot}
+use Rattle.trio_session.specs.Deeds.{sized, moved_shown}
 
 -- calls that were done, each with its reply
 abbrev pub with_replies : List Done → List (call.Call × Reply)

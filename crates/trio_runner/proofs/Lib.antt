@@ -42,3 +42,4 @@ pub mod RanFree
 pub mod SeatHas
 pub mod OneAsked
 pub mod OneSequence
+mod Words

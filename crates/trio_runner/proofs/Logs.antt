@@ -1,25 +1,9 @@
 -- The log of a script is the entries of its moves.
-use Rattle.std.proofs.Common.{◌≡◌, ℕ, List, [], ◌∷◌, ◌++◌, sym, refl, ap, ◌∙◌, subst, inl, inr}
-use Rattle.std.proofs.lemmas.List.{append-nil, append_assoc}
-use Rattle.trio_rights.specs.Bundle.{Bundle}
-use Rattle.trio_rights.specs.declared.rights.LibNo.{LibNo}
-use Rattle.trio_nodes.specs.declared.entry.Entry.{Entry}
-use Rattle.trio_desk.specs.Call.{Ask, Told, Settle, SetMode, Settled, ModeSet}
-use Rattle.trio_desk.specs.Calls.{Call}
-use Rattle.trio_desk.specs.Ready.{bundle_of}
-use Rattle.trio_state.specs.State.{State}
-use Rattle.trio_state.specs.Run.{Move}
-use Rattle.trio_state.specs.Step.{CtlAnswer}
+use Rattle.trio_runner.proofs.Words.{◌++◌, ◌∙◌, ◌∷◌, ◌≡◌, AreEntries, AreMoves, Ask, Bundle, Call, CtlAnswer, Entry, IsPlain, LibNo, List, ModeSet, Move, Placed, Players, Plays, SetMode, Settle, Settled, State, TakesTurn, Told, [], all_back, answer_of, ap, append-nil, append_assoc, back_entries, backs_of, beside_of, bundle_of, entries_of, entries_told, event_of, handed_back, inl, inr, refl, subst, sym, turns_of, ℕ}
 use Rattle.trio_state.specs.Step as step
 use Rattle.trio_laws.specs.history.Entries.{Beside}
-use Rattle.trio_ctl.specs.Backs.{all_back, back_entries}
-use Rattle.trio_ctl.specs.Desk.{answer_of, backs_of, beside_of, entries_told, event_of, handed_back}
 use Rattle.trio_ctl.specs.Logged.{entries_made}
-use Rattle.trio_ctl.proofs.DeskSteps.{IsPlain}
-use Rattle.trio_runner.specs.Rounds.{Placed, turns_of}
-use Rattle.trio_runner.specs.Moves.{AreMoves, entries_of}
-use Rattle.trio_runner.specs.Play.{Players, Plays, TakesTurn}
-use Rattle.trio_runner.specs.Logged.{AreEntries, MakesEntries}
+use Rattle.trio_runner.specs.Logged.{MakesEntries}
 use Rattle.trio_runner.specs.PlayLaws.{PlayedIsLogged}
 use Rattle.trio_runner.proofs.Plain.{turn_plain}
 use Rattle.trio_runner.proofs.Sessions.{ArePlain}

@@ -1,20 +1,6 @@
 -- Calls of a library as moves of the controller, and what they keep.
-use Rattle.std.proofs.Common.{◌≡◌, List, [], ◌∷◌, ◌++◌, sym, refl, ap, ◌∙◌, subst, inl, inr}
-use Rattle.std.proofs.lemmas.List.{append-nil, append_assoc}
-use Rattle.trio_rights.specs.declared.rights.LibNo.{LibNo}
-use Rattle.trio_desk.specs.Call.{Ask, Told}
-use Rattle.trio_desk.specs.Calls.{Call, Calls}
-use Rattle.trio_nodes.specs.declared.entry.Entry.{Entry}
-use Rattle.trio_state.specs.State.{State}
-use Rattle.trio_state.specs.Kept.{Kept}
-use Rattle.trio_state.specs.Given.{GivenEvent}
-use Rattle.trio_state.specs.Step.{Step}
-use Rattle.trio_state.specs.Run.{Move, Trace}
-use Rattle.trio_ctl.specs.Ctl.{AreAsTold, Controller}
-use Rattle.trio_ctl.specs.Desk.{Happens, LogsCall, answer_of, desk_of, entries_told, event_of}
-use Rattle.trio_runner.specs.Moves.{AreMoves, entries_of}
-use Rattle.trio_laws.specs.history.Recorded.{LentWhole}
-use Rattle.trio_ctl.proofs.DeskSteps.{calls_keep, calls_leave_whole, happens_creds, others_see, plain_step}
+use Rattle.trio_runner.proofs.Words.{◌++◌, ◌∙◌, ◌∷◌, ◌≡◌, AreAsTold, AreMoves, Ask, Call, Calls, Controller, Entry, GivenEvent, Happens, Kept, LentWhole, LibNo, List, LogsCall, Move, State, Step, Told, Trace, [], answer_of, ap, append-nil, append_assoc, desk_of, entries_of, entries_told, event_of, happens_creds, inl, inr, others_see, plain_step, refl, subst, sym}
+use Rattle.trio_ctl.proofs.DeskSteps.{calls_keep, calls_leave_whole}
 use Rattle.trio_runner.proofs.Sessions.{ArePlain}
 use Rattle.trio_runner.proofs.Plain.{plain_given}
 

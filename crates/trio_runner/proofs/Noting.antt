@@ -1,44 +1,11 @@
 -- The calls of a session at a desk over the controller, as the definitions note them.
-use Rattle.std.proofs.Common.{◌≡◌, Bool, true, false, List, [], ◌∷◌, ◌++◌, map, Option, sym, refl, ap, ◌∙◌, subst, inl}
-use Rattle.std.proofs.lemmas.List.{append-nil, append_assoc}
-use Rattle.std.specs.Prelude.{MatchBool}
-use Rattle.trio_rights.specs.Row.{Row}
-use Rattle.trio_rights.specs.declared.rights.Creds.{Creds}
-use Rattle.trio_rights.specs.declared.rights.LibNo.{LibNo}
-use Rattle.trio_nodes.specs.Nodes.{Nodes}
-use Rattle.trio_nodes.specs.After.{batch_nodes}
-use Rattle.trio_nodes.specs.declared.entry.Entry.{Entry}
+use Rattle.trio_runner.proofs.Words.{◌++◌, ◌∙◌, ◌∷◌, ◌≡◌, Again, AreBack, AreMoves, ArePossible, Ask, Begun, Bool, BusyMode, Call, CallLine, Called, Calls, Chmod, ChmodCalled, ChmodTried, Controller, Creds, DeskSeen, DirTried, Entry, EntryCalled, FileCalled, FileTried, GivesUp, Happens, HonestComes, HonestLine, LeftOut, LibNo, LineAnswer, List, LogsCall, MatchBool, MayCall, Mode, ModeSet, Move, Nodes, NotModeSet, Noted, Notes, Once, Option, Outcome, Path, Row, SessionCalled, SessionSeen, SetMode, Settle, SettleLine, Settled, Settles, Shown, State, Told, Tried, TriedSo, Unbegun, Unsettled, [], all_back, ap, apart, append-nil, append_assoc, back_call, back_entries, batch_nodes, desk_of, entries_of, entries_told, false, given_back, inl, is_dir_call, lent_to, map, refl, sees, subst, sym, took, true, unnoted}
 use Rattle.trio_nodes.specs.declared.call.Call as call
-use Rattle.trio_lease.specs.Shown.{Shown}
-use Rattle.trio_nodes.specs.declared.answers.ModeFault.TheVariants.{Busy as BusyMode}
-use Rattle.trio_desk.specs.Call.{Ask, DeskSeen, Told, Settle, SetMode, Settled, ModeSet, NotModeSet}
-use Rattle.trio_desk.specs.Calls.{Call, Calls}
-use Rattle.trio_desk.specs.Ready.{ArePossible}
-use Rattle.trio_state.specs.State.{State}
-use Rattle.trio_state.specs.Grants.{given_back}
-use Rattle.trio_state.specs.Run.{Move}
-use Rattle.trio_ctl.specs.Backs.{AreBack, all_back, back_entries}
-use Rattle.trio_ctl.specs.Ctl.{Controller}
-use Rattle.trio_ctl.specs.Desk.{Happens, LogsCall, desk_of, entries_told}
-use Rattle.trio_session.specs.Seen.{SessionSeen}
-use Rattle.trio_edit_laws.specs.Calls.{MayCall}
-use Rattle.trio_walk.specs.Asks.{Called, IsUnsettled, Settles, Tried, Once, Unsettled, Again, GivesUp, LeftOut}
-use Rattle.trio_calls_file.specs.Asks.{FileCalled, FileTried}
+use Rattle.trio_walk.specs.Asks.{IsUnsettled}
 use Rattle.trio_calls_file.specs.Asks as on_file
-use Rattle.trio_calls_dir.specs.Asks.{DirTried, EntryCalled}
 use Rattle.trio_calls_dir.specs.Asks as on_dir
-use Rattle.trio_calls_dir.specs.Chmods.{Begun, ChmodCalled, ChmodTried, TriedSo, Unbegun, lent_to}
-use Rattle.trio_nodes.specs.Walk.{Path}
-use Rattle.trio_rights.specs.declared.rights.Mode.{Mode}
-use Rattle.trio_nodes.specs.declared.call.Call.TheVariants.{Chmod}
-use Rattle.trio_walk.specs.declared.outcome.Outcome.{Outcome}
-use Rattle.trio_script.specs.declared.honest.HonestLine.{HonestLine}
-use Rattle.trio_script.specs.declared.honest.HonestLine.TheVariants.{Call as CallLine, Settle as SettleLine}
-use Rattle.trio_report.specs.declared.answer.LineAnswer.{LineAnswer}
-use Rattle.trio_runner.specs.Honest.{HonestComes, Noted, Notes, SessionCalled, sees, unnoted, is_dir_call}
-use Rattle.trio_runner.specs.Moves.{AreMoves, apart, back_call, entries_of, move_of}
+use Rattle.trio_runner.specs.Moves.{move_of}
 use Rattle.trio_runner.proofs.Moves.{entries_joined, moves_joined}
-use Rattle.trio_session.specs.Asked.{took}
 
 -- ---- a call, apart
 

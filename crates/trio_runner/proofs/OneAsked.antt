@@ -1,61 +1,17 @@
 -- An honest library whose calls of its desk are the same in two runs is told the same in both: each of its tries goes as far, since nodes
 -- that are possible where the one has more are possible where the other has less.
-use Rattle.std.proofs.Common.{◌≡◌, ◌≢◌, ℕ, ◌+◌, Bool, true, false, List, [], ◌∷◌, ◌++◌, length, map, Option, Some, None, sym, refl, ap, ◌∙◌, subst, inl, inr, arith}
-use Rattle.std.specs.Prelude.{◌⊎◌, MatchBool}
-use Rattle.std.proofs.lemmas.Bool.{false≢true}
-use Rattle.std.proofs.lemmas.List.{append-nil, append_assoc, length-append, length-map, map-append}
+use Rattle.trio_runner.proofs.Words.{◌++◌, ◌+◌, ◌∙◌, ◌∷◌, ◌≡◌, ◌≢◌, Again, Allot, ArePossible, Ask, AskedBy, Begun, Bool, BreaksOff, Busy, BusyMode, Call, CallLine, Called, Chmod, ChmodCalled, ChmodTried, Comes, ComesBy, CourseGoes, Creds, DeskIsLeft, DirTried, EndSettled, Ends, EndsAs, EndsBroken, EndsHandedIn, EndsModed, EntryCalled, FileCalled, FileTried, GiveBack, Given, GivesUp, Goes, Going, Grant, HandsIn, Heard, Holder, HonestComes, HonestLine, In, In-cases, In-right, InSession, IsAlike, IsDone, IsGiven, IsNotBusy, IsReplied, LeavesBy, LeftOut, LegalCalls, Lent, LibNo, LineAnswer, List, MatchBool, MayCall, Mode, ModeSet, NoMemory, NoModeMemory, Nodes, None, NotGiven, NotLent, NotModeSet, NotSettled, Once, Option, Origin, OthersLeave, Outcome, Path, Place, Release, Replied, Reply, Row, Says, SaysHonest, SessionCalled, SessionSeen, SetMode, SetsMode, Settle, SettleLine, Settled, Settles, Share, Shown, Some, Things, Told, Turn, TurnGoes, Unbegun, Unsettled, [], alike_back, all_parts, ap, append-nil, append_assoc, applied, arith, as_lent, asked, batch_nodes, creds_of, dir_needs, emptied, false, false≢true, grant_ask, hand_in_ask, inl, inr, is_dir_call, lacks_room, length, length-append, length-map, lent_to, map, map-append, mode_ask, parts_of, refl, sees_at, served_by, shows_root, started, subst, sym, told_outcome, took, took_alike, took_more, true, wants_of, with_answer, with_end, ℕ}
+use Rattle.std.specs.Prelude.{◌⊎◌}
 use Rattle.std.proofs.lemmas.List.Concat.{flat_map-append}
 use mathlib.Core.List.{append_cancel_left}
-use Rattle.trio_rights.specs.Row.{Row}
-use Rattle.trio_rights.specs.declared.rights.Creds.{Creds}
-use Rattle.trio_rights.specs.declared.rights.LibNo.{LibNo}
-use Rattle.trio_rights.specs.declared.rights.Mode.{Mode}
-use Rattle.trio_lists.specs.Lists.{In}
-use Rattle.trio_lists.proofs.Members.{In-cases, In-right}
-use Rattle.trio_lease.specs.Shown.{Shown}
-use Rattle.trio_nodes.specs.Nodes.{Nodes}
-use Rattle.trio_nodes.specs.Walk.{Path}
-use Rattle.trio_nodes.specs.Apply.{applied}
-use Rattle.trio_nodes.specs.After.{batch_nodes, lacks_room}
-use Rattle.trio_nodes.specs.Legal.{LegalCalls}
-use Rattle.trio_nodes.specs.declared.answers.ModeFault.TheVariants.{Busy as BusyMode, NoMemory as NoModeMemory}
-use Rattle.trio_nodes.specs.declared.call.Answer.TheVariants.{Done as IsDone}
 use Rattle.trio_nodes.specs.declared.call.Call as call
-use Rattle.trio_nodes.specs.declared.call.Call.TheVariants.{Chmod}
 use Rattle.trio_nodes.specs.declared.call.Done.{Done as DoneCall}
-use Rattle.trio_nodes.specs.declared.call.Reply.{Reply}
-use Rattle.trio_nodes.specs.declared.call.Reply.TheVariants.{Denied, Ok as IsReplied}
-use Rattle.trio_nodes.specs.declared.grant.Holder.{Holder}
-use Rattle.trio_desk.specs.Call.{Ask, Told, Grant, Allot, GiveBack, Release, Settle, SetMode, Lent, NotLent, Given, NotGiven, Settled, NotSettled, ModeSet, NotModeSet}
-use Rattle.trio_desk.specs.Calls.{Call}
+use Rattle.trio_nodes.specs.declared.call.Reply.TheVariants.{Denied}
 use Rattle.trio_desk.specs.Calls as desk
-use Rattle.trio_desk.specs.Ready.{ArePossible}
-use Rattle.trio_state.specs.State.{creds_of}
-use Rattle.trio_order.specs.Order.{all_parts, back_call, parts_of}
-use Rattle.trio_session.specs.Seen.{SessionSeen, emptied}
-use Rattle.trio_edit_laws.specs.Calls.{MayCall}
-use Rattle.trio_walk.specs.Asks.{AskedBy, Called, IsNotBusy, Settles, Once, Unsettled, Again, GivesUp, LeftOut, grant_ask}
-use Rattle.trio_walk.specs.Needs.{asked, dir_needs}
-use Rattle.trio_walk.specs.Walks.{served_by, shows_root}
-use Rattle.trio_walk.specs.declared.outcome.Outcome.{Outcome}
-use Rattle.trio_walk.specs.declared.outcome.Outcome.TheVariants.{Replied, Busy, NoMemory}
-use Rattle.trio_calls_file.specs.Asks.{FileCalled, FileTried}
+use Rattle.trio_order.specs.Order.{back_call}
 use Rattle.trio_calls_file.specs.Asks as on_file
-use Rattle.trio_calls_dir.specs.Asks.{ComesBy, DirTried, EntryCalled, wants_of}
 use Rattle.trio_calls_dir.specs.Asks as on_dir
-use Rattle.trio_calls_dir.specs.Chmods.{Begun, BreaksOff, ChmodCalled, ChmodTried, Comes, EndsAs, EndsBroken, EndsHandedIn, EndsModed, HandsIn, LeavesBy, SetsMode, Unbegun, hand_in_ask, lent_to, mode_ask}
-use Rattle.trio_turn.specs.Origins.{Origin}
-use Rattle.trio_shared.specs.Laws.{DeskIsLeft, OthersLeave}
-use Rattle.trio_shared.specs.Left.{started}
-use Rattle.trio_script.specs.declared.honest.HonestLine.{HonestLine}
-use Rattle.trio_script.specs.declared.honest.HonestLine.TheVariants.{Call as CallLine, Settle as SettleLine}
-use Rattle.trio_report.specs.declared.answer.LineAnswer.{LineAnswer}
 use Rattle.trio_report.specs.declared.answer.LineAnswer.TheVariants as answered
-use Rattle.trio_report.specs.declared.report.EndAnswer.TheVariants.{Settled as EndSettled}
-use Rattle.trio_runner.specs.Honest.{HonestComes, SessionCalled, is_dir_call, told_outcome}
-use Rattle.trio_runner.specs.Courses.{CourseGoes, Goes, Going, Place, TurnGoes, sees_at}
-use Rattle.trio_runner.specs.Rounds.{Turn, Says, SaysHonest, Ends}
-use Rattle.trio_runner.specs.Play.{Heard, InSession, Share, Things, with_answer, with_end}
 use Rattle.trio_runner.proofs.Batches.{calls_parted}
 use Rattle.trio_runner.proofs.Keeping.{course_keeps, turn_keeps}
 use Rattle.trio_runner.proofs.Left.{took_calls}
@@ -69,9 +25,6 @@ use Rattle.trio_runner.proofs.OneReply.{last_legal, reply_is, same_end}
 use Rattle.trio_runner.proofs.OneTry.{BothReplied, EndsSame, Final, Gets, NoneLast, OneLast, SameEnd, asks, final_of, first_same, given_goes_on, outcome_told, part_of, rest_same}
 use Rattle.trio_runner.proofs.RanFree.{HoldsAt, turn_holds}
 use Rattle.trio_runner.proofs.SeatHas.{AtSeat, Exact, Less, Possible, all_get, at_calls, at_goes, less_alike, less_exact, less_then, less_took, may_exact, own_creds, possible_at, possible_less, same_root, same_sizes, seat_settled, tolds, tried_exact}
-use Rattle.trio_session.specs.Asked.{IsAlike, IsGiven, took}
-use Rattle.trio_session.proofs.Alike.{took_alike, alike_back, took_more}
-use Rattle.trio_session.specs.Deeds.{as_lent}
 
 -- ---- calls in their parts
 

@@ -1,36 +1,12 @@
 -- Two calls of alike sessions come to the same, where two tries do: the tries one after another, and the settles between them.
-use Rattle.std.proofs.Common.{◌≡◌, ◌≢◌, List, [], ◌∷◌, ◌++◌, map, sym, ap, ◌∙◌, subst, inl, inr}
-use Rattle.trio_rights.specs.declared.rights.Creds.{Creds}
-use Rattle.trio_rights.specs.declared.rights.LibNo.{LibNo}
-use Rattle.trio_lists.specs.Lists.{In}
-use Rattle.trio_lists.proofs.Members.{In-cases, map-In}
-use Rattle.trio_lease.specs.Shown.{Shown}
-use Rattle.trio_nodes.specs.Nodes.{Nodes}
-use Rattle.trio_nodes.specs.After.{batch_nodes}
+use Rattle.trio_runner.proofs.Words.{◌++◌, ◌∙◌, ◌∷◌, ◌≡◌, ◌≢◌, Again, AreMoves, ArePossible, Ask, AskedBy, Busy, Call, Called, Creds, GivesUp, Holder, In, In-cases, IsAlike, IsNotBusy, LeftOut, LibNo, List, MayCall, NoMemory, Nodes, Noted, Notes, Once, Outcome, Parcel, Replied, SessionSeen, Settle, Settled, Settles, Shown, State, Tried, Unsettled, [], alike_back, answer_of, ap, apart, back_call, batch_nodes, creds_of, emptied, inl, inr, known, map, map-In, nodes_of, out_of, sees, subst, sym, took}
 use Rattle.trio_nodes.specs.declared.call.Done as done
-use Rattle.trio_nodes.specs.declared.grant.Holder.{Holder}
-use Rattle.trio_desk.specs.Call.{Ask, Settle, Settled}
-use Rattle.trio_desk.specs.Calls.{Call}
-use Rattle.trio_desk.specs.Out.{Parcel}
-use Rattle.trio_desk.specs.Ready.{ArePossible}
-use Rattle.trio_state.specs.State.{State, creds_of}
 use Rattle.trio_state.specs.Step as step
-use Rattle.trio_laws.specs.Known.{known}
-use Rattle.trio_laws.specs.history.Stands.{nodes_of}
-use Rattle.trio_ctl.specs.Desk.{answer_of, out_of}
-use Rattle.trio_session.specs.Seen.{SessionSeen, emptied}
-use Rattle.trio_edit_laws.specs.Calls.{MayCall}
-use Rattle.trio_walk.specs.Asks.{AskedBy, Called, IsNotBusy, Settles, Tried, Once, Unsettled, Again, GivesUp, LeftOut}
-use Rattle.trio_walk.specs.declared.outcome.Outcome.{Outcome}
-use Rattle.trio_walk.specs.declared.outcome.Outcome.TheVariants.{Replied, Busy, NoMemory}
-use Rattle.trio_runner.specs.Honest.{Noted, Notes, sees}
-use Rattle.trio_runner.specs.Moves.{AreMoves, apart, back_call}
 use Rattle.trio_runner.proofs.OneTry.{Carried, OneGoing, final_of, one_going, part_of, tried_carried}
 use Rattle.trio_runner.proofs.SameAnswers.{calls_known}
 use Rattle.trio_runner.proofs.SameNodes.{HasOut, StandsTrue, moves_true, possible_here}
 use Rattle.trio_runner.proofs.Sessions.{settle_plain}
-use Rattle.trio_session.specs.Asked.{IsAlike, took}
-use Rattle.trio_session.proofs.Alike.{alike_back, alike_then}
+use Rattle.trio_session.proofs.Alike.{alike_then}
 
 -- ---- alike sessions
 

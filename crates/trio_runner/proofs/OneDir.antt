@@ -1,48 +1,22 @@
 -- Two tries of alike sessions of one call on a directory come to the same.
-use Rattle.std.proofs.Common.{◌≡◌, ◌≢◌, ℕ, Bool, true, false, cond, eqb, ◌&&◌, List, [], ◌∷◌, ◌++◌, map, Option, Some, Result, Ok, Err, sym, refl, ap, ◌∙◌, subst, inl, inr}
-use Rattle.std.specs.Prelude.{◌⊎◌, is_some}
-use Rattle.std.proofs.lemmas.List.{map-append}
-use Rattle.trio_rights.specs.declared.kind.Kind.{Kind}
-use Rattle.trio_rights.specs.declared.kind.Kind.TheVariants.{Directory, Regular}
-use Rattle.trio_rights.specs.declared.rights.Creds.{Creds}
-use Rattle.trio_rights.specs.declared.rights.LibNo.{LibNo}
-use Rattle.trio_rights.specs.declared.rights.Mode.{Mode}
-use Rattle.trio_lists.specs.Lists.{In}
-use Rattle.trio_lists.proofs.Members.{In-right}
-use Rattle.trio_nodes.specs.Nodes.{Nodes, find_named, with_node}
-use Rattle.trio_nodes.specs.Walk.{Path, dir_of, is_root, name_of, walk_into}
-use Rattle.trio_nodes.specs.Apply.{Applied, applied, done, is_done, make, new_node, reached, refused}
-use Rattle.trio_nodes.specs.After.{batch_nodes, lacks_room}
-use Rattle.trio_nodes.specs.declared.call.Answer.TheVariants.{Done as IsDone}
+use Rattle.trio_runner.proofs.Words.{◌&&◌, ◌++◌, ◌∙◌, ◌∷◌, ◌≡◌, ◌≢◌, Allot, Applied, Ask, AskedBy, Bool, Busy, Call, ComesBy, Creds, DirTried, Directory, Err, Given, Grant, GrantKind, In, In-right, IsAlike, IsDone, Kind, Known, LibNo, List, Mode, NoMemory, Nodes, NotGiven, Noted, Notes, Ok, Option, Outcome, Path, Regular, Replied, Reply, Result, SessionSeen, Some, State, Target, Told, TryEnds, [], ap, applied, as_lent, asked, batch_nodes, cond, creds_of, dir_needs, dir_of, done, eqb, false, find_named, grant_ask, inl, inr, is_done, is_root, is_some, lacks_room, make, map, map-append, name_of, new_body, new_node, new_number, nodes_of, noted, out_of, refl, refused, sees, served_by, shows_root, subst, sym, took, took_alike, took_more, true, wants_of, with_node, with_slot, ℕ}
+use Rattle.std.specs.Prelude.{◌⊎◌}
+use Rattle.trio_nodes.specs.Walk.{walk_into}
+use Rattle.trio_nodes.specs.Apply.{reached}
 use Rattle.trio_nodes.specs.declared.call.Call as call
 use Rattle.trio_nodes.specs.declared.call.Call.TheVariants as calls
 use Rattle.trio_nodes.specs.declared.call.Done.{Done}
-use Rattle.trio_nodes.specs.declared.call.Reply.{Reply}
 use Rattle.trio_nodes.specs.declared.call.Reply.TheVariants as reply
-use Rattle.trio_nodes.specs.declared.grant.GrantKind.{GrantKind}
-use Rattle.trio_desk.specs.Call.{Ask, Told, Grant, Allot, Given, NotGiven}
-use Rattle.trio_desk.specs.Calls.{Call}
-use Rattle.trio_state.specs.State.{State, creds_of}
-use Rattle.trio_laws.specs.Known.{Known}
-use Rattle.trio_laws.specs.history.Stands.{nodes_of}
-use Rattle.trio_ctl.specs.Desk.{out_of}
-use Rattle.trio_session.specs.Seen.{SessionSeen, clear, fill}
-use Rattle.trio_walk.specs.Asks.{AskedBy, TryEnds, grant_ask, noted}
-use Rattle.trio_walk.specs.Needs.{asked, dir_needs}
-use Rattle.trio_walk.specs.Walks.{served_by, shows_root}
-use Rattle.trio_walk.specs.declared.outcome.Outcome.{Outcome}
-use Rattle.trio_walk.specs.declared.outcome.Outcome.TheVariants.{Replied, Busy, NoMemory}
-use Rattle.trio_calls_dir.specs.Asks.{ComesBy, ComesTo, DirTried, Leaves, Target, TriedIn, asks_of, edited, made_by, numbers_for, pages_for, wants_of}
+use Rattle.trio_session.specs.Seen.{clear, fill}
+use Rattle.trio_calls_dir.specs.Asks.{ComesTo, Leaves, TriedIn, asks_of, edited, made_by, numbers_for, pages_for}
 use Rattle.trio_calls_dir.proofs.Then.{edited_alike, made_alike, wants_alike}
-use Rattle.trio_runner.specs.Honest.{Noted, Notes, sees}
 use Rattle.trio_runner.proofs.Left.{dir_edited, took_calls}
 use Rattle.trio_runner.proofs.OneCall.{Facts, MayEnd, OneTry, alike_both, facts, may_some}
 use Rattle.trio_runner.proofs.OneReply.{reply_shown, same_end}
 use Rattle.trio_runner.proofs.OneTry.{Gets, asks, behind_going, calls_get, final_of, first_same, part_of, rest_same}
 use Rattle.trio_runner.proofs.SameNodes.{HasOut, StandsTrue, has_alike, may_has, nodes_known}
-use Rattle.trio_session.specs.Asked.{IsAlike, allot_asks, took}
-use Rattle.trio_session.proofs.Alike.{took_alike, took_more}
-use Rattle.trio_session.specs.Deeds.{as_lent, new_body, new_number, slot_growth, with_slot}
+use Rattle.trio_session.specs.Asked.{allot_asks}
+use Rattle.trio_session.specs.Deeds.{slot_growth}
 
 -- ---- replies
 

@@ -1,33 +1,14 @@
 -- Two calls of alike sessions on one file come to the same.
-use Rattle.std.proofs.Common.{◌≡◌, ℕ, List, [], ◌∷◌, ◌++◌, map, false, sym, ap, ◌∙◌, subst, Ok}
-use Rattle.trio_rights.specs.declared.rights.Creds.{Creds}
-use Rattle.trio_rights.specs.declared.rights.LibNo.{LibNo}
-use Rattle.trio_nodes.specs.Nodes.{Nodes}
-use Rattle.trio_nodes.specs.Apply.{applied}
-use Rattle.trio_nodes.specs.After.{batch_nodes, lacks_room}
+use Rattle.trio_runner.proofs.Words.{◌++◌, ◌∙◌, ◌∷◌, ◌≡◌, Ask, AskedBy, Busy, Call, Creds, FileTried, IsAlike, Known, LibNo, List, NoMemory, Nodes, Noted, Notes, Ok, Outcome, Replied, Reply, SessionSeen, State, Told, [], ap, applied, batch_nodes, creds_of, false, lacks_room, map, nodes_of, noted, out_of, sees, subst, sym, took, took_alike, ℕ}
 use Rattle.trio_nodes.specs.declared.call.Call as call
 use Rattle.trio_nodes.specs.declared.call.Done.{Done}
-use Rattle.trio_nodes.specs.declared.call.Reply.{Reply}
 use Rattle.trio_nodes.specs.declared.call.Reply.TheVariants as reply
-use Rattle.trio_desk.specs.Call.{Ask, Told}
-use Rattle.trio_desk.specs.Calls.{Call}
-use Rattle.trio_state.specs.State.{State, creds_of}
-use Rattle.trio_laws.specs.Known.{Known}
-use Rattle.trio_laws.specs.history.Stands.{nodes_of}
-use Rattle.trio_ctl.specs.Desk.{out_of}
-use Rattle.trio_session.specs.Seen.{SessionSeen}
-use Rattle.trio_walk.specs.Asks.{AskedBy, noted}
-use Rattle.trio_walk.specs.declared.outcome.Outcome.{Outcome}
-use Rattle.trio_walk.specs.declared.outcome.Outcome.TheVariants.{Replied, Busy, NoMemory}
-use Rattle.trio_calls_file.specs.Asks.{ComesTo, FileTried, Leaves, TriedIn, asks_of, edited}
+use Rattle.trio_calls_file.specs.Asks.{ComesTo, Leaves, TriedIn, asks_of, edited}
 use Rattle.trio_calls_file.proofs.AfterTaking.{edited_alike}
-use Rattle.trio_runner.specs.Honest.{Noted, Notes, sees}
 use Rattle.trio_runner.proofs.Left.{file_edited, took_calls}
 use Rattle.trio_runner.proofs.OneCall.{Facts, MayEnd, OneTry, alike_both, facts, may_some, tried_going}
 use Rattle.trio_runner.proofs.OneReply.{reply_shown, same_end}
 use Rattle.trio_runner.proofs.SameNodes.{HasOut, StandsTrue, has_alike, may_has, nodes_known}
-use Rattle.trio_session.specs.Asked.{IsAlike, took}
-use Rattle.trio_session.proofs.Alike.{took_alike}
 
 -- ---- what a try leaves
 

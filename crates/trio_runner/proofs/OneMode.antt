@@ -1,54 +1,18 @@
 -- Two tries of alike sessions of one change of mode come to the same.
-use Rattle.std.proofs.Common.{◌≡◌, ◌≢◌, ℕ, ◌+◌, arith, List, [], ◌∷◌, ◌++◌, map, Option, Some, None, sym, refl, ap, ◌∙◌, subst, inl, inr}
-use Rattle.std.proofs.lemmas.Bool.{false≢true}
-use Rattle.std.proofs.lemmas.List.{append-nil}
-use Rattle.trio_rights.specs.declared.rights.Creds.{Creds}
-use Rattle.trio_rights.specs.declared.rights.LibNo.{LibNo}
-use Rattle.trio_rights.specs.declared.rights.Mode.{Mode}
-use Rattle.trio_lease.specs.Shown.{Shown}
-use Rattle.trio_nodes.specs.Nodes.{Nodes}
-use Rattle.trio_nodes.specs.Walk.{Path}
-use Rattle.trio_nodes.specs.Apply.{Applied, is_done}
-use Rattle.trio_nodes.specs.declared.answers.ModeFault.TheVariants.{Busy as BusyMode, NoMemory as NoModeMemory}
-use Rattle.trio_nodes.specs.declared.call.Answer.TheVariants.{Done as IsDone}
+use Rattle.trio_runner.proofs.Words.{◌++◌, ◌+◌, ◌∙◌, ◌∷◌, ◌≡◌, ◌≢◌, Applied, AreBack, ArePossible, Ask, Begun, BreaksOff, Busy, BusyMode, Call, Calls, Chmod, ChmodCalled, ChmodTried, Comes, Creds, DeskSeen, EndsAs, EndsBroken, EndsHandedIn, EndsModed, HandsIn, Happens, Holder, IsAlike, IsDone, IsReplied, Kept, Known, LeavesBy, LibNo, List, Mode, ModeSet, NoMemory, NoModeMemory, Nodes, None, NotModeSet, NotSettled, Noted, Notes, Option, Outcome, Parcel, Path, Replied, Reply, SameAnswer, SessionSeen, SetMode, SetsMode, Settle, Settled, Shown, Some, State, Told, TriedSo, Unbegun, [], all_back, ap, apart, append-nil, arith, asked, bundle_of, creds_of, emptied, false≢true, given_back, grant_ask, hand_in_ask, happens_creds, inl, inr, is_done, known, lent_to, map, mode_ask, nodes_of, others_see, out_of, refl, same_event_same_answer, sees, served_by, shows_root, step_kept, subst, sym, took_alike, ℕ}
 use Rattle.trio_nodes.specs.declared.call.Call as call
-use Rattle.trio_nodes.specs.declared.call.Call.TheVariants.{Chmod}
 use Rattle.trio_nodes.specs.declared.call.Done as done
-use Rattle.trio_nodes.specs.declared.call.Reply.{Reply}
-use Rattle.trio_nodes.specs.declared.call.Reply.TheVariants.{Ok as IsReplied, Denied}
-use Rattle.trio_nodes.specs.declared.grant.Holder.{Holder}
-use Rattle.trio_desk.specs.Call.{Ask, Told, DeskSeen, Settle, SetMode, Settled, NotSettled, ModeSet, NotModeSet}
-use Rattle.trio_desk.specs.Calls.{Call, Calls}
-use Rattle.trio_desk.specs.Out.{Parcel}
-use Rattle.trio_desk.specs.Ready.{ArePossible, Moded, bundle_of}
-use Rattle.trio_state.specs.State.{State, creds_of}
-use Rattle.trio_state.specs.Kept.{Kept}
-use Rattle.trio_state.specs.Grants.{given_back}
+use Rattle.trio_nodes.specs.declared.call.Reply.TheVariants.{Denied}
+use Rattle.trio_desk.specs.Ready.{Moded}
 use Rattle.trio_state.specs.Step as step
-use Rattle.trio_laws.specs.Known.{Known, SameAnswer, known}
-use Rattle.trio_laws.specs.history.Stands.{nodes_of}
-use Rattle.trio_laws.proofs.KnownSteps.{same_event_same_answer}
-use Rattle.trio_laws.proofs.Runs.{step_kept}
-use Rattle.trio_ctl.specs.Backs.{AreBack, all_back}
-use Rattle.trio_ctl.specs.Desk.{Happens, out_of}
-use Rattle.trio_ctl.proofs.DeskSteps.{happens_creds, others_see}
 use Rattle.trio_ctl.proofs.LeasesBack.{backs_kept}
-use Rattle.trio_session.specs.Seen.{SessionSeen, emptied}
-use Rattle.trio_walk.specs.Asks.{grant_ask}
-use Rattle.trio_walk.specs.Needs.{asked, chmod_needs}
-use Rattle.trio_walk.specs.Walks.{served_by, shows_root}
-use Rattle.trio_walk.specs.declared.outcome.Outcome.{Outcome}
-use Rattle.trio_walk.specs.declared.outcome.Outcome.TheVariants.{Replied, Busy, NoMemory}
-use Rattle.trio_calls_dir.specs.Chmods.{AsksSo, BreaksOff, ChmodCalled, ChmodTried, Begun, Unbegun, Comes, ComesSo, EndsAs, EndsBroken, EndsHandedIn, EndsModed, HandsIn, LeavesBy, Refuses, SetsMode, TriedSo, hand_in_ask, lent_to, mode_ask}
-use Rattle.trio_runner.specs.Honest.{Noted, Notes, sees}
-use Rattle.trio_runner.specs.Moves.{apart}
+use Rattle.trio_walk.specs.Needs.{chmod_needs}
+use Rattle.trio_calls_dir.specs.Chmods.{AsksSo, ComesSo, Refuses}
 use Rattle.trio_runner.proofs.Batches.{calls_parted, one_called}
 use Rattle.trio_runner.proofs.OneCall.{MayEnd, OneEnd, OneTry, alike_both, may_some, one_call, one_settle, settled_has}
 use Rattle.trio_runner.proofs.OneTry.{BothReplied, Carried, EndsSame, Final, PartOf, SameEnd, final_of, one_going, tried_carried}
 use Rattle.trio_runner.proofs.SameNodes.{HasOut, StandsTrue, moves_true, nodes_known, possible_here}
 use Rattle.trio_runner.proofs.Sessions.{IsAsked, asked_plain}
-use Rattle.trio_session.specs.Asked.{IsAlike}
-use Rattle.trio_session.proofs.Alike.{took_alike}
 use Rattle.trio_walk.proofs.Then.{possible_then}
 
 -- ---- the grants

@@ -1,61 +1,14 @@
 -- Two plays of one script on one image come to the same.
-use Rattle.std.proofs.Common.{◌≡◌, ◌≢◌, ℕ, zero, suc, ◌+◌, ◌<◌, length, arith, ◌-◌, Bool, true, false, List, [], ◌∷◌, Option, Some, None, sym, refl, ap, ◌∙◌, subst, inl, inr, get_or, set}
-use Rattle.std.specs.Prelude.{MatchBool, MatchOption, slice_get}
-use Rattle.std.proofs.lemmas.Bool.{false≢true}
-use Rattle.trio_rights.specs.declared.rights.LibNo.{LibNo}
-use Rattle.trio_nodes.specs.declared.answers.GrantFault.TheVariants.{NotLive, Denied, NoParent, Busy, NoMemory as NoGrantMemory}
-use Rattle.trio_nodes.specs.declared.answers.AllotFault.TheVariants.{NoPages as NoFreePages, NoInodes as NoFreeInodes, NoMemory as NoAllotMemory}
-use Rattle.trio_nodes.specs.declared.answers.ReleaseAnswer.{ReleaseAnswer}
-use Rattle.trio_nodes.specs.declared.answers.ReleaseAnswer.TheVariants.{Accepted as AcceptedParcel, Refused as RefusedParcel}
-use Rattle.trio_nodes.specs.declared.answers.ReleaseFault.TheVariants.{NotClosed as NotClosedParcel, NoMemory as NoReleaseMemory}
+use Rattle.trio_runner.proofs.Words.{◌+◌, ◌-◌, ◌<◌, ◌∙◌, ◌∷◌, ◌≡◌, ◌≢◌, AcceptedParcel, AllotLine, Alone, AreMoves, Ask, Asks, AtStart, BackLine, BeginsWith, Bool, Call, CallLine, Creds, Denied, DirTried, Done, EndAnswer, EndComes, EndSettled, Ends, EndsAll, EndsAlone, EntryCalled, FileCalled, FileTried, GiveBack, Given, Grant, GrantLine, Has, Heard, HoldsAll, HonestComes, HonestLine, HonestLines, Image, In, In-cases, InSession, IsAlike, IsFit, IsHeld, IsLibraryOf, IsWhole, Judged, Kept, Known, LeaseIs, Lent, LentIsTrue, LibNo, LineAnswer, LineComes, Lines, List, MatchBool, MatchOption, MayCall, ModeLine, ModeSet, Move, NoAllotMemory, NoFreeInodes, NoFreePages, NoGrantMemory, NoMemory, NoParent, NoReleaseMemory, None, NotClosedParcel, NotGiven, NotJudged, NotLent, NotLive, NotModeSet, NotSettled, Noted, Notes, Option, Outcome, Peek, Placed, Players, Plays, Poke, RawLine, RawLines, RefusedParcel, ReleaseAnswer, ReleaseLine, Replied, SameAnswer, Says, SaysHonest, ScriptLib, SessionCalled, SessionSeen, SettleLine, Settled, Share, Shown, Some, State, TakesTurn, Things, Told, Turn, TurnComes, Verifies, [], answer_of, ap, arith, ask_of, back_calls, desk_of, end_of, event_of, false, false≢true, get_or, has_after, has_nothing, inl, inr, is_dir_call, known, length, new_session, nothing, out_of, plain_step, refl, release_call, same_event_same_answer, sees, set, share_of, slice_get, subst, suc, sym, told_of, told_outcome, told_to, true, turns_of, unnoted, untold, with_answer, with_end, zero, ℕ}
+use Rattle.trio_nodes.specs.declared.answers.GrantFault.TheVariants.{Busy}
 use Rattle.trio_nodes.specs.declared.answers.ModeFault.TheVariants as unmoded
-use Rattle.trio_lease.specs.Shown.{Shown}
-use Rattle.trio_lists.specs.Lists.{In}
-use Rattle.trio_lists.proofs.Members.{In-cases}
-use Rattle.trio_desk.specs.Call.{Ask, Told, Grant, GiveBack, Lent, NotLent, Given, NotGiven, Done, Judged, NotJudged, Settled, NotSettled, ModeSet, NotModeSet}
-use Rattle.trio_desk.specs.Calls.{Call}
-use Rattle.trio_state.specs.State.{State}
-use Rattle.trio_state.specs.Kept.{Kept}
-use Rattle.trio_state.specs.Run.{Move}
 use Rattle.trio_state.specs.Step as step
-use Rattle.trio_laws.specs.Known.{Known, known, SameAnswer}
-use Rattle.trio_laws.proofs.KnownSteps.{same_event_same_answer}
-use Rattle.trio_ctl.proofs.DeskSteps.{plain_step}
 use Rattle.trio_runner.proofs.Plain.{ask_plain, backs_plain, turn_plain}
-use Rattle.trio_ctl.specs.Desk.{LeaseIs, answer_of, desk_of, event_of, out_of}
-use Rattle.trio_raw.specs.Has.{Has, has_nothing, nothing}
-use Rattle.trio_raw.specs.Asked.{back_calls, release_call}
-use Rattle.trio_script.specs.declared.line.RawLine.{RawLine}
-use Rattle.trio_script.specs.declared.line.RawLine.TheVariants.{Grant as GrantLine, Allot as AllotLine, Back as BackLine, Poke, Peek, Release as ReleaseLine, Mode as ModeLine}
-use Rattle.trio_report.specs.declared.answer.LineAnswer.{LineAnswer}
-use Rattle.trio_report.specs.declared.report.EndAnswer.{EndAnswer}
-use Rattle.trio_runner.specs.Line.{Alone, Asks, LineComes, EndsAlone, EndsAll, EndComes, ask_of, end_of, has_after, told_of}
-use Rattle.trio_script.specs.declared.Lines.{Lines}
-use Rattle.trio_script.specs.declared.Lines.TheVariants.{Raw as RawLines, Honest as HonestLines}
-use Rattle.trio_rights.specs.declared.rights.Creds.{Creds}
-use Rattle.trio_runner.specs.Rounds.{Placed, Turn, Says, SaysHonest, Ends, turns_of}
 use Rattle.trio_nodes.specs.declared.call.Call as call
 use Rattle.trio_nodes.specs.declared.call.Call.TheVariants as calls
-use Rattle.trio_runner.specs.Honest.{HonestComes, SessionCalled, Noted, Notes, sees, told_outcome, unnoted, is_dir_call}
-use Rattle.trio_runner.specs.Moves.{AreMoves}
-use Rattle.trio_runner.specs.Play.{AtStart, BeginsWith, Heard, IsLibraryOf, Players, Plays, Share, TakesTurn, Things, InSession, TurnComes, new_session, share_of, told_to, untold, with_answer, with_end}
 use Rattle.trio_runner.specs.PlayLaws.{PlayedIsOne}
-use Rattle.trio_runner.specs.inner.Ready.{HoldsAll, IsHeld}
-use Rattle.trio_layout.specs.Image.{Image, IsFit}
-use Rattle.trio_layout.specs.Verifies.{Verifies}
-use Rattle.trio_state.specs.Run.{IsWhole}
-use Rattle.trio_laws.specs.session.Lent.{LentIsTrue}
-use Rattle.trio_session.specs.Seen.{SessionSeen}
-use Rattle.trio_edit_laws.specs.Calls.{MayCall}
-use Rattle.trio_walk.specs.declared.outcome.Outcome.{Outcome}
-use Rattle.trio_walk.specs.declared.outcome.Outcome.TheVariants.{Replied, Busy as BusyCall, NoMemory}
-use Rattle.trio_calls_file.specs.Asks.{FileCalled, FileTried}
-use Rattle.trio_calls_dir.specs.Asks.{DirTried, EntryCalled}
-use Rattle.trio_script.specs.declared.ScriptLib.{ScriptLib}
-use Rattle.trio_script.specs.declared.honest.HonestLine.{HonestLine}
-use Rattle.trio_script.specs.declared.honest.HonestLine.TheVariants.{Call as CallLine, Settle as SettleLine}
+use Rattle.trio_walk.specs.declared.outcome.Outcome.TheVariants.{Busy as BusyCall}
 use Rattle.trio_report.specs.declared.answer.LineAnswer.TheVariants as answered
-use Rattle.trio_report.specs.declared.report.EndAnswer.TheVariants.{Settled as EndSettled}
 use Rattle.trio_runner.proofs.OneCall.{MayEnd, OneEnd as OneCalled, one_call, one_settle}
 use Rattle.trio_runner.proofs.OneDir.{one_dir}
 use Rattle.trio_runner.proofs.OneFile.{one_file}
@@ -65,7 +18,6 @@ use Rattle.trio_runner.proofs.Moves.{Stands, moves_parted, moves_stand, no_move,
 use Rattle.trio_runner.proofs.Held.{held_after, held_stands, noted_of}
 use Rattle.trio_runner.proofs.EndFree.{Libraries, libraries_later, script_libraries, start_held, within_some}
 use Rattle.trio_runner.proofs.SameAnswers.{Alike, Lends, answers_alike, calls_known, lends_same, no_lease, Same, BothRefused}
-use Rattle.trio_session.specs.Asked.{IsAlike}
 
 -- ---- answers
 

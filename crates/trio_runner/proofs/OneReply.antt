@@ -1,24 +1,9 @@
 -- What a try tells that is replied is what its call comes to.
-use Rattle.std.proofs.Common.{◌≡◌, ℕ, List, [], ◌∷◌, ◌++◌, false, sym, refl, ap, subst, inl, inr}
-use Rattle.std.proofs.lemmas.Bool.{false≢true}
-use Rattle.trio_rights.specs.declared.rights.Creds.{Creds}
-use Rattle.trio_rights.specs.declared.rights.LibNo.{LibNo}
-use Rattle.trio_nodes.specs.Nodes.{Nodes}
-use Rattle.trio_nodes.specs.Apply.{Apply, LacksRoom, applied}
-use Rattle.trio_nodes.specs.After.{batch_nodes, call_nodes, lacks_room}
-use Rattle.trio_nodes.specs.Legal.{LegalCalls}
+use Rattle.trio_runner.proofs.Words.{◌++◌, ◌∷◌, ◌≡◌, Apply, ArePossible, Creds, LegalCalls, LibNo, List, MayCall, Nodes, Noted, Outcome, Replied, Reply, SessionSeen, [], ap, applied, batch_nodes, call_nodes, creds_of, false, false≢true, inl, inr, lacks_room, nodes_of, refl, sees, subst, sym, ℕ}
+use Rattle.trio_nodes.specs.Apply.{LacksRoom}
 use Rattle.trio_nodes.specs.declared.call.Call as call
 use Rattle.trio_nodes.specs.declared.call.Done.{Done}
-use Rattle.trio_nodes.specs.declared.call.Reply.{Reply}
 use Rattle.trio_nodes.specs.declared.call.Reply.TheVariants as reply
-use Rattle.trio_desk.specs.Ready.{ArePossible}
-use Rattle.trio_state.specs.State.{creds_of}
-use Rattle.trio_laws.specs.history.Stands.{nodes_of}
-use Rattle.trio_session.specs.Seen.{SessionSeen}
-use Rattle.trio_edit_laws.specs.Calls.{MayCall}
-use Rattle.trio_walk.specs.declared.outcome.Outcome.{Outcome}
-use Rattle.trio_walk.specs.declared.outcome.Outcome.TheVariants.{Replied}
-use Rattle.trio_runner.specs.Honest.{Noted, sees}
 use Rattle.trio_runner.proofs.OneTry.{SameEnd, EndsSame, BothReplied}
 
 -- the last of legal calls

@@ -1,58 +1,14 @@
 -- Two runs, in whose orders the libraries call in the same sequence and the honest ones ask the same, come to the same: the controller
 -- tells both the same, and so each raw library asks the same next.
-use Rattle.std.proofs.Common.{◌≡◌, ◌≢◌, ◌⊎◌, ℕ, suc, ◌+◌, ◌-◌, ◌<◌, ◌≤◌, ◌==◌, Bool, true, false, List, [], ◌∷◌, ◌++◌, get_or, length, map, Option, Some, None, sym, refl, ap, ◌∙◌, subst, inl, inr, arith}
-use Rattle.std.specs.Prelude.{MatchBool, MatchOption, if◌then◌else◌, slice_get}
-use Rattle.std.proofs.lemmas.Option.{slice_get_within}
-use Rattle.std.specs.List.{filter}
-use Rattle.std.proofs.lemmas.Bool.{cases_eq, cases_lt, eq-eqb, ne_eqb}
-use Rattle.std.proofs.lemmas.List.{append-nil, append_assoc, length-map}
+use Rattle.trio_runner.proofs.Words.{if◌then◌else◌, ◌++◌, ◌+◌, ◌-◌, ◌<◌, ◌==◌, ◌∙◌, ◌∷◌, ◌≡◌, ◌≢◌, ◌≤◌, ◌⊎◌, Allot, Alone, Ask, Asks, BeginsWith, Bool, BusyGrant, BusyMode, Call, CourseGoes, Denied, DeskIsLeft, Done, EndAnswer, EndComes, Ends, EndsAll, EndsAlone, Entry, GiveBack, Given, Goes, Going, Grant, Happening, Happens, Has, Heard, Holder, Honest, HonestLine, Image, In, In-cases, InSession, IsLibraryOf, IsPlain, Judged, Known, Lease, Lent, LibNo, LineAnswer, LineComes, Lines, List, MatchBool, MatchOption, ModeSet, NoAllotMemory, NoFreeInodes, NoFreePages, NoGrantMemory, NoParent, None, NotGiven, NotJudged, NotLent, NotLive, NotModeSet, NotSettled, OneOrder, Option, Origin, OthersLeave, Place, Raw, RawLine, RefusedParcel, Release, ReleaseAnswer, Says, SaysHonest, ScriptLib, ScriptLine, ScriptRan, SessionSeen, SetMode, Settle, SettledAll, Share, Shown, Some, State, Things, Told, Turn, TurnGoes, [], all_parts, answer_of, ap, apart, append-nil, append_assoc, arith, arrives, ask_of, back_calls, calls_by, cases_lt, creds_in, creds_of, end_of, eq-eqb, event_of, false, filter, get_or, has_nothing, heard_by, inl, inr, known, length, length-map, line_turns, map, map-In, ne_eqb, new_session, nothing, origin_in, parts_of, plain_step, refl, release_call, same_event_same_answer, sees_at, slice_get, slice_get_within, start, started, subst, suc, sym, true, untold, with_answer, with_end, ℕ}
+use Rattle.std.proofs.lemmas.Bool.{cases_eq}
 use Rattle.std.proofs.lemmas.List.Concat.{flat_map-append}
 use mathlib.Core.List.{append_cancel_left}
-use Rattle.trio_rights.specs.declared.rights.LibNo.{LibNo}
-use Rattle.trio_lists.specs.Lists.{In}
-use Rattle.trio_lists.proofs.Members.{In-cases, map-In}
-use Rattle.trio_lease.specs.Shown.{Shown}
-use Rattle.trio_lease.specs.declared.lease.Lease.{Lease}
-use Rattle.trio_nodes.specs.declared.entry.Entry.{Entry}
-use Rattle.trio_nodes.specs.declared.grant.Holder.{Holder}
-use Rattle.trio_nodes.specs.declared.answers.GrantFault.TheVariants.{NotLive, Denied, NoParent, Busy as BusyGrant, NoMemory as NoGrantMemory}
-use Rattle.trio_nodes.specs.declared.answers.AllotFault.TheVariants.{NoPages as NoFreePages, NoInodes as NoFreeInodes, NoMemory as NoAllotMemory}
-use Rattle.trio_nodes.specs.declared.answers.ModeFault.TheVariants.{Busy as BusyMode}
 use Rattle.trio_nodes.specs.declared.call.Call as call
-use Rattle.trio_layout.specs.Image.{Image}
-use Rattle.trio_desk.specs.Call.{Ask, Told, Grant, Allot, GiveBack, Release, Settle, SetMode, Lent, NotLent, Given, NotGiven, Done, Judged, NotJudged, Settled as SettledAll, NotSettled, ModeSet, NotModeSet}
-use Rattle.trio_desk.specs.Calls.{Call}
 use Rattle.trio_desk.specs.Calls as desk
-use Rattle.trio_state.specs.State.{IsLibrary, State, creds_of}
-use Rattle.trio_turn.specs.Origins.{Origin}
-use Rattle.trio_shared.specs.Laws.{DeskIsLeft, OthersLeave}
-use Rattle.trio_shared.specs.Left.{started}
-use Rattle.trio_nodes.specs.declared.answers.ReleaseAnswer.{ReleaseAnswer}
-use Rattle.trio_nodes.specs.declared.answers.ReleaseAnswer.TheVariants.{Refused as RefusedParcel}
-use Rattle.trio_state.specs.Run.{start}
+use Rattle.trio_state.specs.State.{IsLibrary}
 use Rattle.trio_state.specs.Step as step
-use Rattle.trio_laws.specs.Known.{Known, known}
-use Rattle.trio_laws.proofs.KnownSteps.{same_event_same_answer}
-use Rattle.trio_ctl.specs.Desk.{Happens, answer_of, event_of}
-use Rattle.trio_ctl.proofs.DeskSteps.{IsPlain, plain_step}
-use Rattle.trio_order.specs.Order.{Happening, InOrder, all_parts, back_call, calls_by, parts_of}
-use Rattle.trio_order.specs.OrderLaws.{OneOrder}
-use Rattle.trio_raw.specs.Has.{Has, has_nothing, nothing}
-use Rattle.trio_raw.specs.Asked.{back_calls, release_call}
-use Rattle.trio_script.specs.declared.Lines.{Lines}
-use Rattle.trio_session.specs.Seen.{SessionSeen}
-use Rattle.trio_script.specs.declared.Lines.TheVariants.{Honest, Raw}
-use Rattle.trio_script.specs.declared.ScriptLib.{ScriptLib}
-use Rattle.trio_script.specs.declared.ScriptLine.{ScriptLine}
-use Rattle.trio_script.specs.declared.honest.HonestLine.{HonestLine}
-use Rattle.trio_script.specs.declared.line.RawLine.{RawLine}
-use Rattle.trio_report.specs.declared.answer.LineAnswer.{LineAnswer}
-use Rattle.trio_report.specs.declared.report.EndAnswer.{EndAnswer}
-use Rattle.trio_runner.specs.Line.{Alone, Asks, EndComes, EndsAll, EndsAlone, LineComes, ask_of, end_of}
-use Rattle.trio_runner.specs.Courses.{CourseGoes, Goes, Going, Place, TurnGoes, arrives, sees_at}
-use Rattle.trio_runner.specs.Rounds.{Turn, Says, SaysHonest, Ends, line_turns}
-use Rattle.trio_runner.specs.Play.{BeginsWith, Heard, InSession, IsLibraryOf, Share, Things, creds_in, heard_by, new_session, untold, with_answer, with_end}
-use Rattle.trio_runner.specs.Runs.{ScriptRan, origin_in}
+use Rattle.trio_order.specs.Order.{InOrder, back_call}
 use Rattle.trio_runner.specs.RunLaws.{CallAlike, EndAlike, IsRaw, OrderIsOne, libraries_in}
 use Rattle.trio_runner.proofs.EndFree.{creds_at, script_library, within_some}
 use Rattle.trio_runner.proofs.OneAsked.{HasMore, course_at, did, made_calls, more_stays}
@@ -67,7 +23,6 @@ use Rattle.trio_runner.proofs.OneTry.{Gets, lent_gets}
 use Rattle.trio_runner.proofs.Plain.{ask_plain, backs_plain, end_plain, line_plain}
 use Rattle.trio_runner.proofs.SameAnswers.{Alike, BothRefused, Lends, Same, answers_alike, lends_same, no_lease}
 use Rattle.trio_runner.proofs.Sessions.{ArePlain, IsAsked, asked_plain, line_keeps, settle_keeps}
-use Rattle.trio_runner.specs.Moves.{apart}
 
 -- ---- one call in each
 

@@ -1,37 +1,8 @@
 -- Two tries of one call from alike sessions, on controllers of which the same is known, ask and are told the same.
-use Rattle.std.proofs.Common.{◌≡◌, ◌≢◌, Bool, true, false, cond, ℕ, length, ltb, take, List, [], ◌∷◌, ◌++◌, map, Option, Some, None, sym, refl, ap, ◌∙◌, subst, inl, inr}
-use Rattle.std.proofs.lemmas.List.{append-nil}
-use Rattle.trio_rights.specs.Row.{Row}
-use Rattle.trio_rights.specs.declared.rights.LibNo.{LibNo}
-use Rattle.trio_lists.specs.Lists.{In}
-use Rattle.trio_lease.specs.declared.lease.Lease.{Lease}
-use Rattle.trio_nodes.specs.declared.answers.GrantFault.{GrantFault}
-use Rattle.trio_nodes.specs.declared.answers.GrantFault.TheVariants.{Denied, Busy as BusyGrant}
-use Rattle.trio_nodes.specs.declared.answers.AllotFault.TheVariants.{NoPages as NoFreePages, NoInodes as NoFreeInodes}
-use Rattle.trio_nodes.specs.declared.answers.ReleaseAnswer.{ReleaseAnswer}
-use Rattle.trio_nodes.specs.declared.call.Reply.{Reply}
+use Rattle.trio_runner.proofs.Words.{◌++◌, ◌∙◌, ◌∷◌, ◌≡◌, ◌≢◌, Allot, Ask, AskedBy, Bool, Busy, BusyGrant, Call, Calls, CtlAnswer, Denied, Done, GiveBack, Given, Grant, GrantFault, Happens, In, IsAccepted, IsGiven, IsRefused, Judged, Lease, Lent, LibNo, List, ModeSet, NoFreeInodes, NoFreePages, NoMemory, None, NotGiven, NotJudged, NotLent, NotModeSet, NotSettled, Noted, Notes, Option, Outcome, Parted, Release, ReleaseAnswer, Replied, Reply, Row, SessionSeen, SetMode, Settle, Settled, Some, State, Step, Told, TryEnds, [], all_back, allots, answer_of, ap, append-nil, cond, event_of, false, free_numbers, free_pages, grant_fault, granted_to, happens_creds, inl, inr, known, lacks_room, length, logged, ltb, map, mode_fault, nodes_of, out_of, refl, row_at, same_event_same_answer, subst, sym, take, took, true, with_allotted, with_lease, ℕ}
 use Rattle.trio_nodes.specs.declared.call.Reply.TheVariants as reply
-use Rattle.trio_nodes.specs.After.{lacks_room}
-use Rattle.trio_desk.specs.Call.{Ask, Told, Grant, Allot, GiveBack, Release, Settle, SetMode, Lent, NotLent, Given, NotGiven, Done, Judged, NotJudged, Settled, NotSettled, ModeSet, NotModeSet}
-use Rattle.trio_desk.specs.Calls.{Call, Calls}
-use Rattle.trio_layout.specs.Image.{row_at}
-use Rattle.trio_state.specs.State.{State, logged}
-use Rattle.trio_state.specs.Allotments.{allots, free_numbers, free_pages}
-use Rattle.trio_state.specs.Grants.{grant_fault}
-use Rattle.trio_state.specs.Step.{Comes, CtlAnswer, Outcome as StepOutcome, Step, Parted, IsAccepted, IsRefused, granted_to, mode_fault}
+use Rattle.trio_state.specs.Step.{Comes, Outcome as StepOutcome}
 use Rattle.trio_state.specs.Step as step
-use Rattle.trio_laws.specs.Known.{known}
-use Rattle.trio_laws.specs.history.Stands.{nodes_of}
-use Rattle.trio_laws.proofs.KnownSteps.{same_event_same_answer}
-use Rattle.trio_ctl.specs.Backs.{all_back}
-use Rattle.trio_ctl.specs.Desk.{Happens, answer_of, event_of, out_of}
-use Rattle.trio_ctl.proofs.DeskSteps.{happens_creds}
-use Rattle.trio_session.specs.Asked.{with_allotted, with_lease, IsGiven, took}
-use Rattle.trio_session.specs.Seen.{SessionSeen}
-use Rattle.trio_walk.specs.Asks.{AskedBy, TryEnds}
-use Rattle.trio_walk.specs.declared.outcome.Outcome.{Outcome}
-use Rattle.trio_walk.specs.declared.outcome.Outcome.TheVariants.{Replied, Busy, NoMemory}
-use Rattle.trio_runner.specs.Honest.{Noted, Notes}
 use Rattle.trio_runner.proofs.CallLeaves.{Fits, call_leaves}
 use Rattle.trio_runner.proofs.Moves.{Stands, call_stands}
 use Rattle.trio_runner.proofs.SameAnswers.{Alike, Lends, Same, BothRefused, answers_alike, lends_same, no_lease}

@@ -1,16 +1,7 @@
 -- The turns of each library in a script.
-use Rattle.std.proofs.Common.{◌≡◌, ℕ, zero, suc, ◌+◌, ◌<◌, ◌≤◌, max, Bool, true, false, cond, eqb, ltb, List, [], ◌∷◌, ◌++◌, length, Option, Some, None, sym, refl, ap, ◌∙◌, subst, inl, inr, ◌⊎◌, arith, ltb-true, ltb-false, get_or, drop, drop-cons, take, nat_cmp, is_lt, Less, Equal, Greater}
+use Rattle.trio_runner.proofs.Words.{◌++◌, ◌+◌, ◌<◌, ◌∙◌, ◌∷◌, ◌≡◌, ◌≤◌, ◌⊎◌, Bool, Ends, In, In-cases, List, None, Option, Placed, ScriptLib, Some, Turn, [], ap, append-nil, arith, cases_Bool, cond, course, courses_from, drop, eq-eqb, eqb, false, filter, filter-append, get_or, in_rounds, inl, inr, length, line_turns, longest, ltb, max, ne_eqb, option_map, placed, refl, round_of, slice_get, subst, suc, sym, take, take_all, true, turn_list, turns_of, zero, ℕ}
+use Rattle.std.proofs.Common.{ltb-true, ltb-false, drop-cons, nat_cmp, is_lt, Less, Equal, Greater}
 use Rattle.std.specs.Ordering.{ord_max}
-use Rattle.std.specs.Prelude.{slice_get}
-use Rattle.std.specs.List.{filter}
-use Rattle.std.specs.Option.{option_map}
-use Rattle.std.proofs.lemmas.Bool.{eq-eqb, ne_eqb, cases_Bool}
-use Rattle.std.proofs.lemmas.List.{append-nil, take_all}
-use Rattle.std.proofs.lemmas.List.Elements.{filter-append}
-use Rattle.trio_lists.specs.Lists.{In}
-use Rattle.trio_lists.proofs.Members.{In-cases}
-use Rattle.trio_script.specs.declared.ScriptLib.{ScriptLib}
-use Rattle.trio_runner.specs.Rounds.{Turn, Ends, Placed, course, courses_from, in_rounds, line_turns, longest, placed, round_of, turn_list, turns_of}
 use Rattle.trio_runner.proofs.Held.{is_end}
 
 -- whether a library has come to its end and took no turn since, where it stood so before these turns

@@ -1,28 +1,16 @@
 -- That a library has all that is out to it, through what it does and what its desk answers.
-use Rattle.std.proofs.Common.{◌≡◌, ℕ, Bool, true, false, cond, not, eqb, List, [], ◌∷◌, ◌++◌, Option, Some, None, sym, refl, ap, ◌∙◌, subst, inl, inr, ◌⊎◌, set}
-use Rattle.std.specs.Prelude.{map, slice_get, ⊤}
-use Rattle.std.specs.List.{find, cons_option, filter, position}
-use Rattle.std.specs.Option.{option_map}
-use Rattle.std.proofs.lemmas.Bool.{eqb-true, eq-eqb, both_ways, not-true}
-use Rattle.std.proofs.lemmas.List.{map-append}
-use Rattle.std.proofs.lemmas.Option.{get_or_from_slice_get}
-use Rattle.std.proofs.Math.Seq.{map-set_same}
-use Rattle.trio_rights.specs.declared.rights.LibNo.{LibNo}
-use Rattle.trio_lists.specs.Lists.{In, is_among}
-use Rattle.trio_lists.proofs.Filters.{In-find, find-In, filter-In}
-use Rattle.trio_lists.proofs.Members.{In-left, In-right, In-cases, In-map, map-In, In-is_among, is_among-In, option_and_then-Some}
+use Rattle.trio_runner.proofs.Words.{◌++◌, ◌∙◌, ◌∷◌, ◌≡◌, ◌⊎◌, Bool, Has, HasAll, HoldLent, HoldParts, In, In-cases, In-left, In-map, In-right, InoParts, Lease, LentFile, LibNo, LibOut, List, None, Option, OutAlike, Parcel, ReadLent, Shown, Some, WriteLent, [], ap, both_ways, cond, eq-eqb, eqb, eqb-true, false, file_numbers, filter, filter-In, find-In, get_or_from_slice_get, inl, ino_numbers, inr, map-In, map-append, map-set_same, new_ino, not, not-true, nothing, option_map, parcel_named, poked, refl, set, slice_get, subst, sym, true, whole_parcel, with_reads, without_read, ℕ, ⊤}
+use Rattle.std.specs.Prelude.{map}
+use Rattle.std.specs.List.{find, cons_option, position}
+use Rattle.trio_lists.specs.Lists.{is_among}
+use Rattle.trio_lists.proofs.Filters.{In-find}
+use Rattle.trio_lists.proofs.Members.{In-is_among, is_among-In, option_and_then-Some}
 use Rattle.trio_nodes.specs.declared.spot.Spot.{Spot}
 use Rattle.trio_nodes.specs.declared.spot.Spot.TheVariants.{Body, Index, Block, Fresh}
-use Rattle.trio_lease.specs.Shown.{LentFile, Shown}
-use Rattle.trio_lease.specs.declared.lease.Lease.{Lease}
-use Rattle.trio_lease.specs.declared.lease.Lease.TheVariants.{Write as WriteLent, Read as ReadLent, Hold as HoldLent}
-use Rattle.trio_lease.specs.declared.parts.HoldParts.{HoldParts}
 use Rattle.trio_lease.specs.declared.parts.FreshParts.{FreshParts}
-use Rattle.trio_lease.specs.declared.parts.InoParts.{InoParts}
-use Rattle.trio_desk.specs.Out.{LibOut, Parcel, OutAlike, file_numbers, hold_numbers, page_numbers, ino_numbers, with_lease, with_allotted, without_parcel, zero_page, new_ino}
+use Rattle.trio_desk.specs.Out.{hold_numbers, page_numbers, with_lease, with_allotted, without_parcel, zero_page}
 use Rattle.trio_desk.specs.Out as out_words
-use Rattle.trio_raw.specs.Has.{Has, nothing, changed_at, changed_first, keeps_lease, keeps_allotted, named, parcel_named, poked, poked_body, poked_block, poked_fresh, poked_index, read_numbers, rest_of, whole_parcel, with_file, with_fresh, with_parcel, with_reads, without, without_all, without_read}
-use Rattle.trio_runner.specs.inner.Ready.{HasAll}
+use Rattle.trio_raw.specs.Has.{changed_at, changed_first, keeps_lease, keeps_allotted, named, poked_body, poked_block, poked_fresh, poked_index, read_numbers, rest_of, with_file, with_fresh, with_parcel, without, without_all}
 
 -- ---- lists by number
 

@@ -1,30 +1,6 @@
 -- What the lines of a library ask gives no lease back before it.
-use Rattle.std.proofs.Common.{◌≡◌, Bool, true, false, cond, List, [], ◌∷◌, Option, Some, None, refl, ap, ◌∙◌, subst, inl, inr}
-use Rattle.std.specs.Prelude.{MatchBool, MatchOption}
-use Rattle.std.specs.Option.{option_map}
-use Rattle.trio_lists.specs.Lists.{In}
-use Rattle.trio_lists.proofs.Members.{In-cases}
-use Rattle.trio_lease.specs.Shown.{Shown}
-use Rattle.trio_rights.specs.declared.rights.LibNo.{LibNo}
-use Rattle.trio_desk.specs.Call.{Ask, Told, Allot, Done, GiveBack, Grant, Judged, Release, SetMode}
-use Rattle.trio_desk.specs.Calls.{Call}
-use Rattle.trio_state.specs.State.{State}
-use Rattle.trio_state.specs.Given.{GivenEvent}
-use Rattle.trio_ctl.specs.Backs.{all_back}
-use Rattle.trio_ctl.specs.Desk.{Happens, event_of, handed_back}
-use Rattle.trio_ctl.proofs.DeskSteps.{IsPlain}
-use Rattle.trio_raw.specs.Has.{Has, has_all_of, has_nothing, parcel_named, read_on}
-use Rattle.trio_raw.specs.Asked.{back_calls, release_call}
-use Rattle.trio_script.specs.declared.line.RawLine.{RawLine}
-use Rattle.trio_script.specs.declared.line.RawLine.TheVariants.{Grant as GrantLine, Allot as AllotLine, Back as BackLine, Poke, Peek, Release as ReleaseLine, Mode as ModeLine}
-use Rattle.trio_report.specs.declared.answer.LineAnswer.{LineAnswer}
-use Rattle.trio_report.specs.declared.report.EndAnswer.{EndAnswer}
-use Rattle.trio_runner.specs.Line.{Alone, Asks, LineComes, EndsAlone, EndsAll, EndComes, ask_of}
-use Rattle.trio_runner.specs.Honest.{Noted, Notes, sees, unnoted}
-use Rattle.trio_runner.specs.Play.{Heard, Players, Share, TakesTurn, Things, InSession, TurnComes, share_of, told_to}
-use Rattle.trio_runner.specs.Rounds.{Placed, Turn, Says, SaysHonest, Ends}
+use Rattle.trio_runner.proofs.Words.{◌∙◌, ◌∷◌, ◌≡◌, Allot, AllotLine, Alone, Ask, Asks, BackLine, Bool, Call, Done, EndAnswer, EndComes, Ends, EndsAll, EndsAlone, GiveBack, GivenEvent, Grant, GrantLine, Happens, Has, Heard, In, In-cases, InSession, IsPlain, Judged, LibNo, LineAnswer, LineComes, List, MatchBool, MatchOption, ModeLine, Move, None, Noted, Notes, Option, Peek, Placed, Players, Poke, RawLine, Release, ReleaseLine, Says, SaysHonest, SetMode, Share, Shown, Some, State, TakesTurn, Things, Told, Turn, TurnComes, [], all_back, ap, ask_of, back_calls, cond, event_of, false, handed_back, has_all_of, has_nothing, inl, inr, option_map, parcel_named, read_on, refl, release_call, sees, share_of, subst, told_to, true, unnoted}
 use Rattle.trio_runner.proofs.Sessions.{ArePlain, line_keeps, notes_plain, settle_keeps}
-use Rattle.trio_state.specs.Run.{Move}
 
 -- what such a call hands in was given
 pub plain_given : (s : State) (lib : LibNo) (ask : Ask) (told : Told) (s' : State) → IsPlain ask → Happens s lib ask told s' → GivenEvent s (event_of lib ask)

@@ -1,11 +1,5 @@
 -- Turns, one after another, and their moves.
-use Rattle.std.proofs.Common.{List, [], ◌∷◌, ◌++◌, sym, refl, ap, ◌∙◌, subst}
-use Rattle.std.proofs.lemmas.List.{append_assoc, append-nil}
-use Rattle.trio_state.specs.Run.{Move}
-use Rattle.trio_runner.specs.Rounds.{Placed}
-use Rattle.trio_state.specs.Run.{Trace}
-use Rattle.trio_state.specs.State.{State}
-use Rattle.trio_runner.specs.Play.{Players, Plays, TakesTurn}
+use Rattle.trio_runner.proofs.Words.{◌++◌, ◌∙◌, ◌∷◌, List, Move, Placed, Players, Plays, State, TakesTurn, Trace, [], ap, append-nil, append_assoc, refl, subst, sym}
 use Rattle.trio_runner.specs.PlayLaws.{PlayedIsTrace, PlaysMore}
 use Rattle.trio_runner.proofs.Moves.{Runs, moves_run, runs_on}
 use Rattle.trio_runner.proofs.Plain.{turn_plain}

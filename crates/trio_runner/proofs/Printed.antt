@@ -1,21 +1,5 @@
 -- What a library was told in rounds prints the entries that it made.
-use Rattle.std.proofs.Common.{◌≡◌, ℕ, zero, suc, ◌+◌, ◌-◌, ◌<◌, ◌≤◌, Bool, true, false, cond, eqb, List, [], ◌∷◌, ◌++◌, length, map, get_or, sym, refl, ap, ◌∙◌, subst, inl, inr, arith}
-use Rattle.std.proofs.lemmas.Bool.{both_ways, eq-eqb}
-use Rattle.std.proofs.lemmas.List.{append-nil, length-map, length-set}
-use Rattle.std.proofs.lemmas.Option.{slice_get_within}
-use Rattle.trio_rights.specs.declared.rights.Creds.{Creds}
-use Rattle.trio_rights.specs.declared.rights.LibNo.{LibNo}
-use Rattle.trio_lists.specs.Lists.{In}
-use Rattle.trio_nodes.specs.declared.entry.Entry.{Entry}
-use Rattle.trio_state.specs.State.{State}
-use Rattle.trio_state.specs.Run.{Move}
-use Rattle.trio_raw.specs.Has.{nothing}
-use Rattle.trio_script.specs.declared.Lines.{Lines}
-use Rattle.trio_runner.specs.Rounds.{Placed, Turn, Says, SaysHonest, Ends, course, line_turns, placed, turns_of}
-use Rattle.trio_runner.specs.Honest.{Noted, Notes, sees, unnoted}
-use Rattle.trio_runner.specs.Moves.{AreMoves, entries_of}
-use Rattle.trio_runner.specs.Play.{AtStart, BeginsWith, Heard, Players, Plays, Share, TakesTurn, Things, InSession, TurnComes, share_of, told_to, untold}
-use Rattle.trio_runner.specs.Logged.{Prints, entries_by}
+use Rattle.trio_runner.proofs.Words.{◌++◌, ◌+◌, ◌-◌, ◌<◌, ◌∙◌, ◌∷◌, ◌≡◌, ◌≤◌, AreMoves, AtStart, BeginsWith, Bool, Creds, Ends, Entry, Heard, In, InSession, LibNo, Lines, List, Move, Noted, Notes, Placed, Players, Plays, Prints, Says, SaysHonest, Share, State, TakesTurn, Things, Turn, TurnComes, [], ap, append-nil, arith, both_ways, cond, course, entries_by, entries_of, eq-eqb, eqb, false, get_or, inl, inr, length, length-map, length-set, line_turns, map, nothing, placed, refl, sees, share_of, slice_get_within, subst, suc, sym, told_to, true, turns_of, unnoted, untold, zero, ℕ}
 use Rattle.trio_runner.specs.PlayLaws.{PlayedIsPrinted}
 use Rattle.trio_runner.proofs.Batches.{HonestMade, SettleMade, honest_makes, settle_makes}
 use Rattle.trio_runner.proofs.Entries.{Since, by-append, by_other, by_own, moves_by, moves_make, notes_make}

@@ -1,50 +1,15 @@
 -- What a library was told prints the entries that it made, turn after turn.
-use Rattle.std.proofs.Common.{◌≡◌, ℕ, suc, ◌+◌, Bool, true, false, cond, List, [], ◌∷◌, ◌++◌, length, map, Option, Some, None, sym, refl, ap, ◌∙◌, subst, inl, inr, arith}
-use Rattle.std.specs.Prelude.{MatchBool, MatchOption}
-use Rattle.std.specs.List.{filter, flat_map, AllByRecursion}
-use Rattle.std.specs.Option.{is_some, option_map}
-use Rattle.std.proofs.lemmas.List.{append-nil, append_assoc, length-append, map-append}
-use Rattle.std.proofs.lemmas.List.Elements.{filter-append}
-use Rattle.std.proofs.lemmas.Grind.{flat_map-append}
-use Rattle.trio_rights.specs.declared.rights.LibNo.{LibNo}
-use Rattle.trio_lists.specs.Lists.{In}
-use Rattle.trio_lists.proofs.Members.{In-cases}
-use Rattle.trio_nodes.specs.declared.grant.GrantKind.{GrantKind}
-use Rattle.trio_nodes.specs.declared.grant.GrantKind.TheVariants.{Read, Write, Hold}
-use Rattle.trio_nodes.specs.declared.answers.GrantFault.TheVariants.{NotLive, Denied, NoParent, Busy, NoMemory as NoGrantMemory}
-use Rattle.trio_nodes.specs.declared.answers.AllotFault.TheVariants.{NoPages, NoInodes, NoMemory as NoAllotMemory}
-use Rattle.trio_nodes.specs.declared.answers.ReleaseAnswer.{ReleaseAnswer}
+use Rattle.trio_runner.proofs.Words.{◌++◌, ◌+◌, ◌∙◌, ◌∷◌, ◌≡◌, AllByRecursion, Allot, AllotLine, Alone, Ask, Asks, BackLine, BeginsWith, Bool, Call, Creds, Denied, Done, EndAnswer, EndComes, EndSettled, Ends, EndsAll, EndsAlone, Entry, GiveBack, Given, Grant, GrantKind, GrantLine, Has, Heard, Hold, HoldLent, HonestLine, HonestLines, In, In-cases, InSession, IsBack, Judged, Lease, Lent, LibNo, LineAnswer, LineComes, LineMakes, Lines, List, MatchBool, MatchOption, ModeLine, ModeSet, NoAllotMemory, NoGrantMemory, NoInodes, NoPages, NoParent, NoReleaseMemory, None, NotGiven, NotJudged, NotLent, NotLive, NotModeSet, NotSettled, Option, Parcel, Peek, Poke, Prints, RawLine, RawLines, Read, ReadLent, Release, ReleaseAnswer, ReleaseLine, Says, SaysHonest, ScriptLine, SessionSeen, SetMode, Settled, Share, Shown, Some, State, Things, Told, Turn, Write, WriteLent, [], ap, append-nil, append_assoc, arith, ask_of, back_calls, call_told, calls_in, children_in, cond, end_of, entries_told, false, filter, filter-append, flat_map, flat_map-append, has_all_of, has_nothing, inl, inr, length, length-append, line_turns, map, map-append, nothing, option_map, parcel_named, poked, read_on, refl, release_call, subst, suc, sym, told_grant, told_of, true, untold, whole_parcel, with_answer, with_end, ℕ}
+use Rattle.std.specs.Option.{is_some}
+use Rattle.trio_nodes.specs.declared.answers.GrantFault.TheVariants.{Busy}
 use Rattle.trio_nodes.specs.declared.answers.ReleaseAnswer.TheVariants.{Accepted, Refused}
-use Rattle.trio_nodes.specs.declared.answers.ReleaseFault.TheVariants.{NotClosed, NoMemory as NoReleaseMemory}
+use Rattle.trio_nodes.specs.declared.answers.ReleaseFault.TheVariants.{NotClosed}
 use Rattle.trio_nodes.specs.declared.answers.ModeFault.TheVariants as unmoded
-use Rattle.trio_nodes.specs.declared.entry.Entry.{Entry}
-use Rattle.trio_lease.specs.Shown.{Shown}
-use Rattle.trio_lease.specs.declared.lease.Lease.{Lease}
-use Rattle.trio_lease.specs.declared.lease.Lease.TheVariants.{Read as ReadLent, Write as WriteLent, Hold as HoldLent}
-use Rattle.trio_desk.specs.Out.{Parcel}
-use Rattle.trio_desk.specs.Call.{Ask, Told, Grant, Allot, GiveBack, Release, SetMode, Lent, NotLent, Given, NotGiven, Done, Judged, NotJudged, Settled, NotSettled, ModeSet, NotModeSet}
-use Rattle.trio_desk.specs.Calls.{Call}
-use Rattle.trio_state.specs.State.{State}
 use Rattle.trio_ctl.specs.Answers.{children_told}
-use Rattle.trio_ctl.specs.Desk.{entries_told}
-use Rattle.trio_raw.specs.Has.{Has, nothing, has_all_of, has_nothing, parcel_named, peeked, poked, read_on, whole_parcel}
-use Rattle.trio_raw.specs.Asked.{back_calls, children_in, release_call}
-use Rattle.trio_script.specs.declared.Lines.TheVariants.{Raw as RawLines, Honest as HonestLines}
-use Rattle.trio_script.specs.declared.Lines.{Lines}
-use Rattle.trio_script.specs.declared.ScriptLine.{ScriptLine}
-use Rattle.trio_script.specs.declared.honest.HonestLine.{HonestLine}
-use Rattle.trio_session.specs.Seen.{SessionSeen}
-use Rattle.trio_rights.specs.declared.rights.Creds.{Creds}
-use Rattle.trio_script.specs.declared.line.RawLine.{RawLine}
-use Rattle.trio_script.specs.declared.line.RawLine.TheVariants.{Grant as GrantLine, Allot as AllotLine, Back as BackLine, Poke, Peek, Release as ReleaseLine, Mode as ModeLine}
-use Rattle.trio_report.specs.declared.answer.LineAnswer.{LineAnswer}
+use Rattle.trio_raw.specs.Has.{peeked}
 use Rattle.trio_report.specs.declared.answer.LineAnswer.TheVariants as answered
-use Rattle.trio_report.specs.declared.report.EndAnswer.{EndAnswer}
-use Rattle.trio_report.specs.declared.report.EndAnswer.TheVariants.{Settled as EndSettled}
-use Rattle.trio_runner.specs.Line.{Alone, Asks, LineComes, EndsAlone, EndsAll, EndComes, ask_of, end_of, told_alone, told_grant, told_of, told_seen}
-use Rattle.trio_runner.specs.Rounds.{Turn, Says, SaysHonest, Ends, line_turns}
-use Rattle.trio_runner.specs.Play.{BeginsWith, Heard, Share, Things, InSession, untold, with_answer, with_end}
-use Rattle.trio_runner.specs.Logged.{HonestPrints, IsBack, LineMakes, LinesMake, Prints, RawPrints, call_told, calls_in, calls_told, end_printed, end_with_entry, has_entry, printed}
+use Rattle.trio_runner.specs.Line.{told_alone, told_seen}
+use Rattle.trio_runner.specs.Logged.{HonestPrints, LinesMake, RawPrints, calls_told, end_printed, end_with_entry, has_entry, printed}
 use Rattle.trio_runner.proofs.Batches.{HonestMade, Replies, SettleMade}
 use Rattle.trio_runner.proofs.Entries.{Make, make_parted, one_make}
 use Rattle.trio_runner.proofs.Left.{with_replies}

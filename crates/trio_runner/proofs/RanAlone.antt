@@ -1,29 +1,8 @@
 -- An honest library that runs alone is never answered busy: each open grant is its own in every state that its calls find.
-use Rattle.std.proofs.Common.{◌≡◌, ◌≤◌, List, [], ◌∷◌, ◌++◌, length, sym, refl, ap, ◌∙◌, subst, arith}
-use Rattle.trio_rights.specs.declared.rights.Creds.{Creds}
-use Rattle.trio_rights.specs.declared.rights.LibNo.{LibNo}
-use Rattle.trio_lists.specs.Lists.{In}
-use Rattle.trio_nodes.specs.declared.entry.Entry.{Entry}
-use Rattle.trio_layout.specs.Image.{Image}
-use Rattle.trio_desk.specs.Call.{Ask, Told}
-use Rattle.trio_state.specs.State.{State}
-use Rattle.trio_state.specs.Run.{start}
-use Rattle.trio_state.specs.Step.{Event, library_of}
+use Rattle.trio_runner.proofs.Words.{◌++◌, ◌∙◌, ◌∷◌, ◌≡◌, ◌≤◌, Ask, BeginsWith, CourseGoes, Creds, Ends, Entry, Event, Goes, Going, Happens, Heard, Honest, Image, In, InSession, IsLibraryOf, Leaves, LibNo, Lines, List, Origin, Place, ReplaysFrom, Says, SaysHonest, ScriptLib, SessionSeen, Share, State, Things, Told, Turn, TurnGoes, [], ap, arith, arrives, creds_in, length, line_turns, origin_in, refl, sees_at, start, step_creds, subst, sym, untold}
+use Rattle.trio_state.specs.Step.{library_of}
 use Rattle.trio_laws.specs.history.Entries.{answer_of, event_of}
-use Rattle.trio_laws.specs.history.Replays.{ReplaysFrom}
-use Rattle.trio_laws.proofs.history.Grows.{step_creds}
-use Rattle.trio_turn.specs.Origins.{Origin}
-use Rattle.trio_ctl.specs.Desk.{Happens}
-use Rattle.trio_shared.specs.Left.{Leaves}
-use Rattle.trio_session.specs.Seen.{SessionSeen}
-use Rattle.trio_script.specs.declared.Lines.{Lines}
-use Rattle.trio_script.specs.declared.Lines.TheVariants.{Honest}
-use Rattle.trio_script.specs.declared.ScriptLib.{ScriptLib}
 use Rattle.trio_report.specs.declared.report.EndAnswer.TheVariants.{Settled}
-use Rattle.trio_runner.specs.Courses.{CourseGoes, Goes, Going, Place, TurnGoes, arrives, sees_at}
-use Rattle.trio_runner.specs.Rounds.{Turn, Says, SaysHonest, Ends, line_turns}
-use Rattle.trio_runner.specs.Play.{BeginsWith, Heard, InSession, IsLibraryOf, Share, Things, creds_in, untold}
-use Rattle.trio_runner.specs.Runs.{origin_in}
 use Rattle.trio_runner.specs.RunLaws.{RanAlone}
 use Rattle.trio_runner.proofs.Alone.{HappensAlone, NeverBusy, OwnAlone, Stays, event_own, line_stays, one, settle_stays}
 use Rattle.trio_runner.proofs.Keeping.{turn_keeps}

@@ -1,45 +1,11 @@
 -- Where each library ran on a thread of its own, nothing is lent or out at the end.
-use Rattle.std.proofs.Common.{◌≡◌, ℕ, ◌+◌, ◌-◌, ◌≤◌, Bool, true, false, eqb, leb, List, [], ◌∷◌, ◌++◌, length, sym, refl, ap, ◌∙◌, subst, arith, leb-true, le-leb}
-use Rattle.std.proofs.lemmas.Bool.{both_ways}
-use Rattle.std.proofs.lemmas.List.{append-nil, length-map}
-use Rattle.std.proofs.lemmas.List.Elements.{filter-append}
+use Rattle.trio_runner.proofs.Words.{◌++◌, ◌+◌, ◌-◌, ◌∙◌, ◌∷◌, ◌≡◌, ◌≤◌, Ask, BeginsWith, Bool, Call, CallLine, Calls, CourseGoes, Creds, DeskIsLeft, DeskSeen, Ends, Entry, Goes, Going, HasAll, Heard, Honest, HonestComes, HonestLine, Image, InSession, IsLibraryOf, Leaves, LibNo, LineAnswer, Lines, List, MayCall, NothingOut, Origin, OthersLeave, OutAlike, Place, Raw, ReplaysFrom, Says, SaysHonest, ScriptLib, ScriptRan, SeenAfter, SessionSeen, Settle, SettleLine, Settled, Settles, Share, State, Things, Told, Turn, TurnGoes, [], ap, append-nil, arith, arrives, begins_to_call, both_ways, creds_in, creds_of, desk_left, desk_of, eqb, false, filter-append, le-leb, leb, leb-true, length, length-map, line_turns, made_by, maker, no_lib_out, nothing, origin_in, out_of, refl, sees_at, started, step_creds, subst, sym, true, untold, whose, ℕ}
 use mathlib.Core.List.{append_cancel_left}
-use Rattle.trio_rights.specs.declared.rights.Creds.{Creds}
-use Rattle.trio_rights.specs.declared.rights.LibNo.{LibNo}
-use Rattle.trio_nodes.specs.declared.entry.Entry.{Entry}
-use Rattle.trio_layout.specs.Image.{Image}
-use Rattle.trio_desk.specs.Call.{Ask, Told, DeskSeen, Settle, SeenAfter, Settled}
-use Rattle.trio_desk.specs.Calls.{Call, Calls}
-use Rattle.trio_desk.specs.Out.{OutAlike, nothing_out as no_lib_out}
-use Rattle.trio_state.specs.State.{State, creds_of}
 use Rattle.trio_laws.specs.history.Entries.{answer_of, event_of}
-use Rattle.trio_laws.specs.history.Replays.{IsLibrary, ReplaysFrom}
-use Rattle.trio_ctl.specs.Desk.{desk_of, out_of}
-use Rattle.trio_laws.proofs.history.Grows.{step_creds}
-use Rattle.trio_turn.specs.Logs.{made_by, maker}
-use Rattle.trio_turn.specs.Origins.{Origin}
-use Rattle.trio_order.proofs.Courses.{none_more, whose}
-use Rattle.trio_shared.specs.Laws.{DeskIsLeft, OthersLeave}
-use Rattle.trio_shared.specs.Left.{Leaves, desk_left, out_left, started}
-use Rattle.trio_raw.specs.Has.{nothing}
-use Rattle.trio_session.specs.Seen.{SessionSeen}
-use Rattle.trio_edit_laws.specs.Calls.{MayCall}
-use Rattle.trio_edit_laws.proofs.Called.{begins_to_call}
-use Rattle.trio_walk.specs.Asks.{Settles}
-use Rattle.trio_script.specs.declared.Lines.{Lines}
-use Rattle.trio_script.specs.declared.Lines.TheVariants.{Raw, Honest}
-use Rattle.trio_script.specs.declared.ScriptLib.{ScriptLib}
-use Rattle.trio_script.specs.declared.honest.HonestLine.{HonestLine}
-use Rattle.trio_script.specs.declared.honest.HonestLine.TheVariants.{Call as CallLine, Settle as SettleLine}
-use Rattle.trio_report.specs.declared.answer.LineAnswer.{LineAnswer}
-use Rattle.trio_runner.specs.Honest.{HonestComes}
-use Rattle.trio_runner.specs.Rounds.{Turn, Says, SaysHonest, Ends, line_turns}
-use Rattle.trio_runner.specs.Play.{BeginsWith, Heard, IsLibraryOf, Share, Things, InSession, creds_in, untold}
-use Rattle.trio_runner.specs.PlayLaws.{NothingOut}
-use Rattle.trio_runner.specs.Courses.{CourseGoes, Goes, Going, Place, TurnGoes, arrives, sees_at}
-use Rattle.trio_runner.specs.Runs.{ScriptRan, origin_in}
+use Rattle.trio_laws.specs.history.Replays.{IsLibrary}
+use Rattle.trio_order.proofs.Courses.{none_more}
+use Rattle.trio_shared.specs.Left.{out_left}
 use Rattle.trio_runner.specs.RunLaws.{RanEndsFree}
-use Rattle.trio_runner.specs.inner.Ready.{HasAll}
 use Rattle.trio_runner.proofs.EndFree.{creds_at, no_numbers, nothing_out, within_some}
 use Rattle.trio_runner.proofs.Held.{CallLeaves, Leave, end_held, happens_leaves, line_held, none_all, nothing_settled, settle_leaves, settled_may}
 use Rattle.trio_runner.proofs.Keeping.{course_keeps}

@@ -1,37 +1,13 @@
 -- The calls of libraries that ran with a thread each come from one order, whose moves make the log.
-use Rattle.std.proofs.Common.{◌≡◌, ◌⊎◌, Bool, List, [], ◌∷◌, ◌++◌, length, map, sym, refl, ap, ◌∙◌, subst, inl, inr, arith}
-use Rattle.std.proofs.lemmas.Bool.{cases_lt, eq-eqb}
-use Rattle.std.proofs.lemmas.List.{append-nil}
-use Rattle.std.proofs.lemmas.List.Elements.{filter-append}
-use Rattle.std.specs.List.{filter}
+use Rattle.trio_runner.proofs.Words.{◌++◌, ◌∙◌, ◌∷◌, ◌≡◌, ◌⊎◌, AreEntries, Ask, Bool, Call, Creds, Ends, Entry, Goes, Going, Happening, Happens, In, In-cases, In-filter, In-map, IsSeenIn, Leaves, LibNo, LibRan, List, ModeSet, NotModeSet, NotSettled, OneOrder, Origin, Place, ReplaysFrom, ScriptLib, SetMode, Settle, Settled, Shown, State, Told, [], all_parts, answer_of, ap, append-nil, arith, arrives, backs_of, calls_by, cases_lt, creds_in, entries_told, eq-eqb, event_of, filter, filter-append, inl, inr, length, line_turns, made_by, maker, map, map-In, origin_in, parts_of, refl, start, started, subst, sym, untold}
 use Rattle.std.specs.Prelude.{◌==◌}
-use Rattle.trio_lists.specs.Lists.{In}
-use Rattle.trio_lists.proofs.Filters.{In-filter}
-use Rattle.trio_lists.proofs.Members.{In-cases, In-map, flat_map-In, map-In}
-use Rattle.trio_rights.specs.declared.rights.Creds.{Creds}
-use Rattle.trio_rights.specs.declared.rights.LibNo.{LibNo}
-use Rattle.trio_lease.specs.Shown.{Shown}
-use Rattle.trio_nodes.specs.declared.entry.Entry.{Entry}
+use Rattle.trio_lists.proofs.Members.{flat_map-In}
 use Rattle.trio_nodes.specs.declared.answers.ModeFault.TheVariants.{Busy}
-use Rattle.trio_desk.specs.Call.{Ask, Told, Settle, SetMode, Settled, NotSettled, ModeSet, NotModeSet}
-use Rattle.trio_desk.specs.Calls.{Call}
-use Rattle.trio_state.specs.Run.{start}
-use Rattle.trio_state.specs.State.{IsLibrary, State}
-use Rattle.trio_laws.specs.history.Replays.{Replays, ReplaysFrom}
-use Rattle.trio_turn.specs.Logs.{made_by, maker}
-use Rattle.trio_turn.specs.Origins.{Origin}
-use Rattle.trio_ctl.specs.Desk.{Happens, answer_of, backs_of, entries_told, event_of}
-use Rattle.trio_shared.specs.Left.{Leaves, started}
-use Rattle.trio_order.specs.Order.{Along, Happening, all_parts, back_call, calls_by, entries_in, moves_in, moves_of, parts_of}
-use Rattle.trio_order.specs.OrderLaws.{OneOrder}
+use Rattle.trio_state.specs.State.{IsLibrary}
+use Rattle.trio_laws.specs.history.Replays.{Replays}
+use Rattle.trio_order.specs.Order.{Along, back_call, entries_in, moves_in, moves_of}
 use Rattle.trio_order.proofs.Growing.{calls_end, calls_grow}
 use Rattle.trio_order.proofs.Orders.{threads_are_order}
-use Rattle.trio_script.specs.declared.ScriptLib.{ScriptLib}
-use Rattle.trio_runner.specs.Courses.{Goes, Going, LibRan, Place, arrives}
-use Rattle.trio_runner.specs.Logged.{AreEntries}
-use Rattle.trio_runner.specs.Play.{creds_in, untold}
-use Rattle.trio_runner.specs.Rounds.{Ends, line_turns}
-use Rattle.trio_runner.specs.Runs.{IsSeenIn, origin_in}
 use Rattle.trio_runner.specs.RunLaws.{OrderIsLogged, RanIsOrder}
 use Rattle.trio_runner.proofs.EndFree.{script_library}
 use Rattle.trio_runner.proofs.Keeping.{course_keeps}

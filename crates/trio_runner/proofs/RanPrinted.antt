@@ -1,17 +1,5 @@
 -- What a library was told on a thread of its own prints the entries that it made.
-use Rattle.std.proofs.Common.{◌≡◌, List, [], ◌∷◌, ◌++◌, sym, refl, ap, ◌∙◌, subst}
-use Rattle.std.proofs.lemmas.List.{append-nil, append_assoc}
-use Rattle.trio_rights.specs.declared.rights.LibNo.{LibNo}
-use Rattle.trio_nodes.specs.declared.entry.Entry.{Entry}
-use Rattle.trio_ctl.specs.Desk.{entries_told}
-use Rattle.trio_turn.specs.Logs.{made_by}
-use Rattle.trio_script.specs.declared.Lines.{Lines}
-use Rattle.trio_runner.specs.Line.{LineComes}
-use Rattle.trio_runner.specs.Rounds.{Turn, Says, SaysHonest, Ends, line_turns}
-use Rattle.trio_runner.specs.Play.{Heard, Share, Things, InSession, heard_by, untold}
-use Rattle.trio_runner.specs.Logged.{Prints, entries_by}
-use Rattle.trio_runner.specs.Courses.{CourseGoes, Goes, Going, Place, TurnGoes, arrives, sees_at}
-use Rattle.trio_runner.specs.Runs.{origin_in}
+use Rattle.trio_runner.proofs.Words.{◌++◌, ◌∙◌, ◌∷◌, ◌≡◌, CourseGoes, Ends, Entry, Goes, Going, Heard, InSession, LibNo, LineComes, Lines, List, Place, Prints, Says, SaysHonest, Share, Things, Turn, TurnGoes, [], ap, append-nil, append_assoc, arrives, entries_by, entries_told, heard_by, line_turns, made_by, origin_in, refl, sees_at, subst, sym, untold}
 use Rattle.trio_runner.specs.RunLaws.{RanIsPrinted}
 use Rattle.trio_runner.proofs.Batches.{honest_makes, settle_makes}
 use Rattle.trio_runner.proofs.Entries.{Makes, by-append, by_made, by_own, calls_make, told_by}

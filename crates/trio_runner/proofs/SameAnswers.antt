@@ -1,33 +1,10 @@
 -- Answers that are the same to the controller are told the same, and the same calls leave the same known.
-use Rattle.std.proofs.Common.{◌≡◌, ◌≢◌, ℕ, List, [], ◌∷◌, Option, Some, None, sym, refl, ap, ◌∙◌, subst, inl, inr}
-use Rattle.std.specs.Option.{IsSomeAnd}
-use Rattle.trio_rights.specs.Row.{Row}
-use Rattle.trio_rights.specs.declared.rights.LibNo.{LibNo}
-use Rattle.trio_nodes.specs.declared.grant.GrantKind.{GrantKind}
-use Rattle.trio_nodes.specs.declared.answers.GrantFault.TheVariants.{NotLive, Denied, NoParent, Busy, NoMemory as NoGrantMemory}
-use Rattle.trio_nodes.specs.declared.answers.AllotFault.TheVariants.{NoPages as NoFreePages, NoInodes as NoFreeInodes, NoMemory as NoAllotMemory}
-use Rattle.trio_nodes.specs.declared.answers.ReleaseAnswer.TheVariants.{Accepted as AcceptedParcel, Refused as RefusedParcel}
-use Rattle.trio_nodes.specs.declared.answers.ReleaseFault.TheVariants.{NotClosed as NotClosedParcel, NoMemory as NoReleaseMemory}
+use Rattle.trio_runner.proofs.Words.{◌∙◌, ◌∷◌, ◌≡◌, ◌≢◌, AcceptedParcel, AreMoves, Call, CtlAnswer, Denied, Done, Given, Grant, GrantKind, HoldLent, In, IsSomeAnd, Judged, Known, Lease, LeaseIs, Lent, LibNo, List, ModeSet, Move, NoAllotMemory, NoFreeInodes, NoFreePages, NoGrantMemory, NoParent, NoReleaseMemory, None, NotClosedParcel, NotGiven, NotJudged, NotLent, NotLive, NotModeSet, NotSettled, Option, RefusedParcel, Regular, Row, SameAnswer, Settled, Some, State, Told, [], answer_of, ap, event_of, inl, inr, known, known_decides, lent_by, opened, plain_state, plain_step, refl, row_at, same_event_same_answer, subst, sym, ℕ}
+use Rattle.trio_nodes.specs.declared.answers.GrantFault.TheVariants.{Busy}
 use Rattle.trio_nodes.specs.declared.answers.ModeFault.TheVariants as unmoded
-use Rattle.trio_layout.specs.Image.{row_at}
-use Rattle.trio_lease.specs.declared.lease.Lease.{Lease}
-use Rattle.trio_lease.specs.declared.lease.Lease.TheVariants.{Hold as HoldLent}
-use Rattle.trio_rights.specs.declared.kind.Kind.TheVariants.{Regular}
-use Rattle.trio_lists.specs.Lists.{In}
-use Rattle.trio_desk.specs.Call.{Told, Grant, Lent, NotLent, Given, NotGiven, Done, Judged, NotJudged, Settled, NotSettled, ModeSet, NotModeSet}
-use Rattle.trio_desk.specs.Calls.{Call}
-use Rattle.trio_state.specs.State.{State}
-use Rattle.trio_state.specs.Grants.{opened}
-use Rattle.trio_state.specs.Run.{Move}
 use Rattle.trio_state.specs.Tells.{Why}
-use Rattle.trio_state.specs.Step.{CtlAnswer}
 use Rattle.trio_state.specs.Step as step
-use Rattle.trio_laws.specs.Known.{Known, known, plain_state, refused_rule, SameAnswer}
-use Rattle.trio_laws.proofs.KnownSteps.{known_decides, same_event_same_answer}
-use Rattle.trio_ctl.proofs.DeskSteps.{plain_step}
-use Rattle.trio_ctl.specs.Open.{lent_by}
-use Rattle.trio_ctl.specs.Desk.{LeaseIs, answer_of, event_of}
-use Rattle.trio_runner.specs.Moves.{AreMoves}
+use Rattle.trio_laws.specs.Known.{refused_rule}
 use Rattle.trio_runner.proofs.Sessions.{ArePlain}
 use Rattle.trio_runner.proofs.Moves.{Stands, call_stands, no_move}
 

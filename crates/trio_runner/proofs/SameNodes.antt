@@ -1,55 +1,23 @@
 -- The nodes for which a state stands go by what is known of it and stay through grants and allotments; and they are possible for a session
 -- all of whose things are out to its library.
-use Rattle.std.proofs.Common.{◌≡◌, ℕ, eqb, ltb, ◌&&◌, Bool, true, false, cond, length, take, List, [], ◌∷◌, ◌++◌, map, Option, Some, None, is_some, sym, refl, ap, ◌∙◌, subst, inl, inr}
-use Rattle.std.specs.Option.{option_map}
-use Rattle.std.proofs.lemmas.List.{map-append}
-use Rattle.trio_rights.specs.Row.{Row}
-use Rattle.trio_rights.specs.declared.kind.Kind.{Kind}
-use Rattle.trio_rights.specs.declared.kind.Kind.TheVariants.{Regular, Directory}
-use Rattle.trio_rights.specs.declared.rights.LibNo.{LibNo}
-use Rattle.trio_lists.specs.Lists.{In}
-use Rattle.trio_lists.proofs.Members.{In-cases, In-left, In-map, In-right, map-In}
-use Rattle.trio_lease.specs.Shown.{LentFile, Shown}
-use Rattle.trio_lease.specs.declared.lease.Lease.{Lease}
-use Rattle.trio_lease.specs.declared.lease.Lease.TheVariants.{Write as WriteLent, Read as ReadLent, Hold as HoldLent}
-use Rattle.trio_lease.specs.declared.parts.HoldParts.{HoldParts}
-use Rattle.trio_lease.specs.declared.parts.InoParts.{InoParts}
-use Rattle.trio_nodes.specs.GrantKinds.{is_write}
-use Rattle.trio_nodes.specs.declared.grant.GrantKind.{GrantKind}
-use Rattle.trio_nodes.specs.declared.answers.GrantFault.{GrantFault}
-use Rattle.trio_nodes.specs.declared.answers.GrantFault.TheVariants.{NotLive, Denied, NoParent, Busy, NoMemory as NoGrantMemory}
-use Rattle.trio_desk.specs.Call.{Ask, Told}
-use Rattle.trio_desk.specs.Calls.{Call}
-use Rattle.trio_desk.specs.Out.{LibOut, OutAlike, ino_numbers, new_ino}
+use Rattle.trio_runner.proofs.Words.{◌&&◌, ◌++◌, ◌∙◌, ◌∷◌, ◌≡◌, AreMoves, ArePossible, Ask, Bool, Call, CtlAnswer, Denied, Directory, GrantFault, GrantKind, Happens, HoldLent, HoldParts, Image, In, In-cases, In-left, In-map, In-right, InoParts, IsAlike, IsPlain, Kept, Kind, Known, Lease, LentFile, LentIsTrue, LibNo, LibOut, List, MayCall, Move, NoGrantMemory, NoParent, None, NotLive, OpenGrant, Option, OutAlike, ReadLent, Regular, Row, SessionSeen, Shown, Some, State, Step, Told, WriteLent, [], allots, answer_of, ap, cond, desk_of, eqb, event_of, false, free_numbers, free_pages, grant_fault, granted_to, inl, ino_numbers, inr, is_write, known, known_decides, length, lent_files, logged, ltb, map, map-In, map-append, new_ino, nodes_of, numbers_to-In, option_map, out_of, plain_state, plain_step, refl, row_at, step_keeps_lent, subst, sym, take, true, with_allotted, with_lease, ℕ}
+use Rattle.std.proofs.Common.{is_some}
+use Rattle.trio_nodes.specs.declared.answers.GrantFault.TheVariants.{Busy}
 use Rattle.trio_desk.specs.Out as out_words
-use Rattle.trio_desk.specs.Ready.{ArePossible, leases_in, lent_files}
-use Rattle.trio_layout.specs.Image.{Image, row_at}
-use Rattle.trio_state.specs.State.{OpenGrant, State, settled, logged}
-use Rattle.trio_state.specs.Allotments.{allots, free_numbers, free_pages}
-use Rattle.trio_state.specs.Kept.{Kept}
-use Rattle.trio_state.specs.Grants.{grant_fault}
-use Rattle.trio_state.specs.Run.{Move}
-use Rattle.trio_state.specs.Step.{CtlAnswer, Outcome, Step, Grant, Allot, NoPages, NoInodes, Given, after_grant_fault, granted_to}
-use Rattle.trio_laws.specs.Known.{Known, known, plain_state}
+use Rattle.trio_desk.specs.Ready.{leases_in}
+use Rattle.trio_state.specs.State.{settled}
+use Rattle.trio_state.specs.Step.{Outcome, Grant, Allot, NoPages, NoInodes, Given, after_grant_fault}
 use Rattle.trio_laws.specs.OutLaws.{without_checkpoint}
-use Rattle.trio_laws.specs.history.Stands.{bytes_of, node_by, node_in, node_of, nodes_of, writer_of}
-use Rattle.trio_laws.specs.session.Lent.{AreLentTo, IsLentTo, LentIsTrue}
-use Rattle.trio_laws.proofs.KnownSteps.{known_decides}
+use Rattle.trio_laws.specs.history.Stands.{bytes_of, node_by, node_in, node_of, writer_of}
+use Rattle.trio_laws.specs.session.Lent.{AreLentTo, IsLentTo}
 use Rattle.trio_laws.proofs.history.AllotStep.{allot_nodes}
 use Rattle.trio_laws.proofs.history.Facts.{node_is, nodes_by_one}
 use Rattle.trio_laws.proofs.history.GrantNodes.{grant_nodes}
 use Rattle.trio_laws.proofs.history.StandsTree.{states_are_trees}
-use Rattle.trio_laws.proofs.session.Lent.{leases_stay_true, step_keeps_lent}
+use Rattle.trio_laws.proofs.session.Lent.{leases_stay_true}
 use Rattle.trio_laws.proofs.session.Rows.{rows_say}
-use Rattle.trio_ctl.specs.Desk.{Happens, answer_of, desk_of, event_of, out_of}
-use Rattle.trio_ctl.proofs.DeskOuts.{numbers_to-In}
-use Rattle.trio_ctl.proofs.DeskSteps.{IsPlain, plain_step}
 use Rattle.trio_ctl.proofs.Settling.{hold_lent, read_lent, write_lent}
 use Rattle.trio_session.proofs.Seeing.{find-map}
-use Rattle.trio_session.specs.Asked.{with_allotted, with_lease, IsAlike}
-use Rattle.trio_session.specs.Seen.{SessionSeen}
-use Rattle.trio_edit_laws.specs.Calls.{MayCall}
-use Rattle.trio_runner.specs.Moves.{AreMoves}
 use Rattle.trio_runner.proofs.Moves.{Stands, call_stands}
 use Rattle.trio_runner.proofs.Plain.{plain_given}
 use Rattle.trio_runner.proofs.Sessions.{ArePlain}

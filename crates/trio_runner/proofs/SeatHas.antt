@@ -1,63 +1,21 @@
 -- A session at a seat has just what is out to its library: it stays so through what it is given, and after a settle there is nothing. So
 -- there are nodes for which all that it has may have been lent.
-use Rattle.std.proofs.Common.{◌≡◌, ◌≢◌, ℕ, Bool, true, false, not, ◌==◌, ◌&&◌, ◌||◌, List, [], ◌∷◌, ◌++◌, map, Option, Some, None, zero, suc, sym, refl, ap, ◌∙◌, subst, inl, inr}
+use Rattle.trio_runner.proofs.Words.{◌&&◌, ◌++◌, ◌==◌, ◌∙◌, ◌∷◌, ◌≡◌, ◌≢◌, Allot, ArePossible, Ask, Bool, Call, Calls, Creds, DeskIsLeft, DeskSeen, Done, Entry, Given, Goes, Going, Grant, GrantKind, Happens, Hold, HoldLent, HoldParts, Image, In, In-cases, In-left, In-map, In-right, InoParts, IsAlike, IsGiven, Judged, Kept, Lease, Leaves, Lent, LentFile, LibNo, LibOut, List, MayCall, ModeSet, Nodes, None, NotGiven, NotJudged, NotLent, NotModeSet, NotSettled, OpenGrant, Option, Origin, OthersLeave, OutAlike, Outcome, Parcel, Read, ReadLent, ReplaysFrom, Row, SessionSeen, Settle, Settled, Settles, Shown, Some, State, Told, Write, WriteLent, [], all_back, and_parts, ap, arrives, both_ways, bundle_of, creds_of, desk_of, emptied, eq-eqb, eqb-true, false, false≢true, filter-In, filter-none, grants_after, grants_of, inl, ino_numbers, inr, is_hold, is_in_bundle, is_read, is_write, lent_files, lent_part, map, map-append, new_ino, nodes_of, not, not-true, numbers_to, numbers_to-In, out_of, refl, sees_at, started, step_keeps_lent, step_kept, step_told, step_whole, subst, suc, sym, took, true, with_allotted, with_lease, zero, ℕ}
+use Rattle.std.proofs.Common.{◌||◌}
 use Rattle.std.specs.Prelude.{◌↔◌, slice_index_or}
 use Rattle.std.specs.List.{list_all, list_any}
-use Rattle.std.proofs.lemmas.Bool.{and_parts, both_ways, eq-eqb, eqb-true, false≢true, not-true}
-use Rattle.std.proofs.lemmas.List.{map-append}
-use Rattle.trio_rights.specs.Row.{Row}
-use Rattle.trio_rights.specs.declared.rights.Creds.{Creds}
-use Rattle.trio_rights.specs.declared.rights.LibNo.{LibNo}
-use Rattle.trio_lists.specs.Lists.{In}
-use Rattle.trio_lists.proofs.Members.{In-cases, In-left, In-map, In-right}
-use Rattle.trio_lists.proofs.Filters.{filter-In, filter-none}
-use Rattle.trio_lease.specs.Shown.{LentFile, Shown}
-use Rattle.trio_lease.specs.declared.lease.Lease.{Lease}
-use Rattle.trio_lease.specs.declared.lease.Lease.TheVariants.{Write as WriteLent, Read as ReadLent, Hold as HoldLent}
-use Rattle.trio_lease.specs.declared.parts.HoldParts.{HoldParts}
-use Rattle.trio_lease.specs.declared.parts.InoParts.{InoParts}
-use Rattle.trio_nodes.specs.declared.grant.GrantKind.{GrantKind}
-use Rattle.trio_nodes.specs.declared.grant.GrantKind.TheVariants.{Read, Write, Hold}
-use Rattle.trio_nodes.specs.GrantKinds.{is_hold, is_read, is_write}
-use Rattle.trio_nodes.specs.Nodes.{Nodes}
-use Rattle.trio_nodes.specs.declared.entry.Entry.{Entry}
-use Rattle.trio_layout.specs.Image.{Image}
 use Rattle.trio_desk.specs.Call.{out_after as told_after}
-use Rattle.trio_desk.specs.Call.{Ask, DeskSeen, Told, Grant, Allot, Settle, Lent, NotLent, Given, NotGiven, Done, Judged, NotJudged, Settled, NotSettled, ModeSet, NotModeSet}
-use Rattle.trio_desk.specs.Calls.{Call, Calls}
-use Rattle.trio_desk.specs.Out.{LibOut, OutAlike, Parcel, ino_numbers, new_ino}
 use Rattle.trio_desk.specs.Out as out_words
-use Rattle.trio_desk.specs.Ready.{ArePossible, bundle_of, lent_files}
 use Rattle.trio_state.specs.Allotments.{has_none_out, is_library, out_after}
 use Rattle.trio_rights.specs.Sheets.{sheet_numbers}
-use Rattle.trio_state.specs.Kept.{Kept}
-use Rattle.trio_state.specs.Bundles.{Ends, grants_after, has_all, is_in_bundle, lent_part}
+use Rattle.trio_state.specs.Bundles.{Ends, has_all}
 use Rattle.trio_state.specs.Given.{HasNoRead}
-use Rattle.trio_state.specs.State.{OpenGrant, State, creds_of}
-use Rattle.trio_laws.specs.OutLaws.{numbers_to}
-use Rattle.trio_laws.specs.history.Stands.{nodes_of}
 use Rattle.trio_laws.specs.history.Entries.{event_of, answer_of}
-use Rattle.trio_laws.specs.history.Replays.{ReplaysFrom}
 use Rattle.trio_laws.specs.session.Lent.{root_of, sizes_of}
 use Rattle.trio_laws.proofs.Bundles.{own_in_all}
-use Rattle.trio_laws.proofs.Runs.{step_kept}
-use Rattle.trio_laws.proofs.history.Grows.{step_whole}
-use Rattle.trio_laws.proofs.session.Lent.{step_keeps_lent}
 use Rattle.trio_laws.proofs.session.Again.{possible_with_less}
-use Rattle.trio_ctl.proofs.Told.{step_told}
-use Rattle.trio_ctl.specs.Backs.{all_back}
-use Rattle.trio_ctl.specs.Desk.{Happens, desk_of, grants_of, out_of}
-use Rattle.trio_ctl.proofs.DeskOuts.{numbers_to-In, seen-part, seen_of}
-use Rattle.trio_session.specs.Asked.{with_allotted, with_lease, IsAlike, IsGiven, took}
-use Rattle.trio_session.specs.Seen.{SessionSeen, emptied}
-use Rattle.trio_edit_laws.specs.Calls.{MayCall}
-use Rattle.trio_walk.specs.Asks.{Settles}
-use Rattle.trio_walk.specs.declared.outcome.Outcome.{Outcome}
+use Rattle.trio_ctl.proofs.DeskOuts.{seen-part, seen_of}
 use Rattle.trio_walk.proofs.Possible.{possible_desk}
-use Rattle.trio_turn.specs.Origins.{Origin}
-use Rattle.trio_shared.specs.Laws.{DeskIsLeft, OthersLeave}
-use Rattle.trio_shared.specs.Left.{Leaves, started}
-use Rattle.trio_runner.specs.Courses.{Goes, Going, arrives, sees_at}
 use Rattle.trio_runner.proofs.Keeping.{calls_keep}
 use Rattle.trio_runner.proofs.OneTry.{Final, Gets, NoneLast, OneLast, gets_fits, gets_given, outcome_told, took_one}
 use Rattle.trio_runner.proofs.RanFree.{goes_leaves, left}

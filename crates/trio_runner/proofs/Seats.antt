@@ -1,39 +1,13 @@
 -- Turns of a round, one library after another.
-use Rattle.std.proofs.Common.{◌≡◌, ℕ, zero, suc, ◌+◌, ◌-◌, ◌<◌, ◌≤◌, length-take-le, List, [], ◌∷◌, ◌++◌, length, map, get_or, set, take, Option, Some, None, sym, refl, ap, ◌∙◌, subst, inl, inr, arith, eqb, take-suc}
-use Rattle.std.specs.Prelude.{slice_get}
-use Rattle.std.specs.Option.{option_map}
-use Rattle.std.proofs.Math.Seq.{map-set_same}
-use Rattle.std.proofs.lemmas.Bool.{both_ways, eq-eqb, eqb-true, cases_Bool}
-use Rattle.std.proofs.lemmas.Grind.{flat_map-append}
-use Rattle.std.proofs.lemmas.List.{append-nil, append_assoc, get_or-map, get_or_default, length-map, length-set, map-set, set-get_or}
-use Rattle.trio_rights.specs.declared.rights.LibNo.{LibNo}
-use Rattle.trio_lists.specs.Lists.{In, tabulated}
+use Rattle.trio_runner.proofs.Words.{◌++◌, ◌+◌, ◌-◌, ◌<◌, ◌∙◌, ◌∷◌, ◌≡◌, ◌≤◌, AreAsTold, AreNew, AreSeated, AtStart, BeginsWith, Controller, Creds, DeskSeen, Ends, GoesOn, Has, HasAll, HasClosed, Heard, HoldsAll, HonestLine, HonestLines, In, InSession, IsClosed, IsHeld, IsLibrary, Kept, LibNo, Lines, LinesWithin, List, Move, None, Noted, Option, Placed, Players, Plays, RawLines, ScriptLib, ScriptLine, Share, Shown, Some, State, TakesTurn, Things, Took, TookNext, TookTurn, Turn, TurnComes, [], ap, append-nil, append_assoc, arith, both_ways, cases_Bool, course, courses_from, creds_in, desk_of, eq-eqb, eqb, eqb-true, file_numbers, flat_map-append, get_or, in_rounds, inl, inr, length, length-map, length-set, line_turns, lines_in, map, map-In, map-set_same, nothing, option_map, out_of, placed, refl, round_of, set, share_in, share_of, slice_get, start, subst, suc, sym, table, tabulated, take, take-suc, told_to, turn_list, turns_of, unnoted, untold, whole_parcel, zero, ℕ}
+use Rattle.std.proofs.Common.{length-take-le}
+use Rattle.std.proofs.lemmas.List.{get_or-map, get_or_default, map-set, set-get_or}
 use Rattle.trio_lists.proofs.Tabulated.{tabulated-length}
-use Rattle.trio_lists.proofs.Members.{map-In}
-use Rattle.trio_lease.specs.Shown.{Shown}
-use Rattle.trio_rights.specs.declared.rights.Creds.{Creds}
-use Rattle.trio_desk.specs.Call.{DeskSeen}
-use Rattle.trio_desk.specs.Out.{IsClosed, file_numbers}
-use Rattle.trio_state.specs.State.{State}
-use Rattle.trio_state.specs.Kept.{Kept}
-use Rattle.trio_state.specs.Run.{start, Move}
-use Rattle.trio_ctl.specs.Ctl.{AreAsTold, Controller, IsLibrary}
-use Rattle.trio_ctl.specs.Desk.{desk_of, out_of}
 use Rattle.trio_ctl.proofs.DeskSteps.{holds_stand}
-use Rattle.trio_raw.specs.Has.{Has, nothing, whole_parcel}
-use Rattle.trio_script.specs.declared.Lines.{Lines}
-use Rattle.trio_script.specs.declared.Lines.TheVariants.{Raw as RawLines, Honest as HonestLines}
-use Rattle.trio_script.specs.declared.ScriptLine.{ScriptLine}
-use Rattle.trio_script.specs.declared.honest.HonestLine.{HonestLine}
-use Rattle.trio_script.specs.declared.ScriptLib.{ScriptLib}
 use Rattle.trio_runner.specs.declared.kinds.AnyPlayer.{AnyPlayer}
-use Rattle.trio_script.specs.Within.{AreWithin, LinesWithin, SaysWithin}
-use Rattle.trio_runner.specs.Honest.{Noted, unnoted}
-use Rattle.trio_runner.specs.Rounds.{Turn, Ends, Placed, placed, course, courses_from, in_rounds, line_turns, round_of, turn_list, turns_of}
-use Rattle.trio_runner.specs.Play.{AtStart, BeginsWith, Heard, Players, Plays, Share, TakesTurn, Things, InSession, TurnComes, creds_in, share_of, told_to, untold}
-use Rattle.trio_runner.specs.Players.{GoesOn, HasClosed}
+use Rattle.trio_script.specs.Within.{AreWithin, SaysWithin}
 use Rattle.trio_runner.specs.Seen.{ScriptPlayed}
-use Rattle.trio_runner.specs.inner.Ready.{AreNew, AreSeated, HasAll, HoldsAll, IsHeld, IsNew, IsReady, Table, Took, TookNext, TookTurn, lines_in, players, share_in, table}
+use Rattle.trio_runner.specs.inner.Ready.{IsNew, IsReady, Table, players}
 use Rattle.trio_runner.proofs.EndFree.{script_library, start_stands}
 use Rattle.trio_runner.proofs.Held.{held_after, library_before, other_after, others_seen, own_after, same_creds, same_library}
 use Rattle.trio_runner.proofs.Calling.{nothing_on_list}

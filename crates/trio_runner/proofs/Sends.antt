@@ -1,10 +1,9 @@
 -- What crosses to the thread of a library and back, and what threads share of a script.
+use Rattle.trio_runner.proofs.Words.{crosses, seat_sends}
 use denote.Param.Send.{AllSync, IsSend, IsSync, recorded_sync, sendable, struct_sync}
 use denote.Struct.Declared.{Declared, fields, row, shape}
 use denote.Struct.Struct.{Struct}
-use Rattle.std.proofs.Crossing.{crosses}
 use Rattle.trio_ctl.proofs.Sends.{ctl_sends}
-use Rattle.trio_shared.proofs.Sends.{seat_sends}
 use Rattle.trio_turn.proofs.seat.LibSeat.TheSendSync as seats
 use Rattle.trio_turn.specs.contracts.seat.LibSeat as seat
 use Rattle.trio_shared.specs.contracts.held.Held as held

@@ -1,45 +1,9 @@
 -- What the calls of a session are, and what they keep.
-use Rattle.std.proofs.Common.{◌≡◌, ◌≢◌, ℕ, Bool, true, false, List, [], ◌∷◌, ◌++◌, map, Option, Some, None, sym, refl, ap, ◌∙◌, subst, inl, inr}
-use Rattle.std.specs.Prelude.{MatchBool}
-use Rattle.trio_lists.specs.Lists.{In}
-use Rattle.trio_lists.proofs.Members.{In-cases, map-In}
-use Rattle.trio_rights.specs.declared.rights.LibNo.{LibNo}
+use Rattle.trio_runner.proofs.Words.{◌++◌, ◌∙◌, ◌∷◌, ◌≡◌, ◌≢◌, Again, Allot, Ask, Begun, Bool, BreaksOff, Busy, BusyMode, Call, CallLine, Called, Calls, Chmod, ChmodCalled, ChmodTried, Comes, CtlAnswer, DeskSeen, DirTried, EndsAs, EndsHandedIn, EndsModed, EntryCalled, FileCalled, FileTried, GiveBack, Given, GivesUp, Grant, HandsIn, Happens, HonestComes, HonestLine, In, In-cases, IsGiven, IsPlain, Lease, LeftOut, Lent, LibNo, LineAnswer, List, MatchBool, Mode, ModeFault, ModeSet, NoAllotMemory, NoGrantMemory, NoMemory, NoModeMemory, Nodes, None, NotGiven, NotLent, NotModeSet, NotSettled, Noted, Notes, Once, Option, Outcome, Parcel, Path, Release, Replied, SessionCalled, SessionSeen, SetMode, SetsMode, Settle, SettleLine, Settled, Settles, Shown, Some, State, Told, Tried, TryEnds, Unbegun, Unsettled, [], all_back, ap, apart, back_call, false, hand_in_ask, handed_back, inl, inr, is_dir_call, lent_to, map, map-In, mode_ask, mode_fault, moded_to, refl, row_at, subst, sym, told_outcome, true, ℕ}
 use Rattle.trio_nodes.specs.declared.call.Done as done
-use Rattle.trio_nodes.specs.declared.answers.GrantFault.TheVariants.{NoMemory as NoGrantMemory}
-use Rattle.trio_nodes.specs.declared.answers.AllotFault.TheVariants.{NoMemory as NoAllotMemory}
-use Rattle.trio_nodes.specs.declared.answers.ModeFault.{ModeFault}
-use Rattle.trio_nodes.specs.declared.answers.ModeFault.TheVariants.{Busy as BusyMode, NoMemory as NoModeMemory}
 use Rattle.trio_nodes.specs.declared.call.Call as call
 use Rattle.trio_nodes.specs.declared.call.Reply.TheVariants as reply
-use Rattle.trio_nodes.specs.Nodes.{Nodes}
-use Rattle.trio_lease.specs.Shown.{Shown}
-use Rattle.trio_lease.specs.declared.lease.Lease.{Lease}
-use Rattle.trio_layout.specs.Image.{row_at}
-use Rattle.trio_desk.specs.Out.{Parcel}
-use Rattle.trio_desk.specs.Call.{Ask, DeskSeen, Told, Grant, Allot, GiveBack, Release, Settle, SetMode, Lent, NotLent, Given, NotGiven, Settled, NotSettled, ModeSet, NotModeSet}
-use Rattle.trio_desk.specs.Calls.{Call, Calls}
-use Rattle.trio_state.specs.State.{State}
-use Rattle.trio_state.specs.Step.{CtlAnswer, moded_to, mode_fault}
 use Rattle.trio_state.specs.Step as step
-use Rattle.trio_ctl.specs.Backs.{all_back}
-use Rattle.trio_ctl.specs.Desk.{Happens, handed_back}
-use Rattle.trio_ctl.proofs.DeskSteps.{IsPlain}
-use Rattle.trio_session.specs.Seen.{SessionSeen}
-use Rattle.trio_walk.specs.Asks.{Called, Settles, Tried, TryEnds, Once, Unsettled, Again, GivesUp, LeftOut}
-use Rattle.trio_calls_file.specs.Asks.{FileCalled, FileTried}
-use Rattle.trio_calls_dir.specs.Asks.{DirTried, EntryCalled}
-use Rattle.trio_calls_dir.specs.Chmods.{BreaksOff, ChmodCalled, ChmodTried, Begun, Comes, EndsAs, EndsHandedIn, EndsModed, HandsIn, SetsMode, Unbegun, hand_in_ask, lent_to, mode_ask}
-use Rattle.trio_nodes.specs.Walk.{Path}
-use Rattle.trio_rights.specs.declared.rights.Mode.{Mode}
-use Rattle.trio_nodes.specs.declared.call.Call.TheVariants.{Chmod}
-use Rattle.trio_walk.specs.declared.outcome.Outcome.{Outcome}
-use Rattle.trio_walk.specs.declared.outcome.Outcome.TheVariants.{Replied, Busy, NoMemory}
-use Rattle.trio_script.specs.declared.honest.HonestLine.{HonestLine}
-use Rattle.trio_script.specs.declared.honest.HonestLine.TheVariants.{Call as CallLine, Settle as SettleLine}
-use Rattle.trio_report.specs.declared.answer.LineAnswer.{LineAnswer}
-use Rattle.trio_runner.specs.Honest.{HonestComes, Noted, Notes, SessionCalled, told_outcome, is_dir_call}
-use Rattle.trio_runner.specs.Moves.{apart, back_call}
-use Rattle.trio_session.specs.Asked.{IsGiven}
 
 -- ---- what is asked
 

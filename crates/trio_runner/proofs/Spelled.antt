@@ -1,10 +1,8 @@
 -- A path, name by name.
-use Rattle.std.proofs.Common.{◌≡◌, ℕ, suc, ◌+◌, ◌<◌, List, [], ◌∷◌, ◌++◌, length, get_or, take, take-suc, Result, Ok, sym, refl, ap, ◌∙◌, subst, arith}
+use Rattle.trio_runner.proofs.Words.{◌++◌, ◌+◌, ◌<◌, ◌∙◌, ◌∷◌, ◌≡◌, AllByRecursion, List, Ok, Result, [], ap, append-nil, append_assoc, arith, get_or, length, parts_bytes, refl, subst, suc, sym, take, take-suc, ℕ}
 use Rattle.std.specs.Prelude.{MatchResult}
-use Rattle.std.specs.List.{AllByRecursion}
-use Rattle.std.proofs.lemmas.List.{append-nil, append_assoc}
 use Rattle.trio_names.specs.Name.{IsName}
-use Rattle.trio_names.specs.Path.{IsPath, parts_bytes, path_bytes}
+use Rattle.trio_names.specs.Path.{IsPath, path_bytes}
 
 -- ---- a path
 

@@ -1,9 +1,8 @@
 -- Bytes cut at their first line end, and what silent lines name.
-use Rattle.std.proofs.Common.{◌≡◌, ◌≢◌, ℕ, suc, zero, ◌+◌, ◌-◌, ◌<◌, false, List, [], ◌∷◌, ◌++◌, length, get_or, take, drop, eqb, refl, ap, ◌∙◌, append_assoc, add-one, arith}
-use Rattle.std.proofs.lemmas.List.{append-nil, take_rest}
+use Rattle.trio_script.proofs.Words.{◌++◌, ◌+◌, ◌-◌, ◌<◌, ◌∙◌, ◌∷◌, ◌≡◌, ◌≢◌, List, [], add-one, ap, append-nil, append_assoc, arith, drop, eqb, false, get_or, length, lines_of, nat_tests, refl, suc, take, zero, ℕ}
+use Rattle.std.proofs.lemmas.List.{take_rest}
 use Rattle.std.proofs.Math.Seq.{drop-length}
-use Rattle.std.proofs.lemmas.Bool.Decides.{nat_tests}
-use Rattle.trio_script.specs.Script.{cut_lines, lines_of}
+use Rattle.trio_script.specs.Script.{cut_lines}
 use Rattle.trio_script.specs.inner.Ends.{EndsLine, IsPlain}
 
 not_ten : (b : ℕ) → b ≢ 10 → eqb b 10 ≡ false

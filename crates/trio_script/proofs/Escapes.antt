@@ -1,10 +1,8 @@
 -- Bytes as they are printed, read as a text word.
-use Rattle.std.proofs.Common.{◌≡◌, ℕ, ◌+◌, ◌*◌, ◌/◌, ◌%◌, ◌<◌, ◌==◌, ◌&&◌, nat_lt, Bool, true, false, not, List, [], ◌∷◌, Some, refl, arith}
-use Rattle.std.specs.List.{AllByRecursion}
-use Rattle.std.proofs.lemmas.Bool.{and_parts}
-use Rattle.std.proofs.lemmas.Bool.Decides.{nat_tests}
+use Rattle.trio_script.proofs.Words.{◌&&◌, ◌*◌, ◌+◌, ◌<◌, ◌==◌, ◌∷◌, ◌≡◌, AllByRecursion, Bool, List, Some, [], and_parts, arith, false, nat_lt, nat_tests, not, refl, text_of, true, ℕ}
+use Rattle.std.proofs.Common.{◌/◌, ◌%◌}
 use Rattle.trio_names.specs.Escaped.{escaped_of, hex_digit}
-use Rattle.trio_script.specs.Words.{is_upper_digit, is_visible, text_of, upper_value}
+use Rattle.trio_script.specs.Words.{is_upper_digit, is_visible, upper_value}
 
 digit_read : (d : ℕ) → d < 16 → (is_upper_digit (hex_digit d) ≡ true) × (upper_value (hex_digit d) ≡ d)
 digit_read d lt = by (nat_lt d 10) refl

@@ -1,5 +1,5 @@
 -- Lines whose words are too few or too many.
-use Rattle.std.proofs.Common.{◌≡◌, ◌<◌, ℕ, List, [], ◌∷◌, length, map, None, refl, arith}
+use Rattle.trio_script.proofs.Words.{◌<◌, ◌∷◌, ◌≡◌, List, None, [], arith, length, map, refl, ℕ}
 use Rattle.trio_script.specs.Said.{peek_in, poke_in}
 
 pub poke_too_few : {A : Type 0} (f : A → List ℕ) (ws : List A) → length ws < 4 → poke_in (map f ws) ≡ None

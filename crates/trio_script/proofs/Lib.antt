@@ -6,3 +6,4 @@ pub mod Limits
 pub mod Numbers
 pub mod Numerals
 pub mod Paths
+mod Words

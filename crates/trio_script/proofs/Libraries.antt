@@ -1,22 +1,12 @@
 -- A line that begins a library, and one that a library has.
-use Rattle.std.proofs.Common.{◌≡◌, ℕ, ◌+◌, ◌<◌, ◌≤◌, nat_lt, eqb, Bool, true, false, ◌||◌, List, [], ◌∷◌, ◌++◌, Option, None, Some, is_some, Result, Ok, Err, IfOk, refl, sym, ap, append_assoc, arith}
-use Rattle.std.proofs.lemmas.Bool.Decides.{nat_tests}
-use Rattle.std.specs.Prelude.{codes}
-use Rattle.std.specs.Str.{bytes_eq}
+use Rattle.trio_script.proofs.Words.{◌++◌, ◌+◌, ◌<◌, ◌||◌, ◌∷◌, ◌≡◌, ◌≤◌, Begun, BegunLines, Bool, Err, Honest, HonestBegun, LibLine, List, None, Option, Raw, RawBegun, Some, [], ap, append-nil, append_assoc, arith, bytes_eq, codes, count_of, eqb, false, honest_said, is_some, lib_with, library_said, libs_as, libs_from, libs_with, lines_and, lines_seen, names_library, nat_lt, nat_tests, own_lines, refl, said_at, says_library, sym, true, words_of, ℕ}
+use Rattle.std.proofs.Common.{Result, Ok, IfOk}
 use Rattle.std.specs.List.{onto_first}
-use Rattle.std.proofs.lemmas.List.{append-nil}
 use Rattle.std.proofs.lemmas.List.Splits.{slice_split-cons_no}
 use Rattle.std.specs.declared.alloc.AllocError.{AllocError}
-use Rattle.trio_script.specs.declared.Lines.TheVariants.{Raw, Honest}
-use Rattle.trio_script.specs.declared.library.LibLine.{LibLine}
-use Rattle.trio_script.specs.declared.library.Begun.{Begun}
-use Rattle.trio_script.specs.declared.library.BegunLines.{BegunLines}
-use Rattle.trio_script.specs.declared.library.BegunLines.TheVariants.{Raw as RawBegun, Honest as HonestBegun}
-use Rattle.trio_script.specs.Said.{library_in, library_said, line_said}
-use Rattle.trio_script.specs.Words.{words_of}
-use Rattle.trio_script.specs.Honest.{honest_said}
-use Rattle.trio_script.specs.Script.{is_next, is_silent, lib_with, names_library, own_lines, said_at, says_library, libs_from}
-use Rattle.trio_script.specs.inner.Taken.{Begins, Takes, TakesOwn, count_of, libs_as, libs_with, lines_and, lines_seen, with_line}
+use Rattle.trio_script.specs.Said.{library_in, line_said}
+use Rattle.trio_script.specs.Script.{is_next, is_silent}
+use Rattle.trio_script.specs.inner.Taken.{Begins, Takes, TakesOwn, with_line}
 
 -- fewer than 16 libraries began before the next one
 lt-is_next : (begun : ℕ) (line : Option LibLine) → is_next begun line ≡ true → begun < 16

@@ -1,11 +1,8 @@
 -- What is read of honest lines is within the limits of calls.
-use Rattle.std.proofs.Common.{◌≡◌, ℕ, ◌+◌, ◌≤◌, nat_le, nat_lt, Bool, true, false, ◌&&◌, List, [], ◌∷◌, ◌++◌, length, Option, None, Some, refl, ap, ◌∙◌, subst, sym, arith}
-use Rattle.std.specs.Prelude.{if◌then◌else◌, codes, IfSome, ⊤}
-use Rattle.std.specs.List.{AllByRecursion}
+use Rattle.trio_script.proofs.Words.{◌&&◌, ◌++◌, ◌+◌, ◌∙◌, ◌∷◌, ◌≡◌, ◌≤◌, AllByRecursion, Begun, BegunLines, Bool, Honest, HonestBegun, LibLine, List, None, Option, Raw, RawBegun, Some, [], ap, append-nil, arith, bytes_eq, codes, false, honest_said, length, lib_with, library_said, libs_and, libs_as, libs_from, libs_with, lines_and, lines_of, lines_seen, names_library, nat_lt, nat_tests, own_lines, refl, said_at, subst, sym, text_of, true, words_of, ℕ}
+use Rattle.std.proofs.Common.{nat_le}
+use Rattle.std.specs.Prelude.{if◌then◌else◌, IfSome, ⊤}
 use Rattle.std.specs.Option.{option_map}
-use Rattle.std.specs.Str.{bytes_eq}
-use Rattle.std.proofs.lemmas.Bool.Decides.{nat_tests}
-use Rattle.std.proofs.lemmas.List.{append-nil}
 use Rattle.trio_nodes.specs.declared.call.Call.TheVariants.{Mkdir, Create, Truncate, Unlink, Rmdir, List as ListNames, Stat, Chmod}
 use Rattle.trio_nodes.specs.Walk.{Path}
 use Rattle.trio_rights.specs.declared.rights.Mode.{Mode}
@@ -13,18 +10,11 @@ use Rattle.trio_script.specs.declared.honest.HonestLine.{HonestLine}
 use Rattle.trio_script.specs.declared.honest.HonestLine.TheVariants.{Call as Calls}
 use Rattle.trio_script.specs.declared.library.LibKind.TheVariants.{Raw as RawKind, Honest as HonestKind}
 use Rattle.trio_script.specs.declared.library.LibKind.{LibKind}
-use Rattle.trio_script.specs.declared.library.LibLine.{LibLine}
-use Rattle.trio_script.specs.declared.library.Begun.{Begun}
-use Rattle.trio_script.specs.declared.library.BegunLines.{BegunLines}
-use Rattle.trio_script.specs.declared.library.BegunLines.TheVariants.{Raw as RawBegun, Honest as HonestBegun}
-use Rattle.trio_script.specs.declared.Lines.TheVariants.{Raw, Honest}
 use Rattle.trio_script.specs.declared.ScriptLine.{ScriptLine}
 use Rattle.trio_script.specs.declared.ScriptLib.{ScriptLib}
-use Rattle.trio_script.specs.Words.{words_of, number_of, mode_of, not_long, path_of, text_of, written_of}
-use Rattle.trio_script.specs.Honest.{call_in, file_mode, honest_in, honest_said, path_alone, path_and_mode, path_and_number, path_with_mode, read_in, read_length, reads, rename_in, renamed, settle_in, write_in, wrote}
-use Rattle.trio_script.specs.Said.{library_said}
-use Rattle.trio_script.specs.Script.{lib_with, libs_from, lines_in, lines_of, names_library, own_lines, said_at, script_libs}
-use Rattle.trio_script.specs.inner.Taken.{libs_and, libs_as, libs_with, lines_and, lines_seen}
+use Rattle.trio_script.specs.Words.{number_of, mode_of, not_long, path_of, written_of}
+use Rattle.trio_script.specs.Honest.{call_in, file_mode, honest_in, path_alone, path_and_mode, path_and_number, path_with_mode, read_in, read_length, reads, rename_in, renamed, settle_in, write_in, wrote}
+use Rattle.trio_script.specs.Script.{lines_in, script_libs}
 use Rattle.trio_script.specs.Within.{AreWithin, IsWithin, LinesWithin, SaysWithin}
 
 -- ---- options

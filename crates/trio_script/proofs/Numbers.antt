@@ -1,9 +1,6 @@
 -- Numbers of a list, one after another.
-use Rattle.std.proofs.Common.{◌≡◌, ℕ, ◌+◌, ◌<◌, ◌==◌, ◌&&◌, Bool, true, false, not, List, [], ◌++◌, length, get_or, take, drop, Option, None, Some, refl, sym, add-one}
+use Rattle.trio_script.proofs.Words.{◌&&◌, ◌++◌, ◌+◌, ◌<◌, ◌==◌, ◌≡◌, Bool, List, None, Option, Some, [], add-one, are_new, drop, drop-cons, false, get_or, length, list_any, not, refl, sym, take, true, ℕ}
 use Rattle.std.proofs.lemmas.List.{take_more}
-use Rattle.std.proofs.Math.Seq.{drop-cons}
-use Rattle.std.specs.List.{list_any}
-use Rattle.trio_script.specs.Words.{are_new}
 
 -- numbers behind others, if there are such
 abbrev pub behind : List ℕ → Option (List ℕ) → Option (List ℕ)

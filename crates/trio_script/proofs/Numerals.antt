@@ -1,9 +1,8 @@
 -- Digits, read one after another.
-use Rattle.std.proofs.Common.{◌≡◌, ℕ, zero, suc, ◌+◌, ◌-◌, ◌*◌, ◌^◌, ◌<◌, ◌≤◌, true, false, cond, List, [], ◌∷◌, ◌++◌, length, get_or, drop, None, Some, nat_lt, refl, ◌∙◌, add-one, append_assoc, arith}
-use Rattle.std.proofs.lemmas.Bool.Decides.{nat_tests}
+use Rattle.trio_script.proofs.Words.{◌*◌, ◌++◌, ◌+◌, ◌-◌, ◌<◌, ◌^◌, ◌∙◌, ◌∷◌, ◌≡◌, ◌≤◌, List, None, Some, [], add-one, append_assoc, arith, digits_after, drop, drop-cons, false, get_or, hex_bytes, length, nat_lt, nat_tests, refl, suc, true, zero, ℕ}
+use Rattle.std.proofs.Common.{cond}
 use Rattle.std.proofs.Math.ListN.{drop_of_length-le}
-use Rattle.std.proofs.Math.Seq.{drop-cons}
-use Rattle.trio_script.specs.Words.{digits_after, hex_bytes, hex_value}
+use Rattle.trio_script.specs.Words.{hex_value}
 
 pub le-digits_after : (n : ℕ) (bs : List ℕ) → n ≤ digits_after 10 n bs
 le-digits_after n [] = omega arith

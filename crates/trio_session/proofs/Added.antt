@@ -1,39 +1,9 @@
 -- An allotted number that is in no slot is put into one: a session's files and indexes are kept.
-use Rattle.std.proofs.Common.{◌≡◌, ◌≢◌, ◌⊎◌, ℕ, suc, ◌+◌, ◌%◌, ◌<◌, ◌≤◌, ◌^◌, true, false, IsTrue, eqb, List, [], ◌∷◌, ◌++◌, length, take, drop, Option, None, Some, sym, refl, ap, ◌∙◌, subst, inl, inr, arith}
-use Rattle.std.specs.Prelude.{map, not, slice_get, ◌==◌, if◌then◌else◌}
-use Rattle.std.specs.List.{filter, find, position}
-use Rattle.std.specs.Option.{is_some, option_map, option_map_or}
-use Rattle.std.proofs.lemmas.Bool.{eqb-true, eq-eqb, false≢true}
-use Rattle.std.proofs.lemmas.List.{map-append}
-use Rattle.std.proofs.lemmas.Option.{slice_get_within}
-use Rattle.trio_lists.specs.Lists.{In, are_new, is_among}
-use Rattle.trio_lists.proofs.Filters.{In-find, filter-map}
-use Rattle.trio_lists.proofs.Members.{In-cases, In-left, In-map, In-right, is_among-In, map-In}
-use Rattle.trio_lists.proofs.New.{are_new-first}
-use Rattle.trio_rights.specs.Sheets.{Sheet}
-use Rattle.trio_rights.specs.declared.kind.Kind.{Kind}
-use Rattle.trio_rights.specs.declared.kind.Kind.TheVariants.{Directory}
-use Rattle.trio_layout.specs.Body.{block_count}
-use Rattle.trio_layout.specs.Chain.{Chain, index_count}
-use Rattle.trio_layout.specs.Entries.{body_in_slot}
-use Rattle.trio_layout.specs.declared.slot.EntryPart.{EntryPart}
-use Rattle.trio_lease.specs.Shown.{LentFile, Shown}
-use Rattle.trio_lease.specs.declared.parts.FreshParts.{FreshParts}
-use Rattle.trio_lease.specs.declared.parts.HoldParts.{HoldParts}
-use Rattle.trio_nodes.specs.declared.grant.GrantKind.{GrantKind}
+use Rattle.trio_session.proofs.Words.{if◌then◌else◌, ◌%◌, ◌++◌, ◌+◌, ◌<◌, ◌^◌, ◌∙◌, ◌∷◌, ◌≡◌, ◌≢◌, ◌≤◌, ◌⊎◌, AreDirs, AreLaid, AreMade, AreNumbered, Chain, Directory, EntryPart, Files, FreshParts, GrantKind, HasChain, HoldParts, In, In-cases, In-find, In-left, In-map, In-right, InSlot, IndexedDir, IsBlock, IsFile, IsLaid, IsMade, IsMadeAt, IsOne, IsTrue, Kept, Kind, Laid, Leased, LentFile, List, Made, MadeFile, None, OneFile, Option, PagePlace, Parcel, SessionSeen, Sheet, Shown, Some, WasMade, Written, [], ap, are_new, are_new-first, arith, block_count, body_at, body_in_slot, chain_at, chain_in, chain_laid, drop, entry_at, eq-eqb, eqb, eqb-true, false, false≢true, file_numbers, file_of, filter, filter-map, find, fresh_number, fresh_places, held_file, index_count, inl, ino_numbers, inr, is_among, is_among-In, is_some, length, made_seen, map, map-In, map-append, no_chain, not, number_at, of_made, open_kind, option_map, option_map_or, page_in, position, read_file, refl, sheet_at, size_in, slice_get, slice_get_within, slot_file, subst, suc, sym, take, true, ℕ}
+use Rattle.std.specs.Prelude.{◌==◌}
 use Rattle.trio_nodes.specs.declared.grant.GrantKind.TheVariants.{Hold, Read, Write}
-use Rattle.trio_desk.specs.Out.{Parcel, file_numbers, ino_numbers}
-use Rattle.trio_session.specs.Layout.{page_in, size_in}
-use Rattle.trio_session.specs.Seen.{MadeFile, SessionSeen, chain_in, cleared_file, held_file, kept_chain, no_chain, open_kind, read_file}
-use Rattle.trio_session.specs.inner.Found.{Fresh, Kept, TakesLaid}
-use Rattle.trio_session.specs.inner.Inside.{AreLaid}
-use Rattle.trio_session.specs.inner.Made.{AreDirs, AreMade, AreNumbered, Files, IsBlock, IsMade, IsMadeAt, IsOne, OneFile, WasMade, Written, entry_at, file_of, fresh_places, made_seen, of_made}
-use Rattle.trio_session.specs.inner.Places.{HasChain, IsFile, IsLaid, body_at, chain_at, chain_laid, fresh_number, number_at, sheet_at, slot_file}
-use Rattle.trio_session.specs.declared.indexes.IndexedDir.{IndexedDir}
-use Rattle.trio_session.specs.declared.laid.FilePlace.TheVariants.{InSlot, Leased}
-use Rattle.trio_session.specs.declared.laid.Laid.{Laid}
-use Rattle.trio_session.specs.declared.laid.PagePlace.{PagePlace}
-use Rattle.trio_session.specs.declared.made.Made.{Made}
+use Rattle.trio_session.specs.Seen.{cleared_file, kept_chain}
+use Rattle.trio_session.specs.inner.Found.{Fresh, TakesLaid}
 use Rattle.trio_session.proofs.Chained.{there_found}
 use Rattle.trio_session.proofs.Chains.{chain_there, none_lent}
 use Rattle.trio_session.proofs.Found.{position-passes, slice_get-within}

@@ -1,18 +1,10 @@
 -- Sessions that differ in indexes, look-ups and room alone, and states of one desk.
-use Rattle.std.proofs.Common.{◌≡◌, ℕ, ◌+◌, Bool, true, false, cond, List, [], ◌∷◌, ◌++◌, length, sym, refl, ap, ◌∙◌, subst}
-use Rattle.std.specs.Prelude.{is_some, map, slice_set}
-use Rattle.std.specs.Option.{option_map_or}
-use Rattle.trio_rights.specs.declared.rights.Creds.{Creds}
-use Rattle.trio_rights.specs.declared.rights.LibNo.{LibNo}
-use Rattle.trio_layout.specs.Body.{block_count}
-use Rattle.trio_layout.specs.Chain.{Chain}
-use Rattle.trio_lease.specs.declared.lease.Lease.{Lease}
+use Rattle.trio_session.proofs.Words.{◌++◌, ◌+◌, ◌∙◌, ◌∷◌, ◌≡◌, Ask, Bool, Chain, Creds, DeskSeen, Done, Given, IsAlike, IsOn, IsSame, Judged, Lease, Lent, LibNo, List, ModeSet, NotGiven, NotJudged, NotLent, NotModeSet, NotSettled, Room, SameBut, SeenAfter, SessionSeen, Settled, Sizes, Told, [], ap, block_count, chain_in, cond, false, growth, length, made_chained, made_file, map, option_map_or, place_in, refl, slice_set, subst, sym, true, with_chain, with_lease, ℕ}
+use Rattle.std.specs.Prelude.{is_some}
 use Rattle.trio_lease.specs.declared.lease.Lease.TheVariants.{Write as WriteLease, Read as ReadLease, Hold as HoldLease}
-use Rattle.trio_desk.specs.Call.{Ask, DeskSeen, SeenAfter, Told, Lent, NotLent, Given, NotGiven, Done, Judged, NotJudged, Settled, NotSettled, ModeSet, NotModeSet}
-use Rattle.trio_desk.specs.Contents.{Rights, Sizes}
-use Rattle.trio_session.specs.Asked.{IsAlike, IsSame, SameBut, SameDesk, took, with_allotted, with_lease}
-use Rattle.trio_session.specs.Layout.{growth}
-use Rattle.trio_session.specs.Seen.{IsOn, Room, SessionSeen, chain_in, grown, made_chained, made_file, place_in, with_chain}
+use Rattle.trio_desk.specs.Contents.{Rights}
+use Rattle.trio_session.specs.Asked.{SameDesk, took, with_allotted}
+use Rattle.trio_session.specs.Seen.{grown}
 
 -- what holds of a session, whatever its indexes, look-ups and room
 pub alike_by : (P : SessionSeen → Type 0) (x s : SessionSeen) → IsAlike x s → ((is : List ℕ) (n : ℕ) (r : Room) → P (record x { indexed = is; finds = n; room = r })) → P s

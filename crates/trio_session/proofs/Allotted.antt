@@ -1,42 +1,11 @@
 -- What was allotted keeps a session's files and indexes.
-use Rattle.std.proofs.Common.{◌≡◌, ◌⊎◌, ℕ, ◌%◌, List, [], ◌∷◌, ◌++◌, length, Some, sym, refl, ap, ◌∙◌, subst, inl, inr}
-use Rattle.std.specs.Prelude.{map, slice_get}
-use Rattle.std.specs.Option.{is_some, option_map, option_map_or}
-use Rattle.std.proofs.lemmas.List.{map-append}
-use Rattle.std.proofs.lemmas.Option.{slice_get-map}
-use Rattle.trio_lists.specs.Lists.{In}
-use Rattle.trio_lists.proofs.Members.{In-cases, In-left}
-use Rattle.trio_page.specs.Field.{zeros}
-use Rattle.trio_rights.specs.Sheets.{Sheet}
-use Rattle.trio_rights.specs.declared.rights.LibNo.{LibNo}
-use Rattle.trio_layout.specs.Chain.{Chain, index_count}
-use Rattle.trio_layout.specs.declared.slot.EntryPart.{EntryPart}
-use Rattle.trio_lease.specs.Shown.{Shown}
-use Rattle.trio_lease.specs.declared.fresh.Allotted.{Allotted}
-use Rattle.trio_lease.specs.declared.parts.FreshParts.{FreshParts}
-use Rattle.trio_lease.specs.declared.parts.InoParts.{InoParts}
-use Rattle.trio_desk.specs.Contents.{Sizes}
-use Rattle.trio_desk.specs.Out.{IsFreshAllotment, LibOut, Parcel, ino_numbers, page_numbers, zero_page}
-use Rattle.trio_auxdir.specs.Slots.{slots_of}
-use Rattle.trio_session.specs.Layout.{page_in, size_in}
-use Rattle.trio_session.specs.Seen.{MadeFile, SessionSeen, every_number}
-use Rattle.trio_session.specs.inner.Giving.{with_given}
-use Rattle.trio_session.specs.inner.Indexes.{AreRead}
-use Rattle.trio_session.specs.inner.Inside.{AreLaid}
-use Rattle.trio_session.specs.inner.Made.{AreDirs, AreMade, IsBlock, IsMade, IsOne, OneFile, WasMade, Written, entry_at, file_of, made_seen, pages_of}
-use Rattle.trio_session.specs.inner.Places.{AreApart, IsAt, IsFile, chain_at, number_at}
-use Rattle.trio_session.specs.declared.indexes.IndexedDir.{IndexedDir}
-use Rattle.trio_session.specs.declared.laid.FilePlace.{FilePlace}
-use Rattle.trio_session.specs.declared.laid.Laid.{Laid}
-use Rattle.trio_session.specs.declared.laid.PagePlace.{PagePlace}
-use Rattle.trio_session.specs.declared.made.Made.{Made}
+use Rattle.trio_session.proofs.Words.{◌%◌, ◌++◌, ◌∙◌, ◌∷◌, ◌≡◌, ◌⊎◌, Allotted, AreApart, AreDirs, AreLaid, AreMade, AreRead, Chain, EntryPart, FilePlace, FreshParts, In, In-cases, In-left, IndexedDir, InoParts, Inside, IsAt, IsBlock, IsFile, IsFreshAllotment, IsMade, IsOne, Laid, LibNo, LibOut, List, Made, MadeFile, OneFile, PagePlace, Parcel, SessionSeen, Sheet, Shown, Sizes, Some, WasMade, Written, [], ap, chain_at, entry_at, every_number, file_of, index_count, inl, ino_numbers, inr, is_some, length, made_seen, map, map-append, number_at, option_map, option_map_or, page_in, page_numbers, pages_of, refl, size_in, slice_get, slice_get-map, slots_of, subst, sym, with_given, zero_page, zeros, ℕ}
 use Rattle.trio_session.proofs.Given.{joined_at}
 use Rattle.trio_session.proofs.Kept.{IsFile-one, files_of}
 use Rattle.trio_session.proofs.Lists.{In-slice_get}
 use Rattle.trio_session.proofs.Owners.{BlockSpot, KeptBlock, MoreBlock, block_spot}
 use Rattle.trio_session.proofs.Places.{map_at, slot_parts}
 use Rattle.trio_session.proofs.SlotEdits.{entry_on}
-use Rattle.trio_session.specs.declared.session.Session.TheInside.{Inside}
 use Rattle.trio_session.specs.contracts.session.Session.{the_invariant, the_view}
 use Rattle.trio_session.proofs.More.{cleared_more, cleared_seen-more, index_here, made_more, made_seen-more, pages_more}
 use Rattle.trio_session.proofs.Wants.{given_chains, given_more}

@@ -1,25 +1,5 @@
 -- What a session shows after one of its files was laid anew.
-use Rattle.std.proofs.Common.{◌≡◌, ◌≢◌, ◌⊎◌, ℕ, zero, suc, ◌<◌, Bool, true, false, eqb, List, [], ◌∷◌, ◌++◌, length, Option, Some, None, sym, refl, ap, ◌∙◌, subst, inl, inr, arith}
-use Rattle.std.specs.Prelude.{map, slice_get, slice_set, slice_index_or, if◌then◌else◌}
-use Rattle.std.specs.List.{find, position}
-use Rattle.std.specs.Option.{is_some, option_map, option_map_or}
-use Rattle.std.proofs.lemmas.Bool.{eqb-true}
-use Rattle.std.proofs.lemmas.List.{length-set, map-append}
-use Rattle.std.proofs.lemmas.Option.{slice_get-map}
-use Rattle.trio_lists.specs.Lists.{In, are_new}
-use Rattle.trio_rights.specs.declared.kind.Kind.{Kind}
-use Rattle.trio_layout.specs.Chain.{Chain}
-use Rattle.trio_lease.specs.Shown.{LentFile, Shown}
-use Rattle.trio_desk.specs.Out.{Parcel}
-use Rattle.trio_session.specs.Seen.{MadeFile, SessionSeen, made_chained, made_file, open_kind, place_in, with_chain}
-use Rattle.trio_session.specs.inner.Found.{FoundAt, AmongMade, AmongWritten, IsRelaid, IsThere, MadeAnew, WrittenAnew}
-use Rattle.trio_session.specs.inner.Inside.{AreLaid, chains_laid}
-use Rattle.trio_session.specs.inner.Made.{AreMade, AreNumbered, Files, IsOne, OneFile, file_of, made_seen}
-use Rattle.trio_session.specs.inner.Places.{AreApart, HasChain, IsFile, body_at, chain_at, number_at}
-use Rattle.trio_session.specs.declared.laid.FilePlace.{FilePlace}
-use Rattle.trio_session.specs.declared.laid.FilePlace.TheVariants.{InSlot, Leased}
-use Rattle.trio_session.specs.declared.laid.Laid.{Laid}
-use Rattle.trio_session.specs.declared.made.Made.{Made}
+use Rattle.trio_session.proofs.Words.{if◌then◌else◌, ◌++◌, ◌<◌, ◌∙◌, ◌∷◌, ◌≡◌, ◌≢◌, ◌⊎◌, AmongMade, AmongWritten, AreApart, AreLaid, AreMade, AreNumbered, Bool, Chain, FilePlace, Files, FoundAt, HasChain, In, InSlot, IsFile, IsOne, IsRelaid, IsThere, Kind, Laid, Leased, LentFile, List, Made, MadeAnew, MadeFile, None, OneFile, Option, Parcel, SessionSeen, Shown, Some, WrittenAnew, [], ap, are_new, arith, body_at, chain_at, chains_laid, eqb, eqb-true, false, file_of, find, inl, inr, is_some, length, length-set, made_chained, made_file, made_seen, map, map-append, number_at, open_kind, option_map, option_map_or, place_in, position, refl, slice_get, slice_get-map, slice_index_or, slice_set, subst, suc, sym, true, with_chain, zero, ℕ}
 use Rattle.trio_session.proofs.Found.{find-position, position-at, position-passes, slice_get-within}
 use Rattle.trio_session.proofs.Indexed.{are_new-front, position-once}
 use Rattle.trio_session.proofs.Lists.{if_other, if_same, once_at, set_map, slice_get-In}

@@ -1,23 +1,6 @@
 -- The chain of a file, by the places of its pages.
-use Rattle.std.proofs.Common.{◌≡◌, ℕ, suc, zero, ◌+◌, ◌-◌, ◌<◌, ◌≤◌, true, false, List, [], ◌∷◌, ◌++◌, length, take, get_or, Some, sym, refl, ap, ◌∙◌, subst, arith}
-use Rattle.std.specs.Prelude.{map, slice_get}
-use Rattle.std.specs.Option.{is_some, option_map, option_map_or}
-use Rattle.std.proofs.lemmas.Option.{slice_get-map, get_or_from_slice_get}
-use Rattle.std.proofs.lemmas.List.{get_or-map, length-map, length-append, get_or_append_left, get_or-append-add, get_or-take, length-take-le}
-use Rattle.trio_lists.specs.Lists.{In}
-use Rattle.trio_lists.proofs.Filters.{get_or-In}
-use Rattle.trio_layout.specs.Chain.{Chain}
-use Rattle.trio_lease.specs.Shown.{Shown}
-use Rattle.trio_lease.specs.Views.{lent_sheet, fresh_sheet}
-use Rattle.trio_lease.specs.declared.parts.LentPage.{LentPage}
-use Rattle.trio_lease.specs.declared.parts.FreshParts.{FreshParts}
-use Rattle.trio_desk.specs.Out.{Parcel, lent_numbers, page_numbers}
-use Rattle.trio_session.specs.inner.Places.{IsAt, IsFile, chain_at, chain_laid, fresh_number, lease_of, shown_at}
-use Rattle.trio_session.specs.declared.laid.PagePlace.{PagePlace}
-use Rattle.trio_session.specs.declared.laid.FilePlace.{FilePlace}
-use Rattle.trio_session.specs.declared.laid.FilePlace.TheVariants.{Leased, InSlot}
-use Rattle.trio_session.specs.declared.laid.PagePlace.TheVariants.{Index, Block, Fresh}
-use Rattle.trio_session.specs.declared.laid.Laid.{Laid}
+use Rattle.trio_session.proofs.Words.{◌++◌, ◌+◌, ◌-◌, ◌<◌, ◌∙◌, ◌∷◌, ◌≡◌, ◌≤◌, Block, Chain, FilePlace, Fresh, FreshParts, In, InSlot, Index, IsAt, IsFile, Laid, Leased, LentPage, List, PagePlace, Parcel, Shown, Some, [], ap, arith, chain_at, chain_laid, false, fresh_number, fresh_sheet, get_or, get_or-In, get_or_append_left, get_or_from_slice_get, is_some, lease_of, length, length-append, length-map, length-take-le, lent_numbers, lent_sheet, map, option_map, option_map_or, page_numbers, refl, shown_at, slice_get, slice_get-map, subst, suc, sym, take, true, zero, ℕ}
+use Rattle.std.proofs.lemmas.List.{get_or-map, get_or-append-add, get_or-take}
 use Rattle.trio_session.proofs.Places.{index_at, block_at, fresh_at, lent_parts, slot_parts}
 
 -- numbers behind the first of others

@@ -1,17 +1,7 @@
 -- The places of a file's pages after a cut.
-use Rattle.std.proofs.Common.{◌≡◌, ◌≢◌, ℕ, ◌+◌, ◌-◌, ◌/◌, ◌<◌, ◌≤◌, min, List, [], ◌++◌, length, take, drop, get_or, sym, ap, ◌∙◌, subst, arith}
-use Rattle.std.specs.Prelude.{map}
-use Rattle.std.proofs.lemmas.List.{length-map, length-take, length-take-le, take-map}
-use Rattle.trio_lists.specs.Lists.{In}
-use Rattle.trio_layout.specs.Body.{block_count}
-use Rattle.trio_layout.specs.Chain.{Chain, index_count}
-use Rattle.trio_desk.specs.Out.{Parcel, lent_numbers}
-use Rattle.trio_session.specs.Layout.{body_sized, chain_cut, size_in, unlinked, unnamed, with_body_at}
-use Rattle.trio_session.specs.inner.Found.{CutDone, MayCutAt}
-use Rattle.trio_session.specs.inner.Places.{IsFile, HasChain, IsWholeAt, body_at, home_at, chain_at, fresh_number}
-use Rattle.trio_session.specs.declared.laid.FilePlace.{FilePlace}
-use Rattle.trio_session.specs.declared.laid.FilePlace.TheVariants.{Leased}
-use Rattle.trio_session.specs.declared.laid.Laid.{Laid}
+use Rattle.trio_session.proofs.Words.{◌++◌, ◌+◌, ◌-◌, ◌/◌, ◌<◌, ◌∙◌, ◌≡◌, ◌≢◌, ◌≤◌, Chain, CutDone, FilePlace, HasChain, In, IsFile, IsWholeAt, Laid, Leased, List, Parcel, [], ap, arith, block_count, body_at, body_sized, chain_at, chain_cut, drop, fresh_number, get_or, home_at, index_count, length, length-map, length-take, length-take-le, lent_numbers, map, min, size_in, subst, sym, take, unlinked, unnamed, with_body_at, ℕ}
+use Rattle.std.proofs.lemmas.List.{take-map}
+use Rattle.trio_session.specs.inner.Found.{MayCutAt}
 use Rattle.trio_session.proofs.Lists.{In-take, take-kept}
 use Rattle.trio_session.proofs.Stays.{body_leaves, chain_left, file_left, home_left}
 use Rattle.trio_session.proofs.Chains.{chain_there}

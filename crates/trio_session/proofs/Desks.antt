@@ -1,30 +1,15 @@
 -- A session on its desk.
-use Rattle.std.proofs.Common.{◌≡◌, ◌⊎◌, ℕ, eqb, false, true, inl, inr, Ok, Err, refl, List, [], sym, ap, ◌∙◌, subst}
-use Rattle.std.specs.Prelude.{◌↔◌, IfErr, IsTrue, Option, Result, map, not}
-use Rattle.std.specs.List.{filter}
-use Rattle.trio_layout.specs.Range.{is_core}
-use Rattle.trio_rights.specs.declared.rights.LibNo.{LibNo}
-use Rattle.trio_rights.specs.declared.rights.Creds.{Creds}
-use Rattle.trio_lease.specs.Shown.{LentFile, Shown}
-use Rattle.trio_lease.specs.declared.lease.Lease.{Lease}
+use Rattle.trio_session.proofs.Words.{◌∙◌, ◌≡◌, ◌⊎◌, AfterGrant, AfterSettle, Ask, Creds, DeskSeen, Done, Err, Given, In, In-is_among, In-map, IsOn, IsSame, IsWellLent, Judged, Laid, Lease, Lent, LentFile, LibNo, LibOut, List, MadeFile, ModeSet, NoGrantMemory, NotGiven, NotJudged, NotLent, NotModeSet, NotSettled, Ok, Parcel, Result, Room, SameBut, SeenAfter, SessionSeen, SetMode, Settled, Shown, Sizes, Told, [], ap, chains_laid, emptied, eqb, false, filter, filter-none, find-In, has_out, inl, ino_numbers, inr, is_among, is_core, map, not, nothing, page_numbers, refl, subst, sym, true, with_lease, ℕ}
+use Rattle.std.specs.Prelude.{◌↔◌, IfErr, IsTrue, Option}
 use Rattle.trio_nodes.specs.declared.call.Call.{Call}
 use Rattle.trio_nodes.specs.declared.call.Done.{Done as CallDone}
-use Rattle.trio_desk.specs.Out.{LibOut, Parcel, OutAlike, IsWellLent, ino_numbers, page_numbers, without_reads}
-use Rattle.trio_desk.specs.Contents.{Sizes}
-use Rattle.trio_desk.specs.Call.{Ask, SetMode, Told, Lent, NotLent, Given, NotGiven, Done, Judged, NotJudged, Settled, NotSettled, ModeSet, NotModeSet, DeskSeen, SeenAfter, out_after}
-use Rattle.trio_desk.specs.Edits.{nothing}
-use Rattle.trio_session.specs.Seen.{MadeFile, HasReadsAlone, SessionSeen, Room, IsOn, emptied, has_out}
-use Rattle.trio_lists.specs.Lists.{In, is_among}
-use Rattle.trio_lists.proofs.Members.{In-is_among, In-map}
-use Rattle.trio_session.specs.Asked.{AfterNeed, AfterSettle, IsSame, SameBut, settle_end, with_lease}
-use Rattle.trio_session.specs.inner.Giving.{AfterGrant}
+use Rattle.trio_desk.specs.Out.{OutAlike, without_reads}
+use Rattle.trio_desk.specs.Call.{out_after}
+use Rattle.trio_session.specs.Seen.{HasReadsAlone}
+use Rattle.trio_session.specs.Asked.{AfterNeed, settle_end}
 use Rattle.trio_session.specs.inner.Indexes.{MayBeRead}
-use Rattle.trio_lists.proofs.Filters.{find-In, filter-none}
 use Rattle.trio_session.proofs.Slots.{well_read}
 use Rattle.trio_nodes.specs.declared.answers.GrantFault.{GrantFault}
-use Rattle.trio_nodes.specs.declared.answers.GrantFault.TheVariants.{NoMemory as NoGrantMemory}
-use Rattle.trio_session.specs.inner.Inside.{chains_laid}
-use Rattle.trio_session.specs.declared.laid.Laid.{Laid}
 
 pub alike_trans : (a b c : LibOut) → OutAlike a b → OutAlike b c → OutAlike a c
 alike_trans a b c p q = record {

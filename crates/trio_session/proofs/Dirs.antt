@@ -1,30 +1,9 @@
 -- The indexes of directories that are lent for reading.
-use Rattle.std.proofs.Common.{◌≡◌, ℕ, Bor, zero, suc, ◌+◌, eqb, Bool, true, false, cond, List, [], ◌∷◌, ◌++◌, take, drop, Option, Some, None, sym, refl, ap, ◌∙◌, subst, inl, inr, arith, append_assoc}
-use Rattle.std.proofs.lemmas.List.{append-nil}
-use Rattle.std.specs.Prelude.{map, slice_get, IsTrue}
-use Rattle.std.specs.List.{find}
-use Rattle.std.specs.Option.{is_some, option_and_then, option_copied}
-use Rattle.std.proofs.lemmas.Bool.{eqb-true, eq-eqb, false≢true}
-use Rattle.std.proofs.lemmas.List.{take-append-drop}
-use Rattle.std.proofs.lemmas.Option.{slice_get-map}
-use Rattle.std.proofs.lemmas.Grind.{flat_map-append}
-use Rattle.trio_lists.specs.Lists.{In}
-use Rattle.trio_lists.proofs.Filters.{find-In}
-use Rattle.trio_lists.proofs.Members.{In-cases, In-left, In-map, In-right, map-In}
-use Rattle.trio_lease.specs.Shown.{Shown, page_at}
-use Rattle.trio_lease.specs.declared.parts.LentPage.{LentPage}
-use Rattle.trio_lease.specs.declared.lease.Lease.{Lease}
-use Rattle.trio_lease.specs.declared.lease.Lease.TheVariants.{Write, Read, Hold}
-use Rattle.trio_rights.specs.declared.kind.Kind.{Kind}
-use Rattle.trio_rights.specs.declared.kind.Kind.TheVariants.{Directory, Regular}
+use Rattle.trio_session.proofs.Words.{◌++◌, ◌+◌, ◌∙◌, ◌∷◌, ◌≡◌, AreRead, Bool, Bor, Directory, Hold, In, In-cases, In-left, In-map, In-right, IndexedDir, IsIndexOf, IsIndexed, Kind, Lease, LentPage, List, NamesDiffer, None, Option, Read, Regular, Shown, Some, Write, [], absent, absent_from, ap, append-nil, append_assoc, arith, cond, dir_pages, drop, eq-eqb, eqb, eqb-true, every_number, false, false≢true, find, find-In, flat_map-append, inl, inr, is_directory_page, is_some, lease_on, map, map-In, option_and_then, option_copied, page_at, place_of, reads_leased, refl, slice_get, slice_get-map, slot_with, slots_of, slots_on, subst, suc, sym, take, take-append-drop, true, zero, ℕ}
+use Rattle.std.specs.Prelude.{IsTrue}
 use Rattle.trio_auxdir.specs.Directory.{Directory as Index}
-use Rattle.trio_auxdir.specs.Slots.{is_directory_page, slot_with, slots_of, slots_on, NamesDiffer}
 use Rattle.trio_auxdir.specs.Places.{place_of as place_in_slots}
-use Rattle.trio_auxdir.proofs.SlotLists.{absent, absent_from}
-use Rattle.trio_session.specs.Seen.{dir_pages, every_number, place_of}
-use Rattle.trio_session.specs.inner.Giving.{reads_leased}
-use Rattle.trio_session.specs.inner.Indexes.{AreIndexed, AreRead, IsIndexOf, IsIndexed, lease_on}
-use Rattle.trio_session.specs.declared.indexes.IndexedDir.{IndexedDir}
+use Rattle.trio_session.specs.inner.Indexes.{AreIndexed}
 use Rattle.trio_session.proofs.Lists.{slice_get-In}
 
 -- ---- what is found

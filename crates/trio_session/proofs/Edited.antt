@@ -1,15 +1,6 @@
 -- Writes of pages one after another, and the write of a body: what they keep of files.
-use Rattle.std.proofs.Common.{◌≡◌, ℕ, suc, zero, ◌*◌, ◌/◌, ◌%◌, ◌<◌, List, [], ◌∷◌, length, get_or, refl, ◌∙◌, arith}
-use Rattle.std.specs.Int.{w32, w64}
-use Rattle.std.specs.Prelude.{slice_index}
-use Rattle.trio_page.specs.Field.{with_number}
-use Rattle.trio_page.proofs.Fields.{length-with_number, number64_again}
-use Rattle.trio_desk.specs.Out.{Parcel}
-use Rattle.trio_session.specs.Layout.{body_sized, linked, numbered, page_in, put_block, put_blocks, size_in, unlinked, unnamed, with_block_number, with_number_in, with_page, written_on}
-use Rattle.trio_session.specs.inner.Places.{IsFile, body_at, chain_at}
-use Rattle.trio_session.specs.declared.laid.FilePlace.{FilePlace}
-use Rattle.trio_session.specs.declared.laid.FilePlace.TheVariants.{Leased}
-use Rattle.trio_session.specs.declared.laid.Laid.{Laid}
+use Rattle.trio_session.proofs.Words.{◌%◌, ◌*◌, ◌/◌, ◌<◌, ◌∙◌, ◌∷◌, ◌≡◌, FilePlace, IsFile, Laid, Leased, List, Parcel, [], arith, body_at, body_sized, chain_at, get_or, length, length-with_number, linked, numbered, page_in, put_block, put_blocks, refl, size_in, slice_index, suc, unlinked, unnamed, w32, w64, with_block_number, with_number, with_number_in, with_page, written_on, zero, ℕ}
+use Rattle.trio_page.proofs.Fields.{number64_again}
 use Rattle.trio_session.proofs.Stays.{LeavesFiles, body_stays, chain_left, file_left, leaves_same, leaves_then, page_leaves}
 
 -- what writes of pages keep

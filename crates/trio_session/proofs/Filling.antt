@@ -1,28 +1,11 @@
 -- The first empty slot of a directory is filled: what the session then shows, and that its number may be that of a file that was made.
-use Rattle.std.proofs.Common.{◌≡◌, ℕ, suc, ◌+◌, ◌*◌, ◌/◌, ◌%◌, ◌<◌, Bool, true, false, IsTrue, eqb, List, [], ◌∷◌, ◌++◌, length, Option, None, Some, sym, refl, ap, ◌∙◌, subst, arith}
-use Rattle.std.specs.Prelude.{is_none, map, slice_get, slice_index_or, if◌then◌else◌, not}
-use Rattle.std.specs.List.{filter, find, position}
-use Rattle.std.specs.Option.{is_some, option_map, option_map_or, option_or}
-use Rattle.trio_lists.specs.Lists.{In, is_among}
-use Rattle.trio_page.specs.Field.{with_part}
-use Rattle.trio_rights.specs.declared.kind.Kind.{Kind}
-use Rattle.trio_rights.specs.declared.kind.Kind.TheVariants.{Directory}
-use Rattle.trio_layout.specs.Body.{block_count}
-use Rattle.trio_layout.specs.Chain.{Chain}
-use Rattle.trio_layout.specs.Entries.{body_in_slot}
-use Rattle.trio_layout.specs.Slot.{entry_bytes, entry_fits}
-use Rattle.trio_layout.specs.declared.slot.EntryPart.{EntryPart}
-use Rattle.trio_lease.specs.Shown.{LentFile, Shown}
+use Rattle.trio_session.proofs.Words.{if◌then◌else◌, ◌%◌, ◌*◌, ◌++◌, ◌+◌, ◌/◌, ◌<◌, ◌∙◌, ◌∷◌, ◌≡◌, Bool, Chain, Directory, EntryPart, In, IsAt, IsMadeAt, IsTrue, Kind, LentFile, List, MadeFile, None, Option, PagePlace, Parcel, Place, Room, SessionSeen, Shown, Some, [], ap, arith, block_count, body_in_slot, chain_in, dir_pages, entry_at, entry_bytes, entry_fits, eqb, every_number, false, filled, filter, find, first_empty, held_file, ino_numbers, is_allotted, is_among, is_some, length, made_file, map, no_chain, not, number_at, open_kind, option_map, option_map_or, option_or, page_in, placed_made, position, read_file, refl, sheet_at, size_in, slice_get, slice_index_or, slot_number, slots_of, slots_shown, subst, suc, sym, true, with_made, with_part, ℕ}
+use Rattle.std.specs.Prelude.{is_none}
 use Rattle.trio_nodes.specs.declared.grant.GrantKind.TheVariants.{Hold, Read, Write}
-use Rattle.trio_desk.specs.Out.{Parcel, ino_numbers}
-use Rattle.trio_auxdir.specs.Places.{first_empty, place_at, slot_number}
-use Rattle.trio_auxdir.specs.Slots.{first_slot, slots_of}
-use Rattle.trio_auxdir.specs.declared.place.Place.{Place}
-use Rattle.trio_session.specs.Layout.{filled, page_in, size_in, with_page}
-use Rattle.trio_session.specs.Seen.{MadeFile, MayBeMade, Room, SessionSeen, chain_in, dir_pages, every_number, grant_in, held_file, is_allotted, made_file, no_chain, open_kind, placed_made, read_file, slots_shown, with_made}
-use Rattle.trio_session.specs.inner.Made.{IsMadeAt, entry_at}
-use Rattle.trio_session.specs.inner.Places.{IsAt, number_at, sheet_at}
-use Rattle.trio_session.specs.declared.laid.PagePlace.{PagePlace}
+use Rattle.trio_auxdir.specs.Places.{place_at}
+use Rattle.trio_auxdir.specs.Slots.{first_slot}
+use Rattle.trio_session.specs.Layout.{with_page}
+use Rattle.trio_session.specs.Seen.{MayBeMade, grant_in}
 use Rattle.trio_session.proofs.Found.{position-map}
 use Rattle.trio_session.proofs.Places.{number_at-map, still_there}
 use Rattle.trio_session.proofs.SlotEdits.{IsWhole, block_within, body-filled, entry_on-filled}

@@ -1,22 +1,10 @@
 -- The first element that passes a test, and its place.
-use Rattle.std.proofs.Common.{◌≡◌, ℕ, zero, ◌<◌, Bool, true, false, IsTrue, eqb, ltb, List, [], ◌∷◌, length, Option, Some, None, sym, refl, ap, ◌∙◌, subst, inl, inr}
-use Rattle.std.proofs.Common.{◌+◌, suc, min, drop, get_or, arith}
-use Rattle.std.proofs.Math.Seq.{drop-cons}
-use Rattle.std.proofs.lemmas.List.{length-map, length-set, get_or-set_same}
-use Rattle.trio_lease.specs.declared.parts.InoParts.{InoParts}
-use Rattle.trio_desk.specs.Out.{ino_numbers}
-use Rattle.trio_session.specs.Seen.{lower, lowest_from}
-use Rattle.std.specs.Prelude.{map, slice_get, slice_set, not, if◌then◌else◌}
-use Rattle.std.proofs.lemmas.Bool.{eqb-true, eq-eqb}
-use Rattle.trio_lists.specs.Lists.{In, is_among}
+use Rattle.trio_session.proofs.Words.{if◌then◌else◌, ◌+◌, ◌<◌, ◌∙◌, ◌∷◌, ◌≡◌, Bool, In, In-find, In-is_among, In-map, InoParts, IsTrue, List, None, Option, Some, [], ap, arith, cases_Bool, drop, drop-cons, eq-eqb, eqb, eqb-true, false, filter, find, find-In, get_or, get_or-set_same, get_or_from_slice_get, inl, ino_numbers, inr, is_among, is_among-In, is_some, length, length-map, length-set, lower, lowest_from, ltb, ltb-true, map, map-In, min, not, option_map, option_map_or, position, refl, slice_get, slice_get-get_or, slice_get-map, slice_set, subst, suc, sym, true, zero, ℕ}
 use Rattle.trio_session.proofs.Lists.{slice_get-In}
-use Rattle.trio_lists.proofs.Filters.{find-In, In-find}
-use Rattle.trio_lists.proofs.Members.{In-is_among, In-map, is_among-In, map-In}
-use Rattle.std.specs.List.{filter, find, position, position_or_len}
-use Rattle.std.specs.Option.{is_some, option_map, option_map_or}
-use Rattle.std.proofs.lemmas.Bool.{ltb-true, ltb-false, cases_Bool}
+use Rattle.std.specs.List.{position_or_len}
+use Rattle.std.proofs.lemmas.Bool.{ltb-false}
 use Rattle.std.proofs.lemmas.List.Folds.{find_at}
-use Rattle.std.proofs.lemmas.Option.{slice_get-get_or, slice_get_past, get_or_from_slice_get, slice_get-map}
+use Rattle.std.proofs.lemmas.Option.{slice_get_past}
 
 -- it stands at its place
 pub find-position : {X : Type 0} (p : X → Bool) (xs : List X) (i : ℕ) → position p xs ≡ Some i → (find p xs ≡ slice_get xs i) × (i < length xs)

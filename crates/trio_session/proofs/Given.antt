@@ -1,23 +1,5 @@
 -- What is given to a session: pages stay apart, and a new file's chain is as long as its size says.
-use Rattle.std.proofs.Common.{◌≡◌, ℕ, suc, zero, ◌+◌, ◌⊎◌, true, IsTrue, List, [], ◌∷◌, ◌++◌, length, Some, None, sym, refl, ap, ◌∙◌, subst, inl, inr, arith}
-use Rattle.std.specs.Prelude.{map, slice_get}
-use Rattle.std.specs.List.{flat_map}
-use Rattle.std.specs.Option.{option_map}
-use Rattle.std.proofs.lemmas.List.{length-map}
-use Rattle.std.proofs.lemmas.Option.{slice_get-map, slice_get_within}
-use Rattle.trio_lists.specs.Lists.{In, are_new}
-use Rattle.trio_lists.proofs.Members.{In-left, In-right, In-flat, In-map}
-use Rattle.trio_rights.specs.Sheets.{Sheet}
-use Rattle.trio_lease.specs.Shown.{Shown, LentFile}
-use Rattle.trio_lease.specs.Views.{lent_sheet, fresh_sheet}
-use Rattle.trio_lease.specs.declared.parts.LentPage.{LentPage}
-use Rattle.trio_lease.specs.declared.parts.FreshParts.{FreshParts}
-use Rattle.trio_lease.specs.declared.parts.InoParts.{InoParts}
-use Rattle.trio_desk.specs.Out.{LibOut, Parcel, lent_numbers, page_numbers, numbers_of_file, pages_out, file_numbers}
-use Rattle.trio_session.specs.inner.Places.{AreApart, sheet_at}
-use Rattle.trio_session.specs.inner.Inside.{HasLent}
-use Rattle.trio_session.specs.declared.laid.PagePlace.{PagePlace}
-use Rattle.trio_session.specs.declared.laid.PagePlace.TheVariants.{Index, Block, Fresh}
+use Rattle.trio_session.proofs.Words.{◌++◌, ◌+◌, ◌∙◌, ◌∷◌, ◌≡◌, ◌⊎◌, AreApart, Block, Fresh, FreshParts, HasLent, In, In-flat, In-left, In-map, In-right, Index, InoParts, IsTrue, LentFile, LentPage, LibOut, List, None, PagePlace, Parcel, Sheet, Shown, Some, [], ap, are_new, arith, file_numbers, flat_map, fresh_sheet, inl, inr, length, length-map, lent_numbers, lent_sheet, map, numbers_of_file, option_map, page_numbers, pages_out, refl, sheet_at, slice_get, slice_get-map, slice_get_within, subst, suc, sym, true, zero, ℕ}
 use Rattle.trio_session.proofs.Lists.{slice_get-In, once_at}
 use Rattle.trio_session.proofs.Places.{index_at, block_at, fresh_at, index_parts, block_parts, fresh_parts}
 

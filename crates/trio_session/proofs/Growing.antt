@@ -1,29 +1,7 @@
 -- A growth of one of a session's files: what it keeps of the session, and what the session shows then.
-use Rattle.std.proofs.Common.{◌≡◌, ◌+◌, ◌-◌, ◌*◌, ◌%◌, ◌<◌, ◌≤◌, ℕ, List, [], ◌++◌, eqb, Bool, true, false, Option, None, Some, length, drop, take, replicate, ap, refl, subst, sym, ◌∙◌, inl, inr, arith}
-use Rattle.std.specs.Prelude.{slice_get, slice_set, vec_capacity}
-use Rattle.std.specs.List.{position}
-use Rattle.std.specs.Option.{is_some}
-use Rattle.std.proofs.lemmas.Bool.{eqb-true}
-use Rattle.std.proofs.lemmas.List.{append-nil}
-use Rattle.trio_lists.specs.Lists.{In}
-use Rattle.trio_rights.specs.declared.kind.Kind.{Kind}
-use Rattle.trio_rights.specs.declared.kind.Kind.TheVariants.{Directory, Regular}
-use Rattle.trio_layout.specs.Body.{block_count}
-use Rattle.trio_layout.specs.Chain.{Chain}
-use Rattle.trio_lease.proofs.Places.{set_same}
-use Rattle.trio_desk.specs.Out.{Parcel, page_numbers}
+use Rattle.trio_session.proofs.Words.{◌%◌, ◌*◌, ◌++◌, ◌+◌, ◌-◌, ◌<◌, ◌∙◌, ◌≡◌, ◌≤◌, AreDirs, AreLaid, AreMade, Bool, Chain, Directory, FilePlace, GrowDone, In, IndexedDir, Inside, IsOne, IsRelaid, IsThere, Kind, Laid, List, Made, MayGrow, None, OneFile, Option, Parcel, Regular, Room, SessionSeen, Some, TellsGrowth, ToldGrowth, Untold, [], ap, append-nil, arith, block_count, body_at, body_in, chain_at, chain_grown, chain_in, dir_numbers, drop, eqb, eqb-true, false, growth, inl, inr, is_some, length, made_file, open_kind, page_numbers, position, refl, replicate, room_in, set_same, size_in, slice_get, slice_set, spare_pages, subst, sym, take, true, vec_capacity, ℕ}
 use Rattle.trio_auxdir.specs.Directory.{Directory as Index}
-use Rattle.trio_session.specs.Layout.{chain_grown, growth, size_in}
-use Rattle.trio_session.specs.Seen.{MayGrow, Room, SessionSeen, body_in, chain_in, grown, made_file, open_kind, room_in, spare_pages}
-use Rattle.trio_session.specs.inner.Found.{GrowDone, IsRelaid, IsThere, TellsGrowth, ToldGrowth, Untold}
-use Rattle.trio_session.specs.inner.Inside.{AreLaid}
-use Rattle.trio_session.specs.inner.Made.{AreDirs, AreMade, IsOne, OneFile, dir_numbers}
-use Rattle.trio_session.specs.inner.Places.{body_at, chain_at}
-use Rattle.trio_session.specs.declared.indexes.IndexedDir.{IndexedDir}
-use Rattle.trio_session.specs.declared.laid.FilePlace.{FilePlace}
-use Rattle.trio_session.specs.declared.laid.Laid.{Laid}
-use Rattle.trio_session.specs.declared.made.Made.{Made}
-use Rattle.trio_session.specs.declared.session.Session.TheInside.{Inside}
+use Rattle.trio_session.specs.Seen.{grown}
 use Rattle.trio_session.specs.contracts.session.Session.{the_invariant, the_view}
 use Rattle.trio_session.proofs.Chained.{IsAnew, kind_one, laid_relaid, made_many, relaid_as, relaid_edit, there_found}
 use Rattle.trio_session.proofs.Found.{position-at, position-passes}

@@ -1,32 +1,6 @@
 -- A growth of a directory keeps a session's files and indexes, of which its own has empty slots behind the others.
-use Rattle.std.proofs.Common.{◌≡◌, ◌≢◌, ℕ, zero, suc, ◌+◌, ◌-◌, ◌*◌, ◌%◌, ◌≤◌, true, List, [], ◌∷◌, ◌++◌, length, take, drop, replicate, Option, None, Some, sym, refl, ap, ◌∙◌, subst, inl, inr, arith}
-use Rattle.std.specs.Prelude.{map, slice_get, slice_set}
-use Rattle.std.proofs.lemmas.Bool.{cases_eq}
-use Rattle.std.proofs.lemmas.Grind.{flat_map-append}
-use Rattle.std.proofs.lemmas.List.{length-append, map-append, replicate-append-replicate, take-append-drop}
-use Rattle.trio_lists.specs.Counting.{count_up}
-use Rattle.trio_lists.specs.Lists.{In, are_new}
-use Rattle.trio_lists.proofs.Members.{In-cases, In-left, In-map, In-right}
-use Rattle.trio_page.specs.Field.{zeros}
-use Rattle.trio_rights.specs.declared.kind.Kind.TheVariants.{Directory}
-use Rattle.trio_layout.specs.Body.{block_count}
-use Rattle.trio_layout.specs.Chain.{Chain, index_count}
-use Rattle.trio_lease.specs.Shown.{Shown}
-use Rattle.trio_rights.specs.Sheets.{Sheet}
-use Rattle.trio_desk.specs.Out.{Parcel, page_numbers}
-use Rattle.trio_auxdir.specs.Slots.{slots_of, slots_on}
-use Rattle.trio_auxdir.proofs.PageSlots.{zeros_empty}
-use Rattle.trio_session.specs.Layout.{chain_grown, growth, new_index, page_in, size_in}
-use Rattle.trio_session.specs.Seen.{every_number}
-use Rattle.trio_session.specs.inner.Found.{GrowDone, IsRelaid, taken_from}
-use Rattle.trio_session.specs.inner.Indexes.{AreRead}
-use Rattle.trio_session.specs.inner.Inside.{AreLaid}
-use Rattle.trio_session.specs.inner.Made.{AreDirs, AreMade, Files, IsIndexHere, IsOne, OneFile, dir_numbers, fresh_places, pages_of}
-use Rattle.trio_session.specs.inner.Places.{body_at, chain_at, home_at}
-use Rattle.trio_session.specs.declared.indexes.IndexedDir.{IndexedDir}
-use Rattle.trio_session.specs.declared.laid.Laid.{Laid}
-use Rattle.trio_session.specs.declared.laid.PagePlace.TheVariants.{Fresh}
-use Rattle.trio_session.specs.declared.made.Made.{Made}
+use Rattle.trio_session.proofs.Words.{◌%◌, ◌*◌, ◌++◌, ◌+◌, ◌-◌, ◌∙◌, ◌∷◌, ◌≡◌, ◌≢◌, ◌≤◌, AreDirs, AreLaid, AreMade, AreRead, Chain, Directory, Files, Fresh, GrowDone, In, In-cases, In-left, In-map, In-right, IndexedDir, IsIndexHere, IsOne, IsRelaid, Laid, List, Made, None, OneFile, Option, Parcel, Sheet, Shown, Some, [], ap, are_new, arith, block_count, body_at, cases_eq, chain_at, chain_grown, count_up, dir_numbers, drop, every_number, flat_map-append, fresh_places, growth, home_at, index_count, inl, inr, length, length-append, map, map-append, new_index, page_in, page_numbers, pages_of, refl, replicate, size_in, slice_get, slice_set, slots_of, slots_on, subst, suc, sym, take, take-append-drop, taken_from, true, zero, zeros, zeros_empty, ℕ}
+use Rattle.std.proofs.lemmas.List.{replicate-append-replicate}
 use Rattle.trio_session.proofs.Kept.{IsFile-one, body_in_lease, files_of, get_set, index_slots, map_set}
 use Rattle.trio_session.proofs.Lists.{In-slice_get, In-take, once_at, set_beside, slice_get-In}
 use Rattle.trio_session.proofs.Owners.{are_new-parts, index_apart, spare_apart, spare_at, written_number}

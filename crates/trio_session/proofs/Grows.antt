@@ -1,22 +1,7 @@
 -- The places of a file's pages after a growth, and a growth as a whole.
-use Rattle.std.proofs.Common.{◌≡◌, ◌≢◌, ℕ, ◌+◌, ◌-◌, ◌/◌, ◌*◌, ◌<◌, ◌≤◌, List, [], ◌++◌, length, take, drop, get_or, sym, ap, ◌∙◌, subst, inl, inr, append_assoc, arith}
-use Rattle.std.specs.Prelude.{map}
+use Rattle.trio_session.proofs.Words.{◌*◌, ◌++◌, ◌+◌, ◌-◌, ◌/◌, ◌<◌, ◌∙◌, ◌≡◌, ◌≢◌, ◌≤◌, Chain, FilePlace, GrowDone, HasChain, In, In-cases, IsFile, IsWholeAt, Laid, Leased, List, MayGrowAt, Parcel, [], ap, append_assoc, arith, block_count, blocks_under, body_at, body_sized, chain_at, chain_grown, count_from, count_up, drop, drop-drop, fresh_number, gap, get_or, growth, home_at, index_count, inl, inr, length, length-append, length-drop, length-map, lent_numbers, linked, map, map-append, new_index, numbered, page_numbers, put_bytes, size_in, subst, sym, take, take-take, taken_from, with_body_at, zeros, ℕ}
 use Rattle.std.proofs.Math.Seq.{drop-append_seam}
-use Rattle.std.proofs.lemmas.List.{drop-drop, drop-take, length-append, length-drop, length-map, map-append, take-take}
-use Rattle.trio_lists.specs.Lists.{In}
-use Rattle.trio_lists.specs.Counting.{count_up}
-use Rattle.trio_lists.proofs.Counting.{count_from}
-use Rattle.trio_lists.proofs.Members.{In-cases}
-use Rattle.trio_page.specs.Field.{zeros}
-use Rattle.trio_layout.specs.Body.{block_count}
-use Rattle.trio_layout.specs.Chain.{Chain, index_count}
-use Rattle.trio_desk.specs.Out.{Parcel, lent_numbers, page_numbers}
-use Rattle.trio_session.specs.Layout.{blocks_under, body_sized, chain_grown, gap, growth, linked, new_index, numbered, put_bytes, size_in, with_body_at}
-use Rattle.trio_session.specs.inner.Found.{GrowDone, MayGrowAt, taken_from}
-use Rattle.trio_session.specs.inner.Places.{IsFile, HasChain, IsWholeAt, body_at, home_at, chain_at, fresh_number}
-use Rattle.trio_session.specs.declared.laid.FilePlace.{FilePlace}
-use Rattle.trio_session.specs.declared.laid.FilePlace.TheVariants.{Leased}
-use Rattle.trio_session.specs.declared.laid.Laid.{Laid}
+use Rattle.std.proofs.lemmas.List.{drop-take}
 use Rattle.trio_session.proofs.Lists.{count_take, length-count_up}
 use Rattle.trio_session.proofs.Stays.{body_leaves, chain_left, file_left, home_left}
 use Rattle.trio_session.proofs.Chains.{chain_there, index_length, blocks_length}

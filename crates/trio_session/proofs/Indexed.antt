@@ -1,33 +1,6 @@
 -- The index of a directory is that of its slots, as the session shows them.
-use Rattle.std.proofs.Common.{◌≡◌, ◌⊎◌, ℕ, Bor, true, eqb, List, [], ◌++◌, Option, Some, None, sym, refl, ap, ◌∙◌, subst, inl, inr}
-use Rattle.std.specs.Prelude.{map, slice_get, if◌then◌else◌}
-use Rattle.std.specs.List.{find, position}
-use Rattle.std.specs.Option.{is_some, option_copied, option_map, option_map_or, option_or}
-use Rattle.std.proofs.lemmas.Bool.{and_parts, eqb-true, false≢true}
-use Rattle.std.proofs.lemmas.List.{map-append}
-use Rattle.trio_lists.specs.Lists.{In, are_new, is_among}
-use Rattle.trio_lists.proofs.Filters.{find-In}
-use Rattle.trio_lists.proofs.Members.{In-cases, In-is_among, In-left, In-map, In-right, is_among-In, map-In}
+use Rattle.trio_session.proofs.Words.{if◌then◌else◌, ◌++◌, ◌∙◌, ◌≡◌, ◌⊎◌, AreDirs, AreLaid, AreMade, Bor, Chain, Directory, Files, In, In-cases, In-is_among, In-left, In-map, In-right, IndexedDir, Inside, IsFileOn, IsIndexHere, IsIndexed, IsNowhere, IsOne, Kind, Laid, Leased, LentFile, List, Made, None, OneFile, Option, Parcel, Regular, SessionSeen, Shown, Some, WasMade, Written, [], and_parts, ap, are_new, are_new-before, chain_at, chain_in, dir_pages, eqb, eqb-true, every_number, false≢true, file_numbers, file_of, find, find-In, inl, inr, is_among, is_among-In, is_some, kind_shown, lease_on, map, map-In, map-append, of_made, open_kind, option_copied, option_map, option_map_or, option_or, page_in, pages_of, place_of, place_shown, position, read_file, refl, slice_get, slots_of, slots_shown, subst, sym, true, ℕ}
 use Rattle.trio_lists.proofs.Marked.{are_new-append}
-use Rattle.trio_lists.proofs.New.{are_new-before}
-use Rattle.trio_rights.specs.declared.kind.Kind.TheVariants.{Directory, Regular}
-use Rattle.trio_rights.specs.declared.kind.Kind.{Kind}
-use Rattle.trio_layout.specs.Chain.{Chain}
-use Rattle.trio_lease.specs.Shown.{LentFile, Shown}
-use Rattle.trio_desk.specs.Out.{Parcel, file_numbers}
-use Rattle.trio_auxdir.specs.Slots.{slots_of}
-use Rattle.trio_session.specs.Layout.{page_in}
-use Rattle.trio_session.specs.Seen.{SessionSeen, chain_in, dir_pages, every_number, kind_shown, open_kind, place_of, place_shown, read_file, slots_shown}
-use Rattle.trio_session.specs.inner.Found.{IsNowhere}
-use Rattle.trio_session.specs.inner.Indexes.{IsIndexed, lease_on}
-use Rattle.trio_session.specs.inner.Inside.{AreLaid}
-use Rattle.trio_session.specs.inner.Made.{AreDirs, AreMade, Files, IsFileOn, IsIndexHere, IsOne, OneFile, WasMade, Written, file_of, of_made, pages_of}
-use Rattle.trio_session.specs.inner.Places.{chain_at}
-use Rattle.trio_session.specs.declared.indexes.IndexedDir.{IndexedDir}
-use Rattle.trio_session.specs.declared.laid.FilePlace.TheVariants.{Leased}
-use Rattle.trio_session.specs.declared.laid.Laid.{Laid}
-use Rattle.trio_session.specs.declared.made.Made.{Made}
-use Rattle.trio_session.specs.declared.session.Session.TheInside.{Inside}
 use Rattle.trio_session.specs.contracts.session.Session.{the_invariant, the_view}
 use Rattle.trio_session.proofs.Dirs.{dir_missed}
 use Rattle.trio_session.proofs.Insides.{files_in, view_shows}

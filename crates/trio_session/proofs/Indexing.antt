@@ -1,22 +1,7 @@
 -- One more index: of a directory that the session shows and that has none yet.
-use Rattle.std.proofs.Common.{◌≡◌, ◌⊎◌, ℕ, Bool, true, false, not, List, [], ◌∷◌, ◌++◌, Option, Some, None, sym, refl, ap, ◌∙◌, subst, inl, inr}
-use Rattle.std.specs.Prelude.{◌&&◌, map, if◌then◌else◌}
-use Rattle.std.specs.Option.{is_some, option_map, option_map_or, option_or}
-use Rattle.std.proofs.lemmas.List.{map-append}
-use Rattle.trio_lists.specs.Lists.{In, are_new, is_among}
-use Rattle.trio_lists.proofs.Marked.{are_new-push}
-use Rattle.trio_lists.proofs.Members.{In-cases, is_among-In}
-use Rattle.trio_rights.specs.declared.kind.Kind.{Kind}
-use Rattle.trio_rights.specs.declared.kind.Kind.TheVariants.{Directory}
-use Rattle.trio_layout.specs.Chain.{Chain}
-use Rattle.trio_lease.specs.Shown.{Shown}
-use Rattle.trio_auxdir.specs.Slots.{slots_of}
-use Rattle.trio_session.specs.Layout.{page_in}
-use Rattle.trio_session.specs.Seen.{SessionSeen, chain_in, dir_pages, every_number, kind_shown, open_kind, read_file, slots_shown}
-use Rattle.trio_session.specs.inner.Indexes.{IsIndexed}
-use Rattle.trio_session.specs.inner.Made.{AreDirs, IsIndexHere, dir_numbers}
-use Rattle.trio_session.specs.declared.indexes.IndexedDir.{IndexedDir}
-use Rattle.trio_session.specs.declared.session.Session.TheInside.{Inside}
+use Rattle.trio_session.proofs.Words.{if◌then◌else◌, ◌++◌, ◌∙◌, ◌∷◌, ◌≡◌, ◌⊎◌, AreDirs, Bool, Chain, Directory, In, In-cases, IndexedDir, Inside, IsIndexHere, IsIndexed, Kind, List, None, Option, SessionSeen, Shown, Some, [], ap, are_new, are_new-push, chain_in, dir_numbers, dir_pages, every_number, false, inl, inr, is_among, is_among-In, is_some, kind_shown, map, map-append, open_kind, option_map, option_map_or, option_or, page_in, read_file, refl, slots_of, slots_shown, subst, sym, true, ℕ}
+use Rattle.std.proofs.Common.{not}
+use Rattle.std.specs.Prelude.{◌&&◌}
 use Rattle.trio_session.specs.contracts.session.Session.{the_invariant, the_view}
 use Rattle.trio_session.proofs.Dirs.{push_more}
 use Rattle.trio_session.proofs.Insides.{files_in}

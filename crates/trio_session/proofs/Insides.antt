@@ -1,7 +1,5 @@
 -- What a session has inside, and what it shows.
-use Rattle.std.proofs.Common.{◌≡◌, refl}
-use Rattle.trio_session.specs.inner.Made.{Files}
-use Rattle.trio_session.specs.declared.session.Session.TheInside.{Inside}
+use Rattle.trio_session.proofs.Words.{◌≡◌, Files, Inside, refl}
 use Rattle.trio_session.specs.contracts.session.Session.{the_view}
 use Rattle.trio_session.proofs.Seeing.{Shows}
 

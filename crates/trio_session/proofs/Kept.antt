@@ -1,39 +1,6 @@
 -- What edits keep of a session's files and of its indexes.
-use Rattle.std.proofs.Common.{◌≡◌, ◌≢◌, ℕ, zero, suc, ◌+◌, ◌-◌, ◌*◌, ◌%◌, ◌<◌, ◌≤◌, eqb, true, List, [], ◌∷◌, ◌++◌, length, drop, Option, Some, None, sym, refl, ap, ◌∙◌, subst, inl, inr, arith}
-use Rattle.std.specs.Prelude.{map, slice_get, slice_set}
-use Rattle.std.specs.Option.{option_map, option_map_or}
-use Rattle.std.proofs.lemmas.Bool.{cases_eq, eqb-true}
-use Rattle.std.proofs.lemmas.Option.{slice_get-map}
-use Rattle.trio_lists.specs.Lists.{In, are_new}
-use Rattle.trio_lists.proofs.Filters.{find-In}
-use Rattle.trio_lists.proofs.Members.{In-cases, In-map, In-right}
-use Rattle.trio_page.specs.Field.{with_part, zeros}
-use Rattle.trio_rights.specs.declared.kind.Kind.{Kind}
-use Rattle.trio_rights.specs.declared.kind.Kind.TheVariants.{Directory, Regular}
-use Rattle.trio_layout.specs.Body.{block_count}
-use Rattle.trio_layout.specs.Chain.{Chain, index_count}
-use Rattle.trio_layout.specs.Entries.{body_in_slot, slot_bytes}
-use Rattle.trio_layout.specs.Slot.{entry_bytes, entry_fits, slot_of}
-use Rattle.trio_layout.specs.declared.slot.EntryPart.{EntryPart}
-use Rattle.trio_layout.specs.declared.slot.SlotRead.{SlotRead}
-use Rattle.trio_layout.specs.declared.slot.SlotRead.TheVariants.{Bad, Empty, Entry}
-use Rattle.trio_lease.specs.Shown.{LentFile, Shown}
-use Rattle.trio_lease.specs.Views.{fresh_sheet}
-use Rattle.trio_lease.specs.declared.parts.FreshParts.{FreshParts}
-use Rattle.trio_desk.specs.Out.{Parcel, file_numbers, ino_numbers, page_numbers}
-use Rattle.trio_auxdir.specs.Slots.{name_in, slot_on, slots_of}
-use Rattle.trio_session.specs.Layout.{cleared as cleared_slot, filled as filled_slot, page_in, put_bytes, retitled as retitled_slot, size_in}
-use Rattle.trio_session.specs.Seen.{entry_in, every_number}
-use Rattle.trio_session.specs.inner.Indexes.{AreRead}
-use Rattle.trio_session.specs.inner.Inside.{AreLaid}
-use Rattle.trio_session.specs.inner.Made.{AreDirs, AreMade, Files, IsIndexHere, IsOne, OneFile, WasMade, Written, dir_numbers, entry_at, file_of, of_written, pages_of}
-use Rattle.trio_session.specs.inner.Places.{AreApart, IsFile, body_at, chain_at, number_at}
-use Rattle.trio_session.specs.declared.indexes.IndexedDir.{IndexedDir}
-use Rattle.trio_session.specs.declared.laid.FilePlace.{FilePlace}
-use Rattle.trio_session.specs.declared.laid.FilePlace.TheVariants.{Leased}
-use Rattle.trio_session.specs.declared.laid.Laid.{Laid}
-use Rattle.trio_session.specs.declared.laid.PagePlace.TheVariants.{Fresh}
-use Rattle.trio_session.specs.declared.made.Made.{Made}
+use Rattle.trio_session.proofs.Words.{◌%◌, ◌*◌, ◌++◌, ◌+◌, ◌-◌, ◌<◌, ◌∙◌, ◌∷◌, ◌≡◌, ◌≢◌, ◌≤◌, AreApart, AreDirs, AreLaid, AreMade, AreRead, Bad, Chain, Directory, Empty, Entry, EntryPart, FilePlace, Files, Fresh, FreshParts, In, In-cases, In-map, In-right, IndexedDir, IsFile, IsIndexHere, IsOne, Kind, Laid, Leased, LentFile, List, Made, None, OneFile, Option, Parcel, Regular, Shown, SlotRead, Some, WasMade, Written, [], ap, are_new, arith, block_count, body_at, body_in_slot, cases_eq, chain_at, cleared_slot, dir_numbers, drop, entry_at, entry_bytes, entry_fits, entry_in, eqb, eqb-true, every_number, file_numbers, file_of, find-In, fresh_sheet, index_count, inl, ino_numbers, inr, length, map, name_in, number_at, of_written, option_map, option_map_or, page_in, page_numbers, pages_of, put_bytes, refl, size_in, slice_get, slice_get-map, slice_set, slot_bytes, slot_of, slot_on, slots_of, subst, suc, sym, true, with_part, zero, zeros, ℕ}
+use Rattle.trio_session.specs.Layout.{filled as filled_slot, retitled as retitled_slot}
 use Rattle.trio_session.proofs.Chains.{there_some}
 use Rattle.trio_session.proofs.Edited.{Keeps, page_keeps}
 use Rattle.trio_session.proofs.Grows.{bytes_keep}

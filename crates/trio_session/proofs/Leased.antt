@@ -1,51 +1,16 @@
 -- A lease that was granted keeps a session's files and indexes.
-use Rattle.std.proofs.Common.{◌≡◌, ◌⊎◌, ℕ, suc, ◌%◌, ◌<◌, ◌&&◌, Bool, true, false, None, IsTrue, eqb, List, [], ◌∷◌, ◌++◌, length, Some, sym, refl, ap, ◌∙◌, subst, inl, inr, arith}
-use Rattle.std.specs.Prelude.{map, slice_get, nat_le, if◌then◌else◌}
-use Rattle.std.specs.Str.{bytes_eq}
-use Rattle.std.proofs.lemmas.Bool.{and_parts, eqb-true}
-use Rattle.std.proofs.lemmas.List.{length-append, map-append}
-use Rattle.std.proofs.lemmas.Option.{slice_get-map, slice_get_within}
-use Rattle.trio_lists.specs.Lists.{In, are_new}
-use Rattle.trio_lists.proofs.Members.{In-cases, In-left, In-map, In-right}
-use Rattle.trio_rights.specs.declared.kind.Kind.{Kind}
-use Rattle.trio_rights.specs.declared.kind.Kind.TheVariants.{Directory}
-use Rattle.trio_rights.specs.declared.rights.LibNo.{LibNo}
-use Rattle.trio_layout.specs.Body.{block_count, body_at, body_bytes, body_fits, body_of, head_fits, size_fits}
+use Rattle.trio_session.proofs.Words.{if◌then◌else◌, ◌%◌, ◌&&◌, ◌++◌, ◌<◌, ◌∙◌, ◌∷◌, ◌≡◌, ◌⊎◌, AreApart, AreDirs, AreLaid, AreMade, AreRead, Block, Bool, Chain, CoreRange, DeskSeen, Directory, HasLent, Hold, In, In-cases, In-left, In-map, In-right, IndexedDir, IsFreshLease, IsIndexed, IsNewLaid, IsOn, IsOne, IsTrue, Kind, Laid, LaidLeased, Lease, Leased, LentFile, LentPage, LibNo, LibOut, List, Made, None, OneFile, Parcel, Read, SessionSeen, Shown, Sizes, Some, WasMade, Write, Written, [], and_parts, ap, are_new, arith, block_count, bytes_eq, chain_at, dir_numbers, dir_pages, eqb, eqb-true, false, file_numbers, fresh_places, hold_numbers, inl, ino_numbers, inr, length, length-append, lent_chain, lent_numbers, lent_sheet, made_seen, map, map-append, of_written, option_map, page_in, pages_of, reads_leased, refl, size_in, slice_get, slice_get-map, slice_get_within, subst, suc, sym, true, with_leased, ℕ}
+use Rattle.std.specs.Prelude.{nat_le}
+use Rattle.trio_layout.specs.Body.{body_at, body_bytes, body_fits, body_of, head_fits, size_fits}
 use Rattle.trio_layout.specs.declared.body.Body.{Body}
 use Rattle.trio_layout.specs.Range.{core_count}
-use Rattle.trio_layout.specs.Chain.{Chain}
-use Rattle.trio_layout.specs.declared.range.CoreRange.{CoreRange}
-use Rattle.trio_lease.specs.Shown.{LentFile, Shown}
-use Rattle.trio_lease.specs.Views.{lent_sheet}
-use Rattle.trio_lease.specs.declared.lease.Lease.{Lease}
-use Rattle.trio_lease.specs.declared.lease.Lease.TheVariants.{Hold, Read, Write}
-use Rattle.trio_lease.specs.declared.parts.LentPage.{LentPage}
-use Rattle.trio_desk.specs.Contents.{Sizes}
-use Rattle.trio_desk.specs.Out.{IsFreshLease, LibOut, Parcel, file_numbers, hold_numbers, ino_numbers, lent_numbers}
-use Rattle.trio_session.specs.Asked.{lent_chain}
-use Rattle.trio_session.specs.Layout.{page_in, size_in}
-use Rattle.trio_session.specs.Seen.{dir_pages}
-use Rattle.trio_session.specs.inner.Giving.{IsNewLaid, LaidLeased, reads_leased, with_leased}
-use Rattle.trio_session.specs.inner.Indexes.{AreRead, IsIndexed}
-use Rattle.trio_session.specs.inner.Inside.{AreLaid}
-use Rattle.trio_session.specs.inner.Made.{AreDirs, AreMade, IsOne, OneFile, WasMade, Written, dir_numbers, fresh_places, made_seen, of_written, pages_of}
-use Rattle.trio_session.specs.inner.Places.{AreApart, chain_at}
-use Rattle.trio_session.specs.declared.indexes.IndexedDir.{IndexedDir}
-use Rattle.trio_session.specs.declared.laid.FilePlace.TheVariants.{Leased}
-use Rattle.trio_session.specs.declared.laid.Laid.{Laid}
-use Rattle.trio_session.specs.declared.laid.PagePlace.TheVariants.{Block}
-use Rattle.trio_session.specs.declared.made.Made.{Made}
 use Rattle.trio_session.proofs.Chains.{chain_there}
 use Rattle.trio_session.proofs.Dirs.{indexed_leased}
 use Rattle.trio_session.proofs.Given.{left_at, push_at}
 use Rattle.trio_session.proofs.Kept.{files_of}
 use Rattle.trio_session.proofs.More.{More, cleared_more, cleared_seen-more, index_here, made_more, made_seen-more, pages_more}
-use Rattle.std.specs.Option.{option_map}
 use Rattle.trio_nodes.specs.declared.node.Node.{Node}
-use Rattle.trio_desk.specs.Call.{DeskSeen}
 use Rattle.trio_desk.specs.Refusals.{HasKind, file_kind}
-use Rattle.trio_session.specs.Seen.{IsOn, SessionSeen}
-use Rattle.trio_session.specs.inner.Inside.{HasLent}
 use Rattle.trio_session.proofs.Needs.{file_out, holds_more, last_at, new_chain, push_more}
 use Rattle.trio_session.proofs.Places.{block_at, page_at, shown_at-Leased}
 use Rattle.trio_session.proofs.Slots.{well_read}

@@ -1,14 +1,10 @@
 -- How long the chain of a file is that a lease lends.
-use Rattle.std.proofs.Common.{◌≡◌, ℕ, zero, suc, ◌+◌, ◌-◌, ◌==◌, ◌&&◌, min, Bool, true, false, cond, List, [], length, None, Some, Ok, sym, ap, ◌∙◌, arith}
-use Rattle.std.specs.Option.{option_and_then}
-use Rattle.std.specs.Str.{bytes_eq}
-use Rattle.std.proofs.lemmas.List.{length-append}
+use Rattle.trio_session.proofs.Words.{◌&&◌, ◌+◌, ◌-◌, ◌∙◌, ◌≡◌, Bool, Chain, Core, CoreRange, List, None, Ok, Some, [], ap, arith, at_page, bytes_eq, cond, false, index_count, length, length-append, min, option_and_then, page_of, result_then-Ok, suc, sym, there_or-Ok, true, zero, ℕ}
+use Rattle.std.proofs.Common.{◌==◌}
 use Rattle.trio_lists.specs.Lists.{result_map}
-use Rattle.trio_lists.proofs.Members.{result_then-Ok, result_map-Ok, there_or-Ok, option_and_then-Some}
-use Rattle.trio_layout.specs.Core.{Core, at_page, page_of}
+use Rattle.trio_lists.proofs.Members.{result_map-Ok, option_and_then-Some}
 use Rattle.trio_layout.specs.Index.{Index, index_at, index_bytes, index_fits, index_of}
-use Rattle.trio_layout.specs.Chain.{Chain, chain_from, index_count, index_page, with_index}
-use Rattle.trio_layout.specs.declared.range.CoreRange.{CoreRange}
+use Rattle.trio_layout.specs.Chain.{chain_from, index_page, with_index}
 use Rattle.trio_layout.proofs.IndexPages.{length-numbers_in}
 
 -- an index page that was read has as many numbers as are in use

@@ -49,3 +49,4 @@ pub mod Reserving
 pub mod Added
 pub mod Filling
 pub mod Leased
+mod Words

@@ -1,14 +1,7 @@
 -- Elements by their places.
-use Rattle.trio_lists.specs.Lists.{are_new}
-use Rattle.trio_lists.specs.Counting.{count_up}
-use Rattle.trio_lists.proofs.New.{are_new-first}
-use Rattle.trio_lists.proofs.Members.{In-left, In-map}
-use Rattle.std.proofs.Common.{◌<◌, ◌≤◌, ◌+◌, ◌-◌, ◌≡◌, ◌≢◌, ℕ, suc, zero, Bool, true, false, eqb, min, length, get_or, take, drop, ◌++◌, List, [], ◌∷◌, Some, None, sym, refl, ap, ◌∙◌, subst, inl, inr, arith}
-use Rattle.std.specs.Prelude.{map, slice_get, slice_set, if◌then◌else◌}
-use Rattle.std.proofs.lemmas.Bool.{cases_lt, eqb-true, eq-eqb}
-use Rattle.std.proofs.Math.Seq.{drop-cons, take-append-add}
-use Rattle.std.proofs.lemmas.List.{append-nil, length-take-le, take-append-le, take-append-drop, take-take}
-use Rattle.trio_lists.specs.Lists.{In}
+use Rattle.trio_session.proofs.Words.{if◌then◌else◌, ◌++◌, ◌+◌, ◌-◌, ◌<◌, ◌∙◌, ◌∷◌, ◌≡◌, ◌≢◌, ◌≤◌, Bool, In, In-left, In-map, List, None, Some, [], ap, append-nil, are_new, are_new-first, arith, cases_lt, count_up, drop, drop-cons, eq-eqb, eqb, eqb-true, false, get_or, inl, inr, length, length-take-le, map, min, refl, slice_get, slice_set, subst, suc, sym, take, take-append-drop, take-take, true, zero, ℕ}
+use Rattle.std.proofs.Math.Seq.{take-append-add}
+use Rattle.std.proofs.lemmas.List.{take-append-le}
 
 -- where f changes nothing, the list is the same
 pub map_same : {X : Type 0} (f : X → X) (xs : List X) → ((j : ℕ) (y : X) → slice_get xs j ≡ Some y → f y ≡ y) → map f xs ≡ xs

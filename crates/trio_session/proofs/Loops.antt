@@ -1,13 +1,5 @@
 -- One step of each edit, and its end.
-use Rattle.std.proofs.Common.{◌≡◌, ℕ, suc, ◌+◌, ◌-◌, ◌<◌, ◌≤◌, List, [], ◌∷◌, length, drop, get_or, sym, refl, ap, ◌∙◌, subst, arith}
-use Rattle.std.proofs.Math.Seq.{drop-cons}
-use Rattle.std.proofs.lemmas.List.{length-drop}
-use Rattle.trio_layout.specs.Chain.{Chain}
-use Rattle.trio_desk.specs.Out.{Parcel}
-use Rattle.trio_session.specs.Layout.{with_page, with_number_in, with_block_number, put_block, put_blocks, linked, numbered, unnamed, unlinked}
-use Rattle.trio_session.specs.inner.Places.{IsFile, chain_at}
-use Rattle.trio_session.specs.declared.laid.FilePlace.{FilePlace}
-use Rattle.trio_session.specs.declared.laid.Laid.{Laid}
+use Rattle.trio_session.proofs.Words.{◌+◌, ◌-◌, ◌<◌, ◌∙◌, ◌∷◌, ◌≡◌, ◌≤◌, Chain, FilePlace, IsFile, Laid, List, Parcel, [], ap, arith, chain_at, drop, drop-cons, get_or, length, length-drop, linked, numbered, put_block, put_blocks, refl, subst, suc, sym, unlinked, unnamed, with_block_number, with_number_in, with_page, ℕ}
 use Rattle.trio_session.proofs.Stays.{chain_stays, file_stays}
 
 -- after a page was written the file and its chain are as before

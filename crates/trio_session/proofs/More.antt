@@ -1,26 +1,5 @@
 -- More is in hand: what was there is there still, and a session's files with it.
-use Rattle.std.proofs.Common.{◌≡◌, ℕ, ◌%◌, ◌<◌, List, [], ◌∷◌, ◌++◌, length, take, Option, Some, sym, refl, ap, ◌∙◌, subst, inl, inr}
-use Rattle.std.specs.Prelude.{map, slice_get}
-use Rattle.std.specs.Option.{option_map, option_map_or}
-use Rattle.trio_lists.specs.Lists.{In}
-use Rattle.trio_rights.specs.Sheets.{Sheet}
-use Rattle.trio_layout.specs.Body.{block_count}
-use Rattle.trio_layout.specs.Chain.{Chain, index_count}
-use Rattle.trio_layout.specs.declared.slot.EntryPart.{EntryPart}
-use Rattle.trio_lease.specs.Shown.{LentFile, Shown}
-use Rattle.trio_desk.specs.Out.{Parcel, lent_numbers}
-use Rattle.trio_auxdir.specs.Slots.{slots_of}
-use Rattle.trio_session.specs.Layout.{page_in, size_in}
-use Rattle.trio_session.specs.Seen.{MadeFile, every_number}
-use Rattle.trio_session.specs.inner.Inside.{AreLaid}
-use Rattle.trio_session.specs.inner.Made.{AreMade, IsBlock, IsCleared, IsIndexHere, IsMade, IsOne, OneFile, entry_at, file_of, made_seen, pages_of}
-use Rattle.trio_session.specs.inner.Places.{AreApart, HasChain, IsAt, IsFile, IsLaid, body_at, chain_at, chain_laid, fresh_number, number_at, sheet_at, shown_at}
-use Rattle.trio_session.specs.declared.indexes.IndexedDir.{IndexedDir}
-use Rattle.trio_session.specs.declared.laid.FilePlace.{FilePlace}
-use Rattle.trio_session.specs.declared.laid.FilePlace.TheVariants.{InSlot, Leased}
-use Rattle.trio_session.specs.declared.laid.Laid.{Laid}
-use Rattle.trio_session.specs.declared.laid.PagePlace.{PagePlace}
-use Rattle.trio_session.specs.declared.made.Made.{Made}
+use Rattle.trio_session.proofs.Words.{◌%◌, ◌++◌, ◌<◌, ◌∙◌, ◌∷◌, ◌≡◌, AreApart, AreLaid, AreMade, Chain, EntryPart, FilePlace, HasChain, In, InSlot, IndexedDir, IsAt, IsBlock, IsCleared, IsFile, IsIndexHere, IsLaid, IsMade, IsOne, Laid, Leased, LentFile, List, Made, MadeFile, OneFile, Option, PagePlace, Parcel, Sheet, Shown, Some, [], ap, block_count, body_at, chain_at, chain_laid, entry_at, every_number, file_of, fresh_number, index_count, inl, inr, length, lent_numbers, made_seen, map, number_at, option_map, option_map_or, page_in, pages_of, refl, sheet_at, shown_at, size_in, slice_get, slots_of, subst, sym, take, ℕ}
 use Rattle.trio_session.proofs.Chains.{chain_there}
 use Rattle.trio_session.proofs.Kept.{IsFile-one, files_of}
 use Rattle.trio_session.proofs.Lists.{In-slice_get}

@@ -1,48 +1,17 @@
 -- A session after a grant.
-use Rattle.std.proofs.Common.{◌≡◌, ℕ, ◌+◌, ◌&&◌, Bool, true, false, not, IsTrue, List, [], ◌∷◌, ◌++◌, length, take, Some, sym, refl, ap, ◌∙◌, subst, inl, inr, arith}
-use Rattle.std.specs.Prelude.{map, slice_get}
-use Rattle.std.specs.Option.{option_map_or}
-use Rattle.std.proofs.lemmas.List.{length-append, length-map, map-append, append-nil}
+use Rattle.trio_session.proofs.Words.{◌&&◌, ◌++◌, ◌+◌, ◌∙◌, ◌∷◌, ◌≡◌, AreApart, AreLaid, Block, Bool, Chain, DeskSeen, Fresh, FreshParts, Grant, GrantKind, HasChain, HasLent, Hold, HoldParts, In, In-cases, In-left, In-map, Index, IsFile, IsFreshLease, IsNewLaid, IsOn, IsTrue, IsWellLent, Laid, LaidLeased, Lease, Leased, Lent, LentFile, LentPage, LibNo, LibOut, List, PagePlace, Parcel, Read, Room, SeenAfter, SessionSeen, Sheet, Shown, Sizes, Some, Write, [], ap, append-nil, are_new, are_new-push, arith, block_count, body_at, chain_at, chain_laid, chains_laid, false, file_numbers, fresh_number, has_out, hold_numbers, index_count, inl, inr, is_among, is_among-not, is_core, length, length-append, length-map, lent_chain, lent_core, lent_numbers, map, map-In, map-append, numbers_of_file, option_map_or, page_numbers, reads_leased, refl, sheet_at, shown_at, size_in, slice_get, subst, sym, take, true, with_lease, with_leased, ℕ}
+use Rattle.std.proofs.Common.{not}
 use Rattle.std.proofs.Math.Seq.{take-length}
-use Rattle.trio_lists.specs.Lists.{In, are_new, is_among}
-use Rattle.trio_lists.proofs.Members.{In-left, In-cases, In-map, map-In}
-use Rattle.trio_lists.proofs.New.{is_among-not}
-use Rattle.trio_lists.proofs.Marked.{are_new-push}
-use Rattle.trio_layout.specs.Chain.{Chain, index_count}
-use Rattle.trio_layout.specs.Body.{block_count, body_at as body_says}
-use Rattle.trio_lease.specs.Shown.{Shown, LentFile}
-use Rattle.trio_lease.specs.declared.lease.Lease.{Lease}
-use Rattle.trio_lease.specs.declared.lease.Lease.TheVariants.{Write, Read, Hold}
-use Rattle.trio_lease.specs.declared.parts.HoldParts.{HoldParts}
-use Rattle.trio_lease.specs.declared.parts.FreshParts.{FreshParts}
-use Rattle.trio_rights.specs.declared.rights.LibNo.{LibNo}
-use Rattle.trio_desk.specs.Contents.{Sizes}
-use Rattle.trio_desk.specs.Out.{LibOut, Parcel, IsFreshLease, IsWellLent, files_out, file_numbers, hold_numbers, page_numbers, lent_numbers, numbers_of_file, lent_core}
-use Rattle.trio_session.specs.Layout.{size_in}
-use Rattle.trio_session.specs.inner.Places.{AreApart, IsFile, HasChain, chain_at, chain_laid, body_at, sheet_at, shown_at}
-use Rattle.trio_rights.specs.Sheets.{Sheet}
-use Rattle.trio_session.specs.declared.laid.FilePlace.TheVariants.{Leased}
+use Rattle.trio_layout.specs.Body.{body_at as body_says}
+use Rattle.trio_desk.specs.Out.{files_out}
 use Rattle.trio_session.proofs.More.{More, file_more, has_more}
 use Rattle.trio_session.proofs.Places.{block_at, block_parts, index_at, index_parts, shown_at-Leased}
-use Rattle.trio_session.specs.inner.Inside.{AreLaid, HasLent, chains_laid}
-use Rattle.trio_session.specs.inner.Giving.{with_leased, IsNewLaid, LaidLeased}
-use Rattle.trio_session.specs.declared.laid.PagePlace.{PagePlace}
-use Rattle.trio_session.specs.declared.laid.PagePlace.TheVariants.{Index, Block, Fresh}
-use Rattle.trio_session.specs.declared.laid.Laid.{Laid}
 use Rattle.trio_session.proofs.Lists.{In-slice_get}
 use Rattle.trio_session.proofs.Given.{apart_file, page_out, push_at, left_at}
 use Rattle.trio_session.proofs.Lengths.{chain_lengths}
 use Rattle.trio_session.proofs.Chains.{chain_there}
-use Rattle.trio_session.specs.inner.Places.{fresh_number}
-use Rattle.trio_session.specs.Asked.{lent_chain, with_lease}
-use Rattle.trio_session.specs.inner.Giving.{reads_leased}
-use Rattle.trio_session.specs.Seen.{SessionSeen, Room, IsOn, has_out}
 use Rattle.trio_desk.specs.Out.{with_lease as desk_lease}
-use Rattle.trio_desk.specs.Call.{DeskSeen, SeenAfter, Grant, Lent}
-use Rattle.trio_nodes.specs.declared.grant.GrantKind.{GrantKind}
-use Rattle.trio_layout.specs.Range.{is_core}
 use Rattle.trio_session.proofs.Desks.{alike_trans}
-use Rattle.trio_lease.specs.declared.parts.LentPage.{LentPage}
 
 -- holds have no pages
 sheet_same : (b : Parcel) (hs : List HoldParts) (place : PagePlace) → sheet_at (record b { holds = hs }) place ≡ sheet_at b place

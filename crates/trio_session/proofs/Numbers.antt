@@ -1,14 +1,6 @@
 -- Lists in which each number stands once, with one taken out.
-use Rattle.std.proofs.Common.{◌≡◌, ◌+◌, ◌-◌, arith, ℕ, zero, suc, Bool, true, false, cond, not, eqb, List, [], ◌∷◌, ◌++◌, take, drop, length, None, Some, sym, refl, ap, ◌∙◌, subst, inl, inr}
-use Rattle.std.specs.Prelude.{map, slice_get}
-use Rattle.std.specs.List.{filter, position}
-use Rattle.std.specs.Option.{is_some}
-use Rattle.std.proofs.lemmas.Bool.{eq-eqb, eqb-true, false_from_ne_true}
-use Rattle.trio_lists.specs.Lists.{In, are_new}
-use Rattle.trio_lists.proofs.Filters.{filter-none}
-use Rattle.trio_lists.proofs.Members.{In-is_among, In-map}
-use Rattle.trio_lists.proofs.New.{are_new-first}
-use Rattle.std.proofs.lemmas.Option.{slice_get_within}
+use Rattle.trio_session.proofs.Words.{◌++◌, ◌+◌, ◌-◌, ◌∙◌, ◌∷◌, ◌≡◌, Bool, In, In-is_among, In-map, List, None, Some, [], ap, are_new, are_new-first, arith, cond, drop, eq-eqb, eqb, eqb-true, false, false_from_ne_true, filter, filter-none, inl, inr, is_some, length, map, position, refl, slice_get, slice_get_within, subst, suc, sym, take, true, zero, ℕ}
+use Rattle.std.proofs.Common.{not}
 use Rattle.trio_session.proofs.Found.{is_some-position}
 use Rattle.trio_session.proofs.Lists.{slice_get-In}
 

@@ -1,30 +1,6 @@
 -- The file that an edit of a session finds, and what the session shows after it.
-use Rattle.std.proofs.Common.{◌≡◌, ℕ, Bor, true, false, eqb, List, [], ◌∷◌, ◌<◌, ◌≤◌, ◌-◌, min, drop, arith, length, Option, Some, None, sym, refl, ap, ◌∙◌, subst, inl, inr}
-use Rattle.std.specs.Prelude.{map, slice_index_or, vec_capacity}
-use Rattle.std.specs.Global.{Vec}
-use Rattle.std.specs.List.{find, position}
-use Rattle.std.specs.Option.{is_some, option_map, option_map_or}
-use Rattle.std.proofs.lemmas.Bool.{eqb-true}
-use Rattle.trio_lists.proofs.Members.{In-left}
-use Rattle.trio_rights.specs.declared.kind.Kind.{Kind}
-use Rattle.trio_layout.specs.Chain.{Chain}
-use Rattle.trio_lease.specs.Shown.{LentFile}
-use Rattle.trio_lease.specs.declared.parts.FreshParts.{FreshParts}
-use Rattle.std.proofs.lemmas.List.{length-map}
-use Rattle.trio_desk.specs.Out.{Parcel, page_numbers}
-use Rattle.trio_session.specs.Seen.{MadeFile, MayGrow, SessionSeen, body_in, chain_in, home_in, made_place, open_kind, place_in, room_in, spare_pages}
-use Rattle.trio_session.specs.inner.Found.{Finds, FoundAt, AmongMade, AmongWritten, IsThere, MayGrowAt}
-use Rattle.trio_session.specs.Layout.{growth, size_in}
-use Rattle.trio_layout.specs.Body.{block_count}
-use Rattle.std.proofs.lemmas.Option.{get_or_from_slice_get, slice_get-map}
+use Rattle.trio_session.proofs.Words.{◌-◌, ◌<◌, ◌∙◌, ◌∷◌, ◌≡◌, ◌≤◌, AmongMade, AmongWritten, Bor, Chain, FilePlace, Files, Finds, FoundAt, FreshParts, HasChain, In-left, Inside, IsFile, IsFileOn, IsOne, IsThere, Kind, Laid, LentFile, List, Made, MadeFile, MayGrow, MayGrowAt, None, OneFile, Option, Parcel, SessionSeen, Some, Vec, WasMade, Written, [], ap, arith, block_count, body_at, body_in, chain_at, chain_in, chains_laid, drop, eqb, eqb-true, false, file_of, find, get_or_from_slice_get, growth, home_at, home_in, inl, inr, is_some, length, length-map, made_place, made_room, made_seen, map, min, number_at, of_made, of_written, open_kind, option_map, option_map_or, page_numbers, place_in, position, refl, room_in, room_laid, size_in, slice_get-map, slice_index_or, spare_pages, subst, sym, true, vec_capacity, ℕ}
 use Rattle.trio_session.proofs.Grows.{within_spare}
-use Rattle.trio_session.specs.inner.Inside.{chains_laid}
-use Rattle.trio_session.specs.inner.Made.{Files, IsFileOn, IsOne, OneFile, WasMade, Written, file_of, made_room, made_seen, of_made, of_written}
-use Rattle.trio_session.specs.inner.Places.{HasChain, IsFile, body_at, chain_at, home_at, number_at, room_laid}
-use Rattle.trio_session.specs.declared.laid.FilePlace.{FilePlace}
-use Rattle.trio_session.specs.declared.laid.Laid.{Laid}
-use Rattle.trio_session.specs.declared.made.Made.{Made}
-use Rattle.trio_session.specs.declared.session.Session.TheInside.{Inside}
 use Rattle.trio_session.specs.contracts.session.Session.{the_invariant, the_view}
 use Rattle.trio_session.proofs.Insides.{files_in, view_shows}
 use Rattle.trio_session.proofs.Found.{find-position, position-at, position-map, position-passes}

@@ -1,17 +1,8 @@
 -- Edits go by neither indexes, look-ups nor room.
-use Rattle.std.proofs.Common.{◌≡◌, ℕ, ◌+◌, Bool, true, false, cond, eqb, ltb, List, [], ◌∷◌, ◌++◌, length, Option, Some, None, refl, ap, ◌∙◌}
-use Rattle.std.specs.Prelude.{is_some, map, not, slice_set, take}
-use Rattle.std.specs.List.{filter}
-use Rattle.std.specs.Option.{option_map_or}
-use Rattle.trio_rights.specs.declared.kind.Kind.{Kind}
-use Rattle.trio_layout.specs.Body.{block_count}
-use Rattle.trio_layout.specs.Chain.{Chain}
-use Rattle.trio_layout.specs.declared.slot.EntryPart.{EntryPart}
-use Rattle.trio_auxdir.specs.declared.place.Place.{Place}
-use Rattle.trio_session.specs.Asked.{IsAlike}
+use Rattle.trio_session.proofs.Words.{◌++◌, ◌+◌, ◌∙◌, ◌∷◌, ◌≡◌, Bool, Chain, EntryPart, IsAlike, Kind, List, MadeFile, None, Option, Place, Room, SessionSeen, Some, [], ap, block_count, block_number, body_in, chain_cut, chain_grown, chain_in, cleared_slot, cond, empty_shown, entry_shown, eqb, false, filled_at, filter, growth, is_allotted, length, ltb, made_chained, made_file, map, not, number_shown, option_map_or, place_in, place_shown, placed_made, refl, renamed, retitled, size_in, slice_set, spare_pages, true, with_chain, with_made, without_made, ℕ}
+use Rattle.std.specs.Prelude.{is_some, take}
 use Rattle.trio_session.specs.Deeds.{sized, with_slot}
-use Rattle.trio_session.specs.Layout.{chain_cut, chain_grown, cleared as cleared_slot, growth, retitled, size_in}
-use Rattle.trio_session.specs.Seen.{MadeFile, Room, SessionSeen, block_number, body_in, chain_in, clear, cut, empty_shown, entry_shown, fill, filled_at, grown, is_allotted, made_chained, made_file, number_shown, place_in, place_shown, placed_made, put, renamed, retitle, spare_pages, with_chain, with_made, without_made}
+use Rattle.trio_session.specs.Seen.{clear, cut, fill, grown, put, retitle}
 use Rattle.trio_session.proofs.Alike.{alike_edited}
 
 module _ (is : List ℕ) (f : ℕ) (r : Room) where

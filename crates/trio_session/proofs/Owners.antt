@@ -1,23 +1,5 @@
 -- Whose pages are whose: no page is of two files, nor an index page of one file a block of another.
-use Rattle.std.proofs.Common.{◌≡◌, ◌≢◌, ℕ, zero, suc, ◌+◌, ◌-◌, ◌<◌, ◌≤◌, true, List, [], ◌∷◌, ◌++◌, length, drop, get_or, Some, sym, refl, ap, ◌∙◌, subst, inl, inr, arith}
-use Rattle.std.specs.Prelude.{map, slice_get}
-use Rattle.std.proofs.lemmas.Bool.{cases_lt}
-use Rattle.std.proofs.lemmas.Option.{slice_get-get_or, slice_get_within, get_or_from_slice_get}
-use Rattle.trio_lists.specs.Lists.{In, are_new}
-use Rattle.trio_lists.proofs.Members.{In-cases, In-left, In-map, In-right}
-use Rattle.trio_lists.proofs.New.{are_new-beside, are_new-first}
-use Rattle.trio_lease.specs.Shown.{LentFile, Shown}
-use Rattle.trio_lease.specs.Views.{fresh_sheet}
-use Rattle.trio_lease.specs.declared.parts.FreshParts.{FreshParts}
-use Rattle.trio_desk.specs.Out.{Parcel, file_numbers, page_numbers}
-use Rattle.trio_session.specs.inner.Made.{AreNumbered, AreSpread, Files, IsOne, OneFile, Written, WasMade, fresh_places, of_made, of_written}
-use Rattle.trio_session.specs.inner.Places.{AreApart, IsAt, IsFile, chain_at, lease_of}
-use Rattle.trio_session.specs.declared.made.Made.{Made}
-use Rattle.trio_session.specs.declared.laid.FilePlace.{FilePlace}
-use Rattle.trio_session.specs.declared.laid.FilePlace.TheVariants.{Leased, InSlot}
-use Rattle.trio_session.specs.declared.laid.Laid.{Laid}
-use Rattle.trio_session.specs.declared.laid.PagePlace.{PagePlace}
-use Rattle.trio_session.specs.declared.laid.PagePlace.TheVariants.{Block, Fresh, Index}
+use Rattle.trio_session.proofs.Words.{◌++◌, ◌+◌, ◌-◌, ◌<◌, ◌∙◌, ◌∷◌, ◌≡◌, ◌≢◌, ◌≤◌, AreApart, AreNumbered, AreSpread, Block, FilePlace, Files, Fresh, FreshParts, In, In-cases, In-left, In-map, In-right, InSlot, Index, IsAt, IsFile, IsOne, Laid, Leased, LentFile, List, Made, OneFile, PagePlace, Parcel, Shown, Some, WasMade, Written, [], ap, are_new, are_new-beside, are_new-first, arith, cases_lt, chain_at, drop, file_numbers, fresh_places, fresh_sheet, get_or, get_or_from_slice_get, inl, inr, lease_of, length, map, of_made, of_written, page_numbers, refl, slice_get, slice_get-get_or, slice_get_within, subst, suc, sym, true, zero, ℕ}
 use Rattle.trio_session.proofs.Chains.{block_kept, block_more, blocks_length, index_kept, index_length, index_more, none_lent}
 use Rattle.trio_session.proofs.Lists.{In-slice_get, once_at, slice_get-In}
 use Rattle.trio_session.proofs.Places.{fresh_at, map_at}

@@ -1,23 +1,8 @@
 -- Pages in hand by their numbers: which bytes they have, and what a write of one or of a body leaves.
-use Rattle.std.proofs.Common.{◌≡◌, ◌≢◌, ℕ, Bool, true, false, cond, eqb, List, [], ◌∷◌, ◌++◌, Some, sym, refl, ap, ◌∙◌, subst, inl, inr}
-use Rattle.std.specs.Prelude.{map, if◌then◌else◌}
-use Rattle.std.specs.List.{find, flat_map}
-use Rattle.std.specs.Option.{option_map_or}
-use Rattle.std.proofs.lemmas.Bool.{cases_eq, eq-eqb, eqb-true, ne_eqb}
-use Rattle.std.proofs.lemmas.List.{map-append}
-use Rattle.std.proofs.lemmas.Simd.{map-map}
-use Rattle.trio_rights.specs.Bundle.{Written, bundle_pages, bundle_sheets}
-use Rattle.trio_rights.specs.Sheets.{Sheet, sheet_numbers}
-use Rattle.trio_lists.specs.Lists.{In}
-use Rattle.trio_lists.proofs.Filters.{In-find, find-In}
-use Rattle.trio_lists.proofs.Members.{map-In}
-use Rattle.trio_lease.specs.Shown.{LentFile}
-use Rattle.trio_lease.specs.Views.{fresh_sheet, lent_sheet, written_in}
-use Rattle.trio_lease.specs.declared.parts.LentPage.{LentPage}
-use Rattle.trio_lease.specs.declared.parts.FreshParts.{FreshParts}
-use Rattle.trio_desk.specs.Out.{Parcel}
-use Rattle.trio_desk.specs.Ready.{bundle_of}
-use Rattle.trio_session.specs.Layout.{block_with, body_with, file_with, fresh_with, index_with, page_in, with_body, with_page}
+use Rattle.trio_session.proofs.Words.{if◌then◌else◌, ◌++◌, ◌∙◌, ◌∷◌, ◌≡◌, ◌≢◌, Bool, FreshParts, In, In-find, LentFile, LentPage, List, Parcel, Sheet, Some, [], ap, block_with, body_with, bundle_of, bundle_pages, bundle_sheets, cases_eq, cond, eq-eqb, eqb, eqb-true, false, file_with, find, find-In, flat_map, fresh_sheet, fresh_with, index_with, inl, inr, lent_sheet, map, map-In, map-append, map-map, option_map_or, refl, sheet_numbers, subst, sym, true, written_in, ℕ}
+use Rattle.std.proofs.lemmas.Bool.{ne_eqb}
+use Rattle.trio_rights.specs.Bundle.{Written}
+use Rattle.trio_session.specs.Layout.{page_in, with_body, with_page}
 use Rattle.trio_session.proofs.Lists.{if_other, if_same, map_alike}
 
 -- all pages of a parcel

@@ -1,35 +1,11 @@
 -- Pages in hand, by their places and by their numbers.
-use Rattle.std.proofs.Common.{◌≡◌, ◌≢◌, ℕ, true, false, eqb, List, [], ◌++◌, Option, Some, None, sym, refl, ap, ◌∙◌, subst, inl, inr}
-use Rattle.std.specs.Prelude.{map, slice_get, slice_set, if◌then◌else◌}
-use Rattle.std.specs.List.{flat_map}
-use Rattle.std.specs.Option.{option_map, option_and_then, option_map_or, option_copied}
-use Rattle.std.proofs.lemmas.Bool.{eqb-true, eq-eqb}
-use Rattle.std.proofs.Common.{IsTrue, get_or, length, ◌<◌}
-use Rattle.std.specs.Option.{is_some}
-use Rattle.std.proofs.lemmas.Option.{slice_get-map, get_or_from_slice_get, slice_get-get_or}
-use Rattle.std.proofs.lemmas.List.{length-set, get_or-set_same}
-use Rattle.std.proofs.lemmas.Simd.{map-map}
+use Rattle.trio_session.proofs.Words.{if◌then◌else◌, ◌++◌, ◌<◌, ◌∙◌, ◌≡◌, ◌≢◌, AreApart, Block, Fresh, FreshParts, In, In-cases, In-find, In-flat, In-left, In-map, In-right, InSlot, Index, IsTrue, Leased, LentFile, LentPage, List, None, Option, PagePlace, Parcel, Sheet, Shown, Some, [], ap, are_new, block_with, body_at, body_in_slot, body_with, bundle_of, bundle_sheets, eq-eqb, eqb, eqb-true, false, file_with, find-In, flat_map, fresh_sheet, fresh_with, get_or, get_or-set_same, get_or_from_slice_get, index_with, inl, ino_at, inr, is_some, length, length-set, lent_bytes, lent_sheet, map, map-In, map-map, number_at, option_and_then, option_copied, option_map, option_map_or, refl, sheet_at, shown_at, slice_get, slice_get-get_or, slice_get-map, slice_set, slot_file, subst, sym, true, with_part, written_in, ℕ}
 use denote.Bor.{Bor}
 use Rattle.trio_page.specs.declared.page.Page.{Page}
-use Rattle.trio_page.specs.Field.{with_part}
-use Rattle.trio_lists.specs.Lists.{are_new}
-use Rattle.trio_lists.specs.Lists.{In}
-use Rattle.trio_lists.proofs.Members.{In-left, In-right, In-cases, In-flat, flat_map-In, In-map, map-In}
-use Rattle.trio_lists.proofs.Filters.{find-In, In-find}
-use Rattle.trio_rights.specs.Sheets.{Sheet}
-use Rattle.trio_rights.specs.Bundle.{Written, bundle_sheets}
-use Rattle.trio_lease.specs.Shown.{LentFile, Shown, lent_at, page_at as lent_bytes, with_touched, with_page as lent_with}
-use Rattle.trio_lease.specs.Views.{lent_sheet, fresh_sheet, written_in}
-use Rattle.trio_lease.specs.declared.parts.LentPage.{LentPage}
-use Rattle.trio_lease.specs.declared.parts.FreshParts.{FreshParts}
-use Rattle.trio_desk.specs.Out.{Parcel}
-use Rattle.trio_desk.specs.Ready.{bundle_of}
-use Rattle.trio_session.specs.Layout.{page_in, with_page, index_with, block_with, fresh_with, file_with, with_body, body_with}
-use Rattle.trio_layout.specs.Entries.{body_in_slot}
-use Rattle.trio_session.specs.inner.Places.{AreApart, number_at, sheet_at, ino_at, body_at, shown_at, slot_file}
-use Rattle.trio_session.specs.declared.laid.FilePlace.TheVariants.{Leased, InSlot}
-use Rattle.trio_session.specs.declared.laid.PagePlace.{PagePlace}
-use Rattle.trio_session.specs.declared.laid.PagePlace.TheVariants.{Index, Block, Fresh}
+use Rattle.trio_lists.proofs.Members.{flat_map-In}
+use Rattle.trio_rights.specs.Bundle.{Written}
+use Rattle.trio_lease.specs.Shown.{lent_at, with_touched, with_page as lent_with}
+use Rattle.trio_session.specs.Layout.{page_in, with_page, with_body}
 use Rattle.trio_session.proofs.Lists.{map_same, set_map, once_at, map_alike, slice_get-In, In-slice_get, if_same, if_other, set_beside}
 
 -- ---- what stands at a place

@@ -1,39 +1,8 @@
 -- One file of a session is laid anew, by a growth or a cut: what becomes of its files.
-use Rattle.std.proofs.Common.{◌≡◌, ◌≢◌, ◌⊎◌, ℕ, ◌+◌, ◌%◌, ◌<◌, ◌≤◌, eqb, true, List, [], ◌∷◌, ◌++◌, length, take, drop, zero, suc, Some, sym, refl, ap, ◌∙◌, subst, inl, inr, arith}
-use Rattle.std.specs.Prelude.{map, slice_get, slice_set}
-use Rattle.std.specs.Option.{option_map, option_map_or}
-use Rattle.std.proofs.lemmas.Bool.{cases_eq, eqb-true}
-use Rattle.std.proofs.lemmas.List.{map-append, take-append-drop}
-use Rattle.std.proofs.lemmas.Option.{slice_get-map, slice_get_within}
-use Rattle.trio_lists.specs.Lists.{In, are_new}
-use Rattle.trio_lists.proofs.Members.{In-cases, In-left, In-map, In-right, map-In}
-use Rattle.trio_rights.specs.Sheets.{Sheet}
-use Rattle.trio_rights.specs.declared.kind.Kind.TheVariants.{Directory, Regular}
-use Rattle.trio_layout.specs.Body.{block_count}
-use Rattle.trio_layout.specs.Chain.{Chain, index_count}
-use Rattle.trio_layout.specs.Entries.{body_in_slot}
-use Rattle.trio_layout.specs.declared.slot.EntryPart.{EntryPart}
-use Rattle.trio_lease.specs.Shown.{LentFile, Shown}
-use Rattle.trio_lease.specs.Views.{fresh_sheet}
-use Rattle.trio_lease.specs.declared.parts.FreshParts.{FreshParts}
-use Rattle.trio_desk.specs.Out.{Parcel, file_numbers, ino_numbers, page_numbers}
-use Rattle.trio_auxdir.specs.Slots.{slots_of}
-use Rattle.trio_session.specs.Layout.{InSlot as HomeInSlot, Leased as HomeLeased, page_in, size_in}
-use Rattle.trio_session.specs.Seen.{every_number}
-use Rattle.trio_session.specs.inner.Indexes.{AreRead}
-use Rattle.trio_session.specs.inner.Inside.{AreLaid}
-use Rattle.trio_session.specs.inner.Places.{HasChain, IsAt, IsFile, IsWholeAt, body_at, chain_at, home_at, ino_at, number_at}
-use Rattle.trio_session.specs.declared.indexes.IndexedDir.{IndexedDir}
-use Rattle.trio_session.specs.declared.laid.PagePlace.TheVariants.{Fresh}
+use Rattle.trio_session.proofs.Words.{◌%◌, ◌++◌, ◌+◌, ◌<◌, ◌∙◌, ◌∷◌, ◌≡◌, ◌≢◌, ◌≤◌, ◌⊎◌, AreDirs, AreLaid, AreMade, AreNumbered, AreRead, AreSpread, Chain, Directory, EntryPart, FilePlace, Files, Fresh, FreshParts, HasChain, HomeInSlot, HomeLeased, In, In-cases, In-left, In-map, In-right, InSlot, IndexedDir, IsAt, IsBlock, IsFile, IsMade, IsOne, IsRelaid, IsWholeAt, Laid, Leased, LentFile, List, Made, MadeAnew, OneFile, Parcel, Regular, Sheet, Shown, Some, WasMade, Written, WrittenAnew, [], ap, are_new, arith, block_count, body_at, body_in_slot, cases_eq, chain_at, drop, entry_at, eqb, eqb-true, every_number, file_numbers, file_of, fresh_places, fresh_sheet, home_at, index_count, inl, ino_at, ino_numbers, inr, length, map, map-In, map-append, number_at, of_made, of_written, option_map, option_map_or, page_in, page_numbers, refl, size_in, slice_get, slice_get-map, slice_get_within, slice_set, slots_of, subst, suc, sym, take, take-append-drop, true, zero, ℕ}
 use Rattle.trio_session.proofs.Chains.{there_some}
 use Rattle.trio_session.proofs.Places.{body_at-InSlot, fresh_at, map_at, number_at-map, page_at, slot_parts}
 use Rattle.trio_session.proofs.Untouched.{EditsFile, IsBeside, IsHome, AreRead-file, body-file, entry_on-file, page_in-file, slots_of-file}
-use Rattle.trio_session.specs.inner.Found.{IsRelaid, MadeAnew, WrittenAnew}
-use Rattle.trio_session.specs.inner.Made.{AreDirs, AreMade, AreNumbered, AreSpread, Files, IsBlock, IsMade, IsOne, OneFile, WasMade, Written, entry_at, file_of, fresh_places, of_made, of_written}
-use Rattle.trio_session.specs.declared.laid.FilePlace.{FilePlace}
-use Rattle.trio_session.specs.declared.laid.FilePlace.TheVariants.{Leased, InSlot}
-use Rattle.trio_session.specs.declared.laid.Laid.{Laid}
-use Rattle.trio_session.specs.declared.made.Made.{Made}
 use Rattle.trio_session.proofs.Found.{position-at}
 use Rattle.trio_session.proofs.Kept.{AreApart-left, In-drop_at, IsFile-one, IsOne-back, body_in_lease, files_of, kinds_apart, get_set, map_set, same_written}
 use Rattle.trio_session.proofs.Lists.{In-slice_get, once_at, set_beside, slice_get-In}

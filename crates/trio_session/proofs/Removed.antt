@@ -1,17 +1,5 @@
 -- A file that was made and whose slot is cleared keeps a session's files and indexes.
-use Rattle.std.proofs.Common.{◌≡◌, ℕ, zero, suc, true, List, [], ◌∷◌, ◌++◌, take, drop, None, Some, sym, refl, ap, ◌∙◌, subst, inl, inr}
-use Rattle.std.specs.Prelude.{map, slice_get}
-use Rattle.std.proofs.lemmas.List.{map-append}
-use Rattle.trio_lists.specs.Lists.{In, are_new}
-use Rattle.trio_lists.proofs.Members.{In-cases, In-left, In-right}
-use Rattle.trio_lists.proofs.New.{are_new-first}
-use Rattle.trio_layout.specs.Chain.{index_count}
-use Rattle.trio_lease.specs.Shown.{Shown}
-use Rattle.trio_desk.specs.Out.{Parcel}
-use Rattle.trio_session.specs.inner.Made.{AreDirs, AreMade, IsCleared, IsOne, OneFile, WasMade, Written}
-use Rattle.trio_session.specs.declared.indexes.IndexedDir.{IndexedDir}
-use Rattle.trio_session.specs.declared.laid.Laid.{Laid}
-use Rattle.trio_session.specs.declared.made.Made.{Made}
+use Rattle.trio_session.proofs.Words.{◌++◌, ◌∙◌, ◌∷◌, ◌≡◌, AreDirs, AreMade, In, In-cases, In-left, In-right, IndexedDir, IsCleared, IsOne, Laid, List, Made, None, OneFile, Parcel, Shown, Some, WasMade, Written, [], ap, are_new, are_new-first, drop, index_count, inl, inr, map, map-append, refl, slice_get, subst, suc, sym, take, true, zero, ℕ}
 use Rattle.trio_session.proofs.Kept.{files_of}
 use Rattle.trio_session.proofs.Lists.{slice_get-In}
 use Rattle.trio_session.proofs.Owners.{are_new-parts}

@@ -1,21 +1,7 @@
 -- A file that was made is one whose slot is cleared: what is kept of the session, and what it shows.
-use Rattle.std.proofs.Common.{◌≡◌, ◌≢◌, ◌+◌, ◌-◌, ◌<◌, ◌≤◌, ℕ, suc, Bool, not, true, false, eqb, List, [], ◌∷◌, ◌++◌, take, drop, length, None, Some, ap, refl, subst, sym, ◌∙◌, arith}
-use Rattle.std.specs.Prelude.{map, slice_get}
-use Rattle.std.specs.List.{filter, position}
-use Rattle.std.proofs.lemmas.Bool.{eqb-true, eq-eqb, false≢true}
-use Rattle.std.proofs.lemmas.List.{append-nil, length-append, map-append}
-use Rattle.std.proofs.lemmas.Option.{slice_get_within}
-use Rattle.trio_lists.specs.Lists.{In, are_new}
-use Rattle.trio_lists.proofs.Filters.{filter-In, filter-map}
-use Rattle.trio_lists.proofs.Members.{In-map}
-use Rattle.trio_lease.specs.Shown.{Shown}
-use Rattle.trio_desk.specs.Out.{Parcel}
-use Rattle.trio_session.specs.Seen.{MadeFile}
-use Rattle.trio_session.specs.inner.Found.{NotMade, Removed, RemovesMade}
-use Rattle.trio_session.specs.inner.Made.{AreDirs, AreMade, IsOne, OneFile, made_seen}
-use Rattle.trio_session.specs.declared.indexes.IndexedDir.{IndexedDir}
-use Rattle.trio_session.specs.declared.laid.Laid.{Laid}
-use Rattle.trio_session.specs.declared.made.Made.{Made}
+use Rattle.trio_session.proofs.Words.{◌++◌, ◌+◌, ◌-◌, ◌<◌, ◌∙◌, ◌∷◌, ◌≡◌, ◌≢◌, ◌≤◌, AreDirs, AreMade, Bool, In, In-map, IndexedDir, IsOne, Laid, List, Made, MadeFile, None, OneFile, Parcel, Removed, Shown, Some, [], ap, append-nil, are_new, arith, drop, eq-eqb, eqb, eqb-true, false, false≢true, filter, filter-In, filter-map, length, length-append, made_seen, map, map-append, position, refl, slice_get, slice_get_within, subst, suc, sym, take, true, ℕ}
+use Rattle.std.proofs.Common.{not}
+use Rattle.trio_session.specs.inner.Found.{NotMade, RemovesMade}
 use Rattle.trio_session.proofs.Found.{position-passes}
 use Rattle.trio_session.proofs.Indexed.{are_new-front}
 use Rattle.trio_session.proofs.Kept.{files_of}

@@ -1,30 +1,8 @@
 -- Room is made for a file of a session: its files and indexes are kept.
-use Rattle.std.proofs.Common.{◌≡◌, ◌≢◌, ◌⊎◌, ℕ, ◌+◌, ◌<◌, ◌≤◌, zero, suc, ◌∷◌, None, Bool, true, eqb, leb, ltb, List, [], ◌++◌, length, Option, Result, Ok, Err, OnOk, Some, sym, refl, ap, ◌∙◌, subst, inl, inr, arith}
-use Rattle.std.specs.Prelude.{map, slice_get, slice_index_or, slice_set}
-use Rattle.std.specs.List.{filter, position}
-use Rattle.std.specs.Option.{is_some}
-use Rattle.std.proofs.lemmas.Bool.{cases_eq, eqb-true, false≢true, le-leb, leb-true, lt-ltb, ltb-true}
-use Rattle.std.proofs.lemmas.Option.{get_or_from_slice_get, slice_get_within}
-use Rattle.trio_lists.specs.Lists.{In, are_new}
-use Rattle.trio_lists.proofs.Filters.{filter-In, In-filter}
-use Rattle.trio_lists.proofs.Members.{In-cases, In-is_among, In-map, map-In}
-use Rattle.trio_layout.specs.Chain.{Chain, index_count}
-use Rattle.trio_lease.specs.Shown.{Shown}
-use Rattle.trio_desk.specs.Out.{Parcel, file_numbers, ino_numbers}
+use Rattle.trio_session.proofs.Words.{◌++◌, ◌+◌, ◌<◌, ◌∙◌, ◌∷◌, ◌≡◌, ◌≢◌, ◌≤◌, ◌⊎◌, AmongMade, AmongWritten, AnIndex, AreDirs, AreLaid, AreMade, AreRead, Bool, Chain, Err, FilePlace, Files, FoundAt, HasChain, In, In-cases, In-filter, In-is_among, In-map, IndexedDir, IsBlock, IsFile, IsIndexHere, IsIndexed, IsMade, IsOne, IsRelaid, Laid, Leased, List, Made, MadeAnew, MadeFile, NoIndex, None, Ok, OnOk, OneFile, Option, Parcel, Roomier, Shown, Some, WrittenAnew, [], ap, are_new, arith, cases_eq, chain_at, chains_laid, dir_numbers, eqb, eqb-true, every_number, false≢true, file_numbers, file_of, filter, filter-In, fresh_places, get_or_from_slice_get, has_names, has_slots, index_count, inl, ino_numbers, inr, is_some, le-leb, lease_on, leb, leb-true, length, lt-ltb, ltb, ltb-true, made_seen, map, map-In, number_at, of_made, page_in, pages_of, position, refl, room_laid, slice_get, slice_get_within, slice_index_or, slice_set, slots_of, subst, suc, sym, true, zero, ℕ}
+use Rattle.std.proofs.Common.{Result}
 use Rattle.trio_auxdir.specs.Directory.{HasRoom}
-use Rattle.trio_auxdir.specs.Slots.{slots_of}
-use Rattle.trio_session.specs.Layout.{page_in}
-use Rattle.trio_session.specs.Seen.{MadeFile, every_number}
-use Rattle.trio_session.specs.inner.Found.{AmongMade, AmongWritten, AnIndex, FoundAt, IsRelaid, IsRoomier, MadeAnew, NoIndex, Roomier, RoomierDir, WrittenAnew}
-use Rattle.trio_session.specs.inner.Indexes.{AreRead, IsIndexed, lease_on}
-use Rattle.trio_session.specs.inner.Inside.{AreLaid, chains_laid}
-use Rattle.trio_session.specs.inner.Made.{AreDirs, AreMade, Files, IsBlock, IsIndexHere, IsMade, IsOne, OneFile, dir_numbers, file_of, fresh_places, has_names, has_slots, made_seen, of_made, pages_of}
-use Rattle.trio_session.specs.inner.Places.{HasChain, IsFile, chain_at, number_at, room_laid}
-use Rattle.trio_session.specs.declared.indexes.IndexedDir.{IndexedDir}
-use Rattle.trio_session.specs.declared.laid.FilePlace.{FilePlace}
-use Rattle.trio_session.specs.declared.laid.FilePlace.TheVariants.{Leased}
-use Rattle.trio_session.specs.declared.laid.Laid.{Laid}
-use Rattle.trio_session.specs.declared.made.Made.{Made}
+use Rattle.trio_session.specs.inner.Found.{IsRoomier, RoomierDir}
 use Rattle.trio_session.proofs.Found.{is_some-position, position-at, position-map}
 use Rattle.trio_session.proofs.Kept.{IsFile-one, files_of, get_set, map_set}
 use Rattle.trio_session.proofs.Lists.{In-slice_get, set_beside, slice_get-In}

@@ -1,21 +1,7 @@
 -- What a session has and shows after room was made for one of its files.
-use Rattle.std.proofs.Common.{◌≡◌, ℕ, ◌+◌, ◌-◌, ◌<◌, ◌≤◌, min, eqb, List, length, Option, None, Some, Result, Ok, OnOk, sym, refl, ap, ◌∙◌, subst, arith}
-use Rattle.std.specs.Prelude.{map, slice_index_or, vec_capacity}
-use Rattle.std.specs.Global.{Vec}
-use Rattle.std.specs.List.{filter, position}
-use Rattle.std.specs.Option.{option_map_or}
-use Rattle.trio_lists.specs.Lists.{In}
-use Rattle.trio_layout.specs.Chain.{Chain}
-use Rattle.trio_desk.specs.Out.{Parcel}
-use Rattle.trio_session.specs.Seen.{KeepsRoom, MadeFile, SessionSeen, made_place, place_in, room_in}
-use Rattle.trio_session.specs.inner.Found.{IsRelaid, Roomier}
-use Rattle.trio_session.specs.inner.Inside.{AreLaid, chains_laid}
-use Rattle.trio_session.specs.inner.Made.{AreDirs, AreMade, dir_numbers, has_names, has_slots, made_room, made_seen}
-use Rattle.trio_session.specs.inner.Places.{room_laid}
-use Rattle.trio_session.specs.declared.indexes.IndexedDir.{IndexedDir}
-use Rattle.trio_session.specs.declared.laid.Laid.{Laid}
-use Rattle.trio_session.specs.declared.made.Made.{Made}
-use Rattle.trio_session.specs.declared.session.Session.TheInside.{Inside}
+use Rattle.trio_session.proofs.Words.{◌+◌, ◌-◌, ◌<◌, ◌∙◌, ◌≡◌, ◌≤◌, AreDirs, AreLaid, AreMade, Chain, In, IndexedDir, Inside, IsRelaid, Laid, List, Made, MadeFile, None, Ok, OnOk, Option, Parcel, Roomier, SessionSeen, Some, Vec, ap, arith, chains_laid, dir_numbers, eqb, filter, has_names, has_slots, length, made_place, made_room, made_seen, map, min, option_map_or, place_in, position, refl, room_in, room_laid, slice_index_or, subst, sym, vec_capacity, ℕ}
+use Rattle.std.proofs.Common.{Result}
+use Rattle.trio_session.specs.Seen.{KeepsRoom}
 use Rattle.trio_session.specs.contracts.session.Session.{the_invariant, the_view}
 use Rattle.trio_session.proofs.Chained.{made_many}
 use Rattle.trio_session.proofs.Insides.{files_in}

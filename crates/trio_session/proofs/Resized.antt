@@ -1,34 +1,9 @@
 -- A growth or a cut of a regular file keeps a session's files and indexes.
-use Rattle.std.proofs.Common.{◌≡◌, ◌⊎◌, ℕ, zero, suc, ◌+◌, ◌-◌, ◌*◌, ◌<◌, ◌≤◌, true, List, [], ◌∷◌, ◌++◌, length, get_or, take, drop, sym, refl, ap, ◌∙◌, subst, inl, inr, arith}
-use Rattle.std.proofs.lemmas.List.{drop-drop, length-append, length-take, take-append-drop}
-use Rattle.std.proofs.lemmas.Option.{slice_get-get_or}
-use Rattle.std.proofs.Math.Seq.{take-append_seam}
-use Rattle.trio_lists.specs.Lists.{In, are_new}
-use Rattle.trio_lists.specs.Counting.{count_up}
-use Rattle.trio_lists.proofs.Counting.{count_from}
-use Rattle.trio_lists.proofs.Members.{In-cases, In-left, In-right}
-use Rattle.trio_lists.proofs.New.{are_new-beside, are_new-first, are_new-take}
-use Rattle.trio_page.specs.Field.{zeros}
-use Rattle.trio_lease.specs.Views.{fresh_sheet}
-use Rattle.trio_lease.specs.declared.parts.FreshParts.{FreshParts}
-use Rattle.trio_rights.specs.declared.kind.Kind.TheVariants.{Regular}
-use Rattle.trio_layout.specs.Body.{block_count}
-use Rattle.trio_layout.specs.Chain.{Chain, index_count}
-use Rattle.trio_lease.specs.Shown.{Shown}
-use Rattle.trio_desk.specs.Out.{Parcel, page_numbers}
-use Rattle.trio_session.specs.Layout.{Home, chain_grown, cut_file, gap, grown_file, growth, linked, new_index, numbered, put_bytes, size_in, unlinked, unnamed}
-use Rattle.trio_session.specs.inner.Found.{CutDone, GrowDone, IsRelaid, MadeAnew, WrittenAnew, taken_from}
-use Rattle.trio_session.specs.inner.Inside.{AreLaid}
-use Rattle.trio_session.specs.inner.Made.{AreDirs, AreMade, IsOne, OneFile, WasMade, Written, file_of, fresh_places}
-use Rattle.trio_session.specs.inner.Places.{AreApart, HasChain, body_at, chain_at, home_at}
-use Rattle.trio_session.specs.declared.indexes.IndexedDir.{IndexedDir}
-use Rattle.trio_session.specs.declared.laid.FilePlace.TheVariants.{Leased, InSlot}
-use Rattle.trio_session.specs.declared.laid.Laid.{Laid}
-use Rattle.trio_session.specs.declared.made.Made.{Made}
+use Rattle.trio_session.proofs.Words.{◌*◌, ◌++◌, ◌+◌, ◌-◌, ◌<◌, ◌∙◌, ◌∷◌, ◌≡◌, ◌≤◌, ◌⊎◌, AreApart, AreDirs, AreLaid, AreMade, Chain, CutDone, Fresh, FreshParts, GrowDone, HasChain, Home, In, In-cases, In-left, In-right, InSlot, IndexedDir, IsOne, IsRelaid, Laid, Leased, List, Made, MadeAnew, OneFile, Parcel, Regular, Shown, WasMade, Written, WrittenAnew, [], ap, are_new, are_new-beside, are_new-first, arith, block_count, body_at, chain_at, chain_grown, count_from, count_up, cut_file, drop, drop-drop, file_of, fresh_places, fresh_sheet, gap, get_or, grown_file, growth, home_at, index_count, inl, inr, length, length-append, length-take, linked, new_index, numbered, page_numbers, put_bytes, refl, size_in, slice_get-get_or, subst, suc, sym, take, take-append-drop, take-append_seam, taken_from, true, unlinked, unnamed, zero, zeros, ℕ}
+use Rattle.trio_lists.proofs.New.{are_new-take}
 use Rattle.trio_session.proofs.Edited.{linked_keep, numbered_keep, unlinked_keep, unnamed_keep}
 use Rattle.trio_session.proofs.Grows.{bytes_keep}
 use Rattle.trio_session.proofs.Places.{fresh_at, map_at}
-use Rattle.trio_session.specs.declared.laid.PagePlace.TheVariants.{Fresh}
 use Rattle.trio_session.proofs.Kept.{IsFile-one, files_of, kinds_apart}
 use Rattle.trio_session.proofs.Lists.{In-take}
 use Rattle.trio_session.proofs.Owners.{are_new-differ, are_new-parts, blocks_apart, index_apart, same_one, spare_apart}

@@ -1,18 +1,7 @@
 -- Which indexes have room.
-use Rattle.std.proofs.Common.{◌≡◌, ◌≢◌, ℕ, zero, suc, ◌+◌, ◌<◌, ◌≤◌, Bool, true, eqb, ltb, List, [], ◌∷◌, length, Some, None, sym, refl, ap, ◌∙◌, subst, inl, inr, arith}
-use Rattle.std.specs.Prelude.{map, slice_get, slice_set}
-use Rattle.std.specs.List.{filter, position}
-use Rattle.std.specs.Option.{is_some}
-use Rattle.std.proofs.lemmas.Bool.{leb-true, lt-ltb, ltb-true}
-use Rattle.trio_lists.specs.Lists.{In, are_new}
-use Rattle.trio_lists.proofs.Filters.{In-filter, filter-In}
-use Rattle.trio_lists.proofs.Members.{In-is_among, In-map, map-In}
-use Rattle.trio_session.specs.inner.Made.{dir_numbers, has_names, has_slots}
-use Rattle.trio_session.specs.declared.indexes.IndexedDir.{IndexedDir}
-use Rattle.std.proofs.lemmas.Bool.{cases_eq, eqb-true}
-use Rattle.trio_rights.specs.declared.kind.Kind.{Kind}
+use Rattle.trio_session.proofs.Words.{◌+◌, ◌<◌, ◌∙◌, ◌∷◌, ◌≡◌, ◌≢◌, ◌≤◌, Bool, In, In-filter, In-is_among, In-map, IndexedDir, Kind, List, None, Some, TellsGrowth, ToldGrowth, Untold, [], ap, are_new, arith, cases_eq, dir_numbers, eqb, eqb-true, filter, filter-In, has_names, has_slots, inl, inr, is_some, leb-true, length, lt-ltb, ltb, ltb-true, map, map-In, position, refl, slice_get, slice_set, subst, suc, sym, true, zero, ℕ}
 use Rattle.trio_auxdir.specs.Directory.{Directory as Index}
-use Rattle.trio_session.specs.inner.Found.{TellsGrowth, ToldBlock, ToldGrowth, Untold}
+use Rattle.trio_session.specs.inner.Found.{ToldBlock}
 use Rattle.trio_session.proofs.Kept.{get_set, map_set}
 use Rattle.trio_session.proofs.Found.{is_some-position, position-passes}
 use Rattle.trio_session.proofs.Lists.{In-slice_get, once_at, set_beside, slice_get-In}

@@ -1,20 +1,5 @@
 -- The same files of a session with the same pages, and perhaps new ones without pages: what of its invariant goes with them.
-use Rattle.std.proofs.Common.{◌≡◌, ◌⊎◌, ℕ, List, [], sym, refl, ap, ◌∙◌, subst, inl, inr}
-use Rattle.std.specs.Prelude.{map}
-use Rattle.trio_lists.specs.Lists.{In, are_new}
-use Rattle.trio_rights.specs.declared.kind.Kind.TheVariants.{Directory}
-use Rattle.trio_layout.specs.Chain.{Chain}
-use Rattle.trio_lease.specs.Shown.{Shown}
-use Rattle.trio_desk.specs.Out.{Parcel}
-use Rattle.trio_auxdir.specs.Slots.{slots_of}
-use Rattle.trio_session.specs.Layout.{page_in}
-use Rattle.trio_session.specs.Seen.{every_number}
-use Rattle.trio_session.specs.inner.Indexes.{AreRead}
-use Rattle.trio_session.specs.inner.Made.{AreDirs, AreSpread, Files, IsBlock, IsOne, OneFile, dir_numbers, fresh_places}
-use Rattle.trio_session.specs.inner.Places.{chain_at}
-use Rattle.trio_session.specs.declared.indexes.IndexedDir.{IndexedDir}
-use Rattle.trio_session.specs.declared.laid.Laid.{Laid}
-use Rattle.trio_session.specs.declared.made.Made.{Made}
+use Rattle.trio_session.proofs.Words.{◌∙◌, ◌≡◌, ◌⊎◌, AreDirs, AreRead, AreSpread, Chain, Directory, Files, In, IndexedDir, IsBlock, IsOne, Laid, List, Made, OneFile, Parcel, Shown, [], ap, are_new, chain_at, dir_numbers, every_number, fresh_places, inl, inr, map, page_in, refl, slots_of, subst, sym, ℕ}
 use Rattle.trio_session.proofs.Kept.{files_of}
 
 -- the same file with the same pages

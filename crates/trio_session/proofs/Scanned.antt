@@ -1,16 +1,7 @@
 -- An index that is told of a directory's pages, one after another.
-use Rattle.std.proofs.Common.{◌≡◌, ℕ, zero, suc, ◌+◌, List, [], ◌∷◌, ◌++◌, take, drop, Option, Some, None, sym, refl, ap, ◌∙◌, subst, arith, append_assoc}
-use Rattle.std.proofs.lemmas.List.{append-nil, take-append-drop}
-use Rattle.std.specs.Prelude.{slice_get, IsTrue}
-use Rattle.std.proofs.lemmas.Option.{slice_get-map}
-use Rattle.std.proofs.lemmas.Grind.{flat_map-append}
-use Rattle.trio_lease.specs.Shown.{Shown, page_at}
-use Rattle.trio_lease.specs.declared.parts.LentPage.{LentPage}
+use Rattle.trio_session.proofs.Words.{◌++◌, ◌+◌, ◌∙◌, ◌∷◌, ◌≡◌, AreRead, IsIndexOf, LentPage, List, NamesDiffer, None, Option, Shown, Some, [], absent, absent_from, ap, append-nil, append_assoc, arith, dir_pages, drop, every_number, flat_map-append, is_directory_page, page_at, refl, slice_get, slice_get-map, slot_with, slots_of, slots_on, subst, suc, sym, take, take-append-drop, zero, ℕ}
+use Rattle.std.specs.Prelude.{IsTrue}
 use Rattle.trio_auxdir.specs.Directory.{Directory as Index}
-use Rattle.trio_auxdir.specs.Slots.{is_directory_page, slot_with, slots_of, slots_on, NamesDiffer}
-use Rattle.trio_auxdir.proofs.SlotLists.{absent, absent_from}
-use Rattle.trio_session.specs.Seen.{dir_pages, every_number}
-use Rattle.trio_session.specs.inner.Indexes.{AreRead, IsIndexOf}
 use Rattle.trio_session.proofs.Lists.{slice_get-In}
 
 -- the first of some slots

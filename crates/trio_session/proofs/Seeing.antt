@@ -1,29 +1,6 @@
 -- What a session shows of a file, by the lists in which it is found.
-use Rattle.std.proofs.Common.{◌≡◌, ◌||◌, ℕ, Bor, Bool, true, false, cond, eqb, List, [], ◌∷◌, ◌++◌, Option, Some, None, sym, refl, ap, ◌∙◌, subst, inl, inr}
-use Rattle.std.specs.Prelude.{map, slice_get, slice_index_or, if◌then◌else◌}
-use Rattle.std.specs.List.{find, position}
-use Rattle.std.specs.Option.{is_some, option_copied, option_map, option_map_or, option_or}
-use Rattle.std.proofs.lemmas.Bool.{cases_Bool, eqb-true, false≢true}
-use Rattle.std.proofs.lemmas.List.{map-append}
-use Rattle.trio_lists.proofs.Members.{In-cases, In-is_among, In-left, In-right, is_among-In}
-use Rattle.trio_lists.proofs.New.{is_among-not}
-use Rattle.trio_lists.specs.Lists.{In, is_among}
-use Rattle.trio_layout.specs.Entries.{body_in_slot}
-use Rattle.trio_lease.specs.Shown.{LentFile, Shown}
-use Rattle.trio_desk.specs.Out.{Parcel}
-use Rattle.trio_session.specs.Layout.{InSlot as HomeInSlot, Leased as HomeLeased, page_in}
-use Rattle.trio_session.specs.Seen.{MadeFile, SessionSeen, made_body, made_file, children_shown, entry_count, held_file, made_children, no_chain, serves, open_kind, place_in, slots_shown, used_numbers, written_file}
-use Rattle.trio_lease.specs.declared.parts.HoldParts.{HoldParts}
-use Rattle.trio_nodes.specs.Walk.{is_directory}
-use Rattle.trio_nodes.specs.declared.grant.GrantKind.TheVariants.{Hold as ToHold}
-use Rattle.trio_session.specs.inner.Found.{Finds, FoundAt, AmongMade, AmongWritten, IsNowhere}
-use Rattle.trio_session.specs.inner.Inside.{AreLaid, chains_laid}
-use Rattle.trio_session.specs.inner.Made.{Files, FindsFile, IsFileOn, IsMade, file_of, made_seen}
-use Rattle.trio_session.specs.inner.Places.{AreApart, HasChain, IsFile, body_at, chain_at, home_at, number_at}
-use Rattle.trio_session.specs.declared.laid.FilePlace.{FilePlace}
-use Rattle.trio_session.specs.declared.laid.FilePlace.TheVariants.{Leased}
-use Rattle.trio_session.specs.declared.laid.Laid.{Laid}
-use Rattle.trio_session.specs.declared.made.Made.{Made}
+use Rattle.trio_session.proofs.Words.{if◌then◌else◌, ◌++◌, ◌||◌, ◌∙◌, ◌∷◌, ◌≡◌, AmongMade, AmongWritten, AreApart, AreLaid, Bool, Bor, FilePlace, Files, Finds, FindsFile, FoundAt, HasChain, HoldParts, HomeInSlot, HomeLeased, In, In-cases, In-is_among, In-left, In-right, IsFile, IsFileOn, IsMade, IsNowhere, Laid, Leased, LentFile, List, Made, MadeFile, None, Option, Parcel, SessionSeen, Shown, Some, ToHold, [], ap, body_at, body_in_slot, cases_Bool, chain_at, chains_laid, cond, entry_count, eqb, eqb-true, false, false≢true, file_of, find, held_file, home_at, inl, inr, is_among, is_among-In, is_among-not, is_directory, is_some, made_body, made_file, made_seen, map, map-append, no_chain, number_at, open_kind, option_copied, option_map, option_map_or, option_or, page_in, place_in, position, refl, serves, slice_get, slice_index_or, slots_shown, subst, sym, true, used_numbers, written_file, ℕ}
+use Rattle.trio_session.specs.Seen.{children_shown, made_children}
 use Rattle.trio_session.proofs.Chains.{there_some}
 use Rattle.trio_session.proofs.Found.{find-none, find-position, is_some-position, position-at}
 use Rattle.trio_session.proofs.Lists.{slice_get-In}

@@ -1,23 +1,8 @@
 -- What serves a need, after a grant and after a new index.
-use Rattle.std.proofs.Common.{◌≡◌, ◌||◌, eqb, Bool, true, false, IsTrue, List, [], ◌∷◌, ◌++◌, Option, Some, None, Ok, ℕ, refl, ap, ◌∙◌, subst, inl}
-use Rattle.std.proofs.lemmas.Bool.{eq-eqb}
-use Rattle.std.specs.List.{find}
-use Rattle.std.specs.Option.{is_some, option_map, option_or}
-use Rattle.trio_lists.proofs.Members.{In-right}
-use Rattle.trio_lists.proofs.Filters.{In-find}
-use Rattle.trio_rights.specs.declared.rights.LibNo.{LibNo}
-use Rattle.trio_lease.specs.Shown.{Shown, LentFile}
-use Rattle.trio_lease.specs.declared.lease.Lease.{Lease}
-use Rattle.trio_lease.specs.declared.lease.Lease.TheVariants.{Write, Read, Hold}
-use Rattle.trio_lease.specs.declared.parts.HoldParts.{HoldParts}
-use Rattle.trio_nodes.specs.declared.grant.GrantKind.{GrantKind}
-use Rattle.trio_nodes.specs.declared.grant.GrantKind.TheVariants.{Read as ToRead, Write as ToWrite, Hold as ToHold}
-use Rattle.trio_desk.specs.Contents.{Sizes}
-use Rattle.trio_desk.specs.Out.{LibOut, IsFreshLease, kind_lent}
-use Rattle.trio_desk.specs.Call.{DeskSeen, Told}
-use Rattle.trio_session.specs.Seen.{MadeFile, SessionSeen, made_file, open_kind, serves}
-use Rattle.trio_session.specs.Asked.{FitsAsk, SameBut, TellsGrant, with_lease}
-use Rattle.trio_session.specs.inner.Giving.{AfterGrant}
+use Rattle.trio_session.proofs.Words.{◌++◌, ◌||◌, ◌∙◌, ◌∷◌, ◌≡◌, AfterGrant, Bool, DeskSeen, GrantKind, Hold, HoldParts, In-find, In-right, IsFreshLease, IsTrue, Lease, LentFile, LibNo, LibOut, List, MadeFile, None, Ok, Option, Read, SameBut, SessionSeen, Shown, Sizes, Some, TellsGrant, ToHold, Told, Write, [], ap, eq-eqb, eqb, false, find, inl, is_some, made_file, open_kind, option_map, option_or, refl, serves, subst, true, with_lease, ℕ}
+use Rattle.trio_nodes.specs.declared.grant.GrantKind.TheVariants.{Read as ToRead, Write as ToWrite}
+use Rattle.trio_desk.specs.Out.{kind_lent}
+use Rattle.trio_session.specs.Asked.{FitsAsk}
 use Rattle.trio_session.proofs.Desks.{same_but, told_lent}
 
 -- a test that the last element passes finds one

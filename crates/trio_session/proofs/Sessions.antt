@@ -1,23 +1,5 @@
 -- Sessions: their files' chains, and edits of one of them.
-use Rattle.std.proofs.Common.{◌⊎◌, inl, inr, ◌*◌, ◌/◌, ◌++◌, take, ◌≡◌, ◌≢◌, ℕ, suc, zero, ◌+◌, ◌<◌, ◌≤◌, eqb, List, [], ◌∷◌, length, get_or, Some, None, sym, refl, ap, ◌∙◌, subst, arith}
-use Rattle.std.specs.Prelude.{map, slice_get, slice_set, slice_index_or}
-use Rattle.std.specs.List.{position}
-use Rattle.std.proofs.lemmas.Option.{slice_get-get_or, get_or_from_slice_get}
-use Rattle.std.proofs.lemmas.List.{length-set}
-use Rattle.trio_layout.specs.Chain.{Chain, index_count}
-use Rattle.trio_layout.specs.Body.{block_count}
-use Rattle.trio_lease.specs.Shown.{Shown, LentFile}
-use Rattle.trio_lease.specs.declared.parts.FreshParts.{FreshParts}
-use Rattle.trio_desk.specs.Out.{Parcel, lent_numbers, numbers_of_file}
-use Rattle.trio_session.specs.Layout.{size_in}
-use Rattle.trio_session.specs.Seen.{no_chain}
-use Rattle.trio_session.specs.inner.Places.{IsFile, HasChain, chain_at, chain_laid, body_at, fresh_number}
-use Rattle.trio_session.specs.inner.Inside.{AreLaid, HasLent, chains_laid}
-use Rattle.trio_session.specs.declared.laid.FilePlace.{FilePlace}
-use Rattle.trio_session.specs.declared.laid.FilePlace.TheVariants.{Leased}
-use Rattle.trio_session.specs.declared.laid.Laid.{Laid}
-use Rattle.trio_lists.specs.Lists.{In}
-use Rattle.trio_lease.proofs.Places.{set_same}
+use Rattle.trio_session.proofs.Words.{◌*◌, ◌++◌, ◌+◌, ◌/◌, ◌<◌, ◌∙◌, ◌∷◌, ◌≡◌, ◌≢◌, ◌≤◌, ◌⊎◌, AreLaid, Chain, FilePlace, FreshParts, HasChain, HasLent, In, IsFile, Laid, Leased, LentFile, List, None, Parcel, Shown, Some, [], ap, arith, block_count, body_at, chain_at, chain_laid, chains_laid, eqb, fresh_number, get_or, get_or_from_slice_get, index_count, inl, inr, length, length-set, lent_numbers, map, no_chain, numbers_of_file, position, refl, set_same, size_in, slice_get, slice_get-get_or, slice_index_or, slice_set, subst, suc, sym, take, zero, ℕ}
 use Rattle.trio_session.proofs.Places.{lent_parts, shown_at-Leased}
 use Rattle.trio_session.proofs.Stays.{LeavesFiles, SameFile, SameFiles, SameFiles-back, SameFiles-length, chain_laid-left, chain_left, file_left}
 use Rattle.trio_session.proofs.Found.{find-position}

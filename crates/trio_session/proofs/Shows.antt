@@ -1,15 +1,8 @@
 -- What a session shows of a file that it has open, and of one that it reads.
-use Rattle.std.proofs.Common.{◌≡◌, ℕ, Bool, List, [], Option, Some, None, sym, refl, ap, ◌∙◌}
-use Rattle.std.specs.Prelude.{is_some, map, slice_get, unwrap_or, if◌then◌else◌}
-use Rattle.std.specs.Option.{option_and_then, option_map, option_map_or, option_or}
-use Rattle.std.proofs.lemmas.Option.{slice_get-map}
-use Rattle.trio_rights.specs.declared.kind.Kind.{Kind}
-use Rattle.trio_lease.specs.Shown.{Shown, page_at}
-use Rattle.trio_lease.specs.declared.parts.HoldParts.{HoldParts}
-use Rattle.trio_lease.specs.declared.parts.LentPage.{LentPage}
+use Rattle.trio_session.proofs.Words.{if◌then◌else◌, ◌∙◌, ◌≡◌, Bool, HoldParts, Kind, LentPage, List, None, Option, SessionSeen, Shown, Some, [], ap, body_in, body_shown, chain_in, dir_pages, held_file, map, open_kind, option_and_then, option_map, option_map_or, option_or, page_at, page_in, read_file, refl, slice_get, slice_get-map, sym, ℕ}
+use Rattle.std.specs.Prelude.{is_some, unwrap_or}
 use Rattle.trio_session.specs.Deeds.{body_had}
-use Rattle.trio_session.specs.Layout.{page_in}
-use Rattle.trio_session.specs.Seen.{SessionSeen, block_shown, body_in, body_shown, chain_in, dir_pages, held_file, open_kind, pages_shown, read_file}
+use Rattle.trio_session.specs.Seen.{block_shown, pages_shown}
 
 -- ---- its blocks
 

@@ -1,20 +1,13 @@
 -- What a write within one slot leaves of a directory's page: the slot, its entry and its body, and the other slots.
-use Rattle.std.proofs.Common.{◌≡◌, ◌≢◌, ℕ, ◌+◌, ◌-◌, ◌*◌, ◌<◌, ◌≤◌, ◌&&◌, ltb, leb, true, List, ◌++◌, length, take, sym, ap, ◌∙◌, inl, inr, arith, take_at, drop_at, take_all}
-use Rattle.std.specs.Prelude.{slice_range}
-use Rattle.std.specs.Int.{w32}
-use Rattle.std.proofs.lemmas.Bool.{and_from, and_parts, leb-true, lt-ltb, le-leb, cases_lt}
-use Rattle.std.proofs.lemmas.List.{length-append}
-use Rattle.trio_page.specs.Field.{number_at, with_part, zeros}
-use Rattle.trio_page.proofs.Cursor.{length-zeros, no_front, put_part, whole_front}
+use Rattle.trio_session.proofs.Words.{◌&&◌, ◌*◌, ◌++◌, ◌+◌, ◌-◌, ◌<◌, ◌∙◌, ◌≡◌, ◌≢◌, ◌≤◌, EntryPart, List, and_from, and_parts, ap, arith, body_in_slot, cases_lt, entry_fits, every_number, inl, inr, is_name, le-leb, leb, leb-true, length, length-append, length-zeros, lt-ltb, ltb, slice_range, slot_bytes, sym, take, true, w32, with_part, zeros, ℕ}
+use Rattle.std.proofs.Common.{take_at, drop_at, take_all}
+use Rattle.trio_page.specs.Field.{number_at}
+use Rattle.trio_page.proofs.Cursor.{no_front, put_part, whole_front}
 use Rattle.trio_page.proofs.Fields.{slice-with_part_above, slice-with_part_below, slice-with_part_same}
 use Rattle.trio_page.proofs.Ranges.{number_at-slice, slice-slice}
 use Rattle.trio_page.proofs.Zeros.{number32_cleared}
-use Rattle.trio_names.specs.Name.{is_name}
 use Rattle.trio_names.proofs.NameFacts.{name_facts}
-use Rattle.trio_layout.specs.Slot.{IsEntry, entry_bytes, entry_fits}
-use Rattle.trio_layout.specs.Entries.{body_in_slot, slot_bytes}
-use Rattle.trio_layout.specs.declared.slot.EntryPart.{EntryPart}
-use Rattle.trio_session.specs.Seen.{every_number}
+use Rattle.trio_layout.specs.Slot.{IsEntry, entry_bytes}
 
 -- ---- entries
 

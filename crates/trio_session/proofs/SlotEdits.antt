@@ -1,44 +1,21 @@
 -- What an edit of a slot leaves of a directory: its slots, its entries and the bodies in its slots.
-use Rattle.std.proofs.Common.{◌≡◌, ◌≢◌, ℕ, zero, suc, ◌+◌, ◌*◌, ◌<◌, ◌&&◌, true, false, List, [], ◌∷◌, ◌++◌, length, get_or, replicate, Option, None, Some, refl, sym, ap, subst, ◌∙◌, inl, inr, arith}
-use Rattle.std.specs.Prelude.{map, slice_get, slice_set, slice_range, Result, Ok, Err}
-use Rattle.std.specs.Option.{is_some, option_map, option_map_or, option_and_then}
-use Rattle.std.specs.Result.{is_ok}
-use Rattle.std.proofs.lemmas.Bool.{cases_eq}
-use Rattle.std.proofs.lemmas.List.{length-map, map-append}
-use Rattle.std.proofs.lemmas.Option.{slice_get-map, slice_get-get_or, slice_get_within, get_or_from_slice_get}
-use Rattle.trio_lists.specs.Lists.{In, are_new, both, gathered_below, tabulated}
-use Rattle.trio_lists.proofs.Members.{In-map, map-In}
+use Rattle.trio_session.proofs.Words.{◌&&◌, ◌*◌, ◌++◌, ◌+◌, ◌<◌, ◌∙◌, ◌∷◌, ◌≡◌, ◌≢◌, AreApart, AreRead, Bad, Empty, Entry, EntryPart, In, In-map, IsAt, List, NamesDiffer, None, Option, PagePlace, Parcel, Place, Result, Sheet, SlotRead, Some, [], ap, are_new, arith, body_at, body_in_slot, both, bundle_of, bundle_pages, bundle_sheets, cases_eq, cleared, entry_bytes, entry_fits, entry_in, every_number, false, filled, gathered_below, get_or, get_or_from_slice_get, inl, inr, is_directory_page, is_ok, is_some, length, length-append, length-map, length-zeros, listed_at, map, map-In, map-append, name_in, number_at, option_and_then, option_map, option_map_or, page_in, refl, replicate, retitled, sheet_at, shown_at, slice_get, slice_get-get_or, slice_get-map, slice_get_within, slice_range, slice_set, slot_bytes, slot_entries, slot_file, slot_of, slot_on, slots_of, subst, suc, sym, tabulated, true, with_body_at, with_page, with_part, zero, zeros, zeros_empty, ℕ}
+use Rattle.std.specs.Prelude.{Ok, Err}
 use Rattle.trio_lists.proofs.Tabulated.{tabulated-get, tabulated-length, tabulated-same}
-use Rattle.trio_page.specs.Field.{with_part, zeros}
-use Rattle.trio_page.proofs.Cursor.{length-zeros}
 use Rattle.trio_page.proofs.Fields.{length-with_part}
-use Rattle.trio_rights.specs.Bundle.{bundle_pages, bundle_sheets}
-use Rattle.trio_rights.specs.Sheets.{Sheet}
-use Rattle.trio_layout.specs.Slot.{entry_bytes, entry_fits, slot_of}
-use Rattle.trio_layout.specs.Entries.{body_in_slot, entries_on, listed_at, slot_bytes, slot_entries}
-use Rattle.trio_layout.specs.declared.slot.EntryPart.{EntryPart}
-use Rattle.trio_layout.specs.declared.slot.SlotRead.{SlotRead}
-use Rattle.trio_layout.specs.declared.slot.SlotRead.TheVariants.{Empty, Entry, Bad}
+use Rattle.trio_layout.specs.Entries.{entries_on}
 use Rattle.trio_layout.proofs.SlotLemmas.{empty_value, entry_value}
 use Rattle.trio_surveys.proofs.Places.{entry_numbered}
 use Rattle.trio_surveys.proofs.Slots.{slot_by_front, with_body-body, with_body-front}
-use Rattle.trio_desk.specs.Out.{Parcel}
-use Rattle.trio_desk.specs.Ready.{bundle_of}
-use Rattle.trio_auxdir.specs.declared.place.Place.{Place}
-use Rattle.trio_auxdir.specs.Slots.{is_directory_page, name_in, slot_on, slots_of, slots_on, NamesDiffer}
-use Rattle.trio_auxdir.proofs.PageSlots.{entry_named, length-slots_on, page_added, slot_block, slot_edited, zero_empty, zeros_empty}
-use Rattle.trio_session.specs.Layout.{InSlot, cleared, filled, page_in, retitled, with_body_at, with_page, with_part_in}
-use Rattle.trio_session.specs.Seen.{entry_in, every_number}
-use Rattle.trio_session.specs.inner.Indexes.{AreRead}
-use Rattle.trio_session.specs.inner.Places.{AreApart, IsAt, body_at, number_at, sheet_at, shown_at, slot_file}
+use Rattle.trio_auxdir.specs.Slots.{slots_on}
+use Rattle.trio_auxdir.proofs.PageSlots.{entry_named, length-slots_on, page_added, slot_block, slot_edited, zero_empty}
+use Rattle.trio_session.specs.Layout.{InSlot, with_part_in}
 use Rattle.trio_session.specs.declared.laid.FilePlace.TheVariants.{InSlot as FileInSlot}
-use Rattle.trio_session.specs.declared.laid.PagePlace.{PagePlace}
 use Rattle.trio_session.proofs.Lists.{once_at, slice_get-In}
 use Rattle.trio_session.proofs.Pages.{page_in-with_page_else, page_in-with_page_same, pages-with_page}
 use Rattle.trio_session.proofs.SlotBytes.{IsInSlot, body_in_slot-cleared, body_in_slot-filled, body_in_slot-retitled, entry-filled as entry_filled, entry-retitled as entry_retitled, length-entry_bytes, number-cleared, part_fits, slice-slot_bytes, slot_bytes-with_part_else}
 use Rattle.trio_session.proofs.Places.{apart_stays, at-In, body_at-InSlot, number_at-map, number_stays, shown_at-InSlot, still_there}
 use Rattle.trio_session.proofs.Stays.{at_number}
-use Rattle.std.proofs.lemmas.List.{length-append}
 
 -- ---- the pages of blocks
 

@@ -1,40 +1,23 @@
 -- A directory that is lent is in the grammar of its own image. So it is in that of any number of 32 bits, and says the same.
-use Rattle.std.proofs.Common.{◌≡◌, ℕ, zero, suc, ◌-◌, ◌<◌, ◌≤◌, ◌^◌, Bool, true, false, cond, eqb, leb, ltb, ◌&&◌, List, [], ◌∷◌, ◌++◌, length, take, drop, get_or, set, Option, Some, None, Ok, sym, refl, ap, ◌∙◌, subst, inl, inr, arith, append_assoc}
-use Rattle.std.specs.Prelude.{map, Result, replicate}
-use Rattle.std.specs.Result.{is_ok}
-use Rattle.std.specs.Str.{bytes_eq}
-use Rattle.std.specs.Int.{w32, to_le_bytes}
-use Rattle.std.proofs.lemmas.Bool.{and_from, and_parts, false≢true, false_from_ne_true, le-leb, cases_lt}
-use Rattle.std.proofs.lemmas.List.{take-append-drop, map-append, get_or-set_same, get_or-set_other, get_or_past, length-set}
-use Rattle.std.proofs.Math.Seq.{take-append_seam}
-use Rattle.trio_page.specs.Field.{number_at, zeros}
+use Rattle.trio_session.proofs.Words.{◌&&◌, ◌++◌, ◌-◌, ◌<◌, ◌^◌, ◌∙◌, ◌∷◌, ◌≡◌, ◌≤◌, AreRead, Bad, Bool, Core, Directory, Empty, Entry, EntryPart, In, In-left, In-map, In-right, IsWellLent, LentPage, List, NamesDiffer, None, Ok, Option, Result, Sheet, Shown, Sizes, SlotRead, Some, [], absent_from, and_from, and_parts, ap, append_assoc, are_new, are_new-first, arith, at_page, body_in_slot, both, bytes_eq, cases_lt, cond, dir_pages, drop, entry_fits, eqb, every_number, false, false_from_ne_true, false≢true, gathered_below, get_or, get_or-set_same, inl, inr, is_core, is_directory_page, is_name, is_ok, le-leb, leb, length, length-set, lent_core, lent_numbers, lent_sheet, listed_at, ltb, map, map-In, map-append, name_in, numbers_of_file, page_of, refl, result_then-Ok, slot_bytes, slot_entries, slot_on, slot_with, slots_of, subst, suc, sym, tabulated, take, take-append-drop, take-append_seam, there_or-Ok, true, w32, zero, zeros, ℕ}
+use Rattle.std.proofs.Common.{set}
+use Rattle.std.specs.Prelude.{replicate}
+use Rattle.std.specs.Int.{to_le_bytes}
+use Rattle.std.proofs.lemmas.List.{get_or-set_other, get_or_past}
+use Rattle.trio_page.specs.Field.{number_at}
 use Rattle.trio_page.proofs.Cursor.{IsBytes, wide32}
 use Rattle.trio_page.proofs.Fields.{length-to_le_bytes}
-use Rattle.trio_names.specs.Name.{is_name}
 use Rattle.trio_rights.specs.Kind.{kind_byte}
-use Rattle.trio_rights.specs.Sheets.{Sheet, with_pages}
-use Rattle.trio_rights.specs.declared.kind.Kind.TheVariants.{Directory}
-use Rattle.trio_lists.specs.Lists.{In, are_new, both, gathered, gathered_below, result_then, tabulated, there_or}
-use Rattle.trio_lists.proofs.Members.{In-left, In-right, In-map, map-In, both-Ok, is_ok-Ok, result_then-Ok, there_or-Ok}
+use Rattle.trio_rights.specs.Sheets.{with_pages}
+use Rattle.trio_lists.specs.Lists.{gathered, result_then, there_or}
+use Rattle.trio_lists.proofs.Members.{both-Ok, is_ok-Ok}
 use Rattle.trio_lists.proofs.Filters.{In-list_any}
-use Rattle.trio_lists.proofs.New.{are_new-first}
 use Rattle.trio_layout.proofs.Reading.{bytes_eq-true}
-use Rattle.trio_layout.specs.Core.{Core, Location, at_page, page_of}
-use Rattle.trio_layout.specs.Range.{is_core}
-use Rattle.trio_layout.specs.Slot.{entry_at, entry_bytes, entry_fits, slot_of}
-use Rattle.trio_layout.specs.Entries.{Listed, body_in_slot, entries_of_kind, entries_on, has_name as has_listed, listed_at, page_entries, place_of, repeated_name, slot_bytes, slot_entries, unless_repeated, with_names_apart}
-use Rattle.trio_layout.specs.declared.slot.EntryPart.{EntryPart}
-use Rattle.trio_layout.specs.declared.slot.SlotRead.{SlotRead}
-use Rattle.trio_layout.specs.declared.slot.SlotRead.TheVariants.{Empty, Entry, Bad}
-use Rattle.trio_lease.specs.Shown.{Shown}
-use Rattle.trio_lease.specs.Views.{lent_sheet}
-use Rattle.trio_lease.specs.declared.parts.LentPage.{LentPage}
-use Rattle.trio_desk.specs.Contents.{Sizes}
-use Rattle.trio_desk.specs.Out.{IsWellLent, lent_core, lent_numbers, numbers_of_file}
-use Rattle.trio_auxdir.specs.Slots.{has_name, is_directory_page, name_in, slot_on, slot_with, slots_of, slots_on, NamesDiffer}
-use Rattle.trio_auxdir.proofs.SlotLists.{absent_from, names_apart}
-use Rattle.trio_session.specs.Seen.{dir_pages, every_number}
-use Rattle.trio_session.specs.inner.Indexes.{AreRead}
+use Rattle.trio_layout.specs.Core.{Location}
+use Rattle.trio_layout.specs.Slot.{entry_at, entry_bytes, slot_of}
+use Rattle.trio_layout.specs.Entries.{Listed, entries_of_kind, entries_on, has_name as has_listed, page_entries, place_of, repeated_name, unless_repeated, with_names_apart}
+use Rattle.trio_auxdir.specs.Slots.{has_name, slots_on}
+use Rattle.trio_auxdir.proofs.SlotLists.{names_apart}
 
 -- ---- one slot, in images of more or fewer numbers
 

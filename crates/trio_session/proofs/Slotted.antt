@@ -1,35 +1,6 @@
 -- An edit of a slot of a directory: the slot, the directory's index, and what the session shows after it.
-use Rattle.std.proofs.Common.{◌≡◌, ◌≢◌, ◌+◌, ◌*◌, ◌<◌, ◌≤◌, ℕ, eqb, List, [], true, Option, None, Some, length, ap, refl, subst, sym, ◌∙◌, inl, inr}
-use Rattle.std.specs.Prelude.{IfSome, map, slice_get, slice_set, if◌then◌else◌}
-use Rattle.std.specs.Global.{Vec}
-use Rattle.std.specs.List.{filter, find, position}
-use Rattle.std.specs.Option.{is_some, option_and_then, option_map, option_map_or, option_or}
-use Rattle.std.proofs.lemmas.Bool.{eqb-true}
-use Rattle.std.proofs.lemmas.Option.{slice_get-get_or}
-use Rattle.trio_lists.specs.Lists.{In}
-use Rattle.trio_page.specs.Field.{with_part}
-use Rattle.trio_rights.specs.declared.kind.Kind.TheVariants.{Directory}
-use Rattle.trio_layout.specs.Chain.{Chain}
-use Rattle.trio_layout.specs.Entries.{slot_bytes}
-use Rattle.trio_layout.specs.Slot.{slot_of}
-use Rattle.trio_lease.specs.Shown.{page_at as lent_bytes}
-use Rattle.trio_auxdir.specs.declared.place.Place.{Place}
-use Rattle.trio_layout.specs.declared.slot.EntryPart.{EntryPart}
-use Rattle.trio_desk.specs.Out.{Parcel}
-use Rattle.trio_auxdir.specs.Places.{slot_number}
-use Rattle.trio_auxdir.specs.Slots.{slot_on, slots_of}
-use Rattle.trio_session.specs.Layout.{page_in, with_page}
-use Rattle.trio_session.specs.Seen.{LeavesRoom, SessionSeen, block_number, chain_in, dir_pages, entry_in, entry_shown, every_number, kind_shown, open_kind, read_file, slots_shown}
-use Rattle.trio_lease.specs.Shown.{Shown}
-use Rattle.trio_session.specs.inner.Indexes.{AreRead}
-use Rattle.trio_session.specs.declared.laid.FilePlace.{FilePlace}
-use Rattle.trio_session.specs.declared.laid.Laid.{Laid}
-use Rattle.trio_session.specs.inner.Inside.{AreLaid}
-use Rattle.trio_session.specs.inner.Made.{IsFileOn, IsOne, OneFile, dir_numbers, has_names, has_slots}
-use Rattle.trio_session.specs.inner.Places.{IsAt, chain_at, number_at}
-use Rattle.trio_session.specs.declared.indexes.IndexedDir.{IndexedDir}
-use Rattle.trio_session.specs.declared.laid.PagePlace.{PagePlace}
-use Rattle.trio_session.specs.declared.session.Session.TheInside.{Inside}
+use Rattle.trio_session.proofs.Words.{if◌then◌else◌, ◌*◌, ◌+◌, ◌<◌, ◌∙◌, ◌≡◌, ◌≢◌, ◌≤◌, AreLaid, AreRead, Chain, Directory, EntryPart, FilePlace, IfSome, In, IndexedDir, Inside, IsAt, IsFileOn, IsOne, Laid, List, None, OneFile, Option, PagePlace, Parcel, Place, SessionSeen, Shown, Some, Vec, [], ap, block_number, chain_at, chain_in, dir_numbers, dir_pages, entry_in, entry_shown, eqb, eqb-true, every_number, filter, find, has_names, has_slots, inl, inr, is_some, kind_shown, length, lent_bytes, map, number_at, open_kind, option_and_then, option_map, option_map_or, option_or, page_in, position, read_file, refl, slice_get, slice_get-get_or, slice_set, slot_bytes, slot_number, slot_of, slot_on, slots_of, slots_shown, subst, sym, true, with_page, with_part, ℕ}
+use Rattle.trio_session.specs.Seen.{LeavesRoom}
 use Rattle.trio_session.specs.contracts.session.Session.{the_invariant, the_view}
 use Rattle.trio_session.proofs.Chained.{there_found}
 use Rattle.trio_session.proofs.Found.{find-position, position-passes}

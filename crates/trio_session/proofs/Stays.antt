@@ -1,24 +1,7 @@
 -- What a write of a page or of a body leaves: files, their chains, and the bodies of written files.
-use Rattle.std.proofs.Common.{◌≡◌, ℕ, zero, suc, ◌+◌, ◌*◌, true, false, eqb, IsTrue, List, [], ◌∷◌, length, Option, Some, None, sym, refl, ap, ◌∙◌, subst}
-use Rattle.std.specs.Prelude.{⊤, map, take, ◌++◌, slice_get, slice_index_or, if◌then◌else◌}
-use Rattle.std.specs.Option.{option_map, option_map_or, is_some}
-use Rattle.std.proofs.lemmas.Option.{slice_get-map}
-use Rattle.std.proofs.lemmas.List.{length-map}
-use Rattle.std.proofs.lemmas.Simd.{map-map}
-use Rattle.trio_layout.specs.Chain.{Chain}
-use Rattle.trio_lease.specs.Shown.{LentFile, Shown}
-use Rattle.trio_layout.specs.Entries.{body_in_slot}
-use Rattle.trio_page.specs.Field.{with_part}
-use Rattle.trio_lease.specs.declared.parts.LentPage.{LentPage}
-use Rattle.trio_lease.specs.declared.parts.FreshParts.{FreshParts}
-use Rattle.trio_desk.specs.Out.{Parcel, file_numbers, lent_numbers, page_numbers}
-use Rattle.trio_session.specs.Layout.{Home, InSlot as HomeInSlot, Leased as HomeLeased, page_in, with_page, with_body, with_body_at, index_with, block_with, fresh_with, file_with, body_with}
-use Rattle.trio_session.specs.inner.Places.{IsAt, IsFile, chain_at, chain_laid, home_at, sheet_at, shown_at, slot_file, number_at, body_at, ino_at}
-use Rattle.trio_session.specs.declared.laid.FilePlace.{FilePlace}
-use Rattle.trio_session.specs.declared.laid.FilePlace.TheVariants.{Leased, InSlot}
-use Rattle.trio_rights.specs.Sheets.{Sheet}
-use Rattle.trio_session.specs.declared.laid.PagePlace.{PagePlace}
-use Rattle.trio_session.specs.declared.laid.Laid.{Laid}
+use Rattle.trio_session.proofs.Words.{if◌then◌else◌, ◌*◌, ◌+◌, ◌∙◌, ◌∷◌, ◌≡◌, Chain, FilePlace, FreshParts, Home, HomeInSlot, HomeLeased, InSlot, IsAt, IsFile, IsTrue, Laid, Leased, LentFile, LentPage, List, None, Option, PagePlace, Parcel, Sheet, Shown, Some, [], ap, block_with, body_at, body_in_slot, body_with, chain_at, chain_laid, eqb, false, file_numbers, file_with, fresh_with, home_at, index_with, ino_at, is_some, length, length-map, lent_numbers, map, map-map, number_at, option_map, option_map_or, page_in, page_numbers, refl, sheet_at, shown_at, slice_get, slice_get-map, slice_index_or, slot_file, subst, suc, sym, true, with_body_at, with_part, zero, ℕ}
+use Rattle.std.specs.Prelude.{⊤, take, ◌++◌}
+use Rattle.trio_session.specs.Layout.{with_page, with_body}
 use Rattle.trio_session.proofs.Lists.{map_alike}
 use Rattle.trio_session.proofs.Places.{index_with-no, block_with-no, fresh_with-no, lent_parts, shown_at-Leased, number_at-map, number_stays, slot_parts, shown_at-InSlot, still_there, with_body-at}
 

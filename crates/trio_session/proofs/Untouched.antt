@@ -1,27 +1,7 @@
 -- Growths, cuts and writes of one file leave the bytes of every page but its own: of directories that other files are, their slots, and of
 -- a directory that it stands in, all slots but its body.
-use Rattle.std.proofs.Common.{◌≡◌, ◌≢◌, ◌⊎◌, ℕ, zero, suc, ◌+◌, ◌-◌, ◌*◌, ◌/◌, ◌%◌, ◌<◌, ◌≤◌, cond, eqb, Bool, true, false, List, [], ◌∷◌, ◌++◌, length, take, drop, get_or, replicate, None, refl, sym, ap, subst, ◌∙◌, inl, inr, arith}
-use Rattle.std.specs.Prelude.{map}
-use Rattle.std.specs.Int.{w32, w64}
-use Rattle.std.proofs.lemmas.Bool.{cases_eq}
-use Rattle.std.proofs.lemmas.List.{take-append-drop}
-use Rattle.trio_lists.specs.Lists.{In}
-use Rattle.trio_lists.proofs.Filters.{get_or-In}
-use Rattle.trio_lists.proofs.Members.{In-left, In-right}
-use Rattle.trio_page.specs.Field.{with_number, zeros}
-use Rattle.trio_page.proofs.Cursor.{length-zeros}
-use Rattle.trio_page.proofs.Fields.{length-with_number}
-use Rattle.trio_rights.specs.Bundle.{bundle_pages}
-use Rattle.trio_rights.specs.Sheets.{sheet_numbers}
-use Rattle.trio_layout.specs.Body.{block_count}
-use Rattle.trio_layout.specs.Chain.{Chain, index_count}
-use Rattle.trio_layout.specs.Entries.{body_in_slot}
-use Rattle.trio_desk.specs.Out.{Parcel}
-use Rattle.trio_desk.specs.Ready.{bundle_of}
-use Rattle.trio_auxdir.specs.Slots.{slots_of}
-use Rattle.trio_session.specs.Layout.{Home, InSlot, Leased, blocks_under, body_sized, chain_cut, chain_grown, cut_file, gap, grown_file, linked, new_index, numbered, page_in, put_blocks, put_bytes, size_in, unlinked, unnamed, with_block_number, with_body, with_body_at, with_number_in, with_page, written_on}
-use Rattle.trio_session.specs.Seen.{every_number}
-use Rattle.trio_session.specs.inner.Indexes.{AreRead}
+use Rattle.trio_session.proofs.Words.{◌%◌, ◌*◌, ◌++◌, ◌+◌, ◌-◌, ◌/◌, ◌<◌, ◌∙◌, ◌∷◌, ◌≡◌, ◌≢◌, ◌≤◌, ◌⊎◌, AreRead, Bool, Chain, Home, In, In-left, In-right, List, None, Parcel, [], ap, arith, block_count, blocks_under, body_in_slot, body_sized, bundle_of, bundle_pages, cases_eq, chain_cut, chain_grown, cond, cut_file, drop, eqb, every_number, false, gap, get_or, get_or-In, grown_file, index_count, inl, inr, length, length-with_number, length-zeros, linked, map, new_index, numbered, page_in, put_blocks, put_bytes, refl, replicate, sheet_numbers, size_in, slots_of, subst, suc, sym, take, take-append-drop, true, unlinked, unnamed, w32, w64, with_block_number, with_body_at, with_number, with_number_in, with_page, written_on, zero, zeros, ℕ}
+use Rattle.trio_session.specs.Layout.{InSlot, Leased, with_body}
 use Rattle.trio_session.proofs.Lists.{slice_get-In}
 use Rattle.trio_session.proofs.Pages.{page_in-with_body, page_in-with_page_else, pages-with_page, sheets_of-with_body}
 use Rattle.trio_session.proofs.SlotEdits.{AreRead-body, IsWhole, body-else, edits_body, entry_on, entry_on-body, entry_on-else, map_alike_at, slots_of-body, slots_of-zeros}

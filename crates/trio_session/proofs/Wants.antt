@@ -1,40 +1,14 @@
 -- A session after an allotment.
-use Rattle.std.proofs.Common.{◌≡◌, ℕ, zero, suc, ◌<◌, IsTrue, List, [], ◌∷◌, ◌++◌, length, get_or, Option, Some, sym, refl, ap, ◌∙◌, subst, inl, inr, arith}
-use Rattle.std.specs.Prelude.{map, take, slice_get}
-use Rattle.std.specs.Option.{option_map_or}
-use Rattle.std.proofs.lemmas.List.{length-append, length-map, map-append, get_or_append_left}
-use Rattle.trio_lists.specs.Lists.{In}
-use Rattle.trio_lists.proofs.Members.{In-left, In-right, In-cases}
-use Rattle.trio_lists.proofs.New.{are_new-before, are_new-fewer}
-use Rattle.trio_layout.specs.Chain.{Chain, index_count}
-use Rattle.trio_lease.specs.Shown.{Shown, LentFile}
-use Rattle.trio_lease.specs.declared.fresh.Allotted.{Allotted}
-use Rattle.trio_lease.specs.declared.parts.FreshParts.{FreshParts}
-use Rattle.trio_lease.specs.declared.parts.InoParts.{InoParts}
-use Rattle.trio_desk.specs.Out.{LibOut, Parcel, IsFreshAllotment, lent_numbers, page_numbers, ino_numbers, pages_out}
-use Rattle.trio_desk.specs.Contents.{Sizes}
-use Rattle.trio_rights.specs.declared.rights.LibNo.{LibNo}
-use Rattle.trio_session.specs.inner.Places.{AreApart, HasChain, IsAt, IsLaid, IsFile, body_at, chain_at, chain_laid, fresh_number, number_at, sheet_at, shown_at}
-use Rattle.trio_rights.specs.Sheets.{Sheet}
-use Rattle.trio_layout.specs.Body.{block_count}
-use Rattle.trio_session.specs.Layout.{page_in, size_in}
-use Rattle.trio_session.specs.declared.laid.FilePlace.{FilePlace}
-use Rattle.trio_session.specs.declared.laid.FilePlace.TheVariants.{InSlot, Leased}
-use Rattle.trio_session.specs.declared.laid.PagePlace.{PagePlace}
-use Rattle.trio_session.specs.declared.laid.PagePlace.TheVariants.{Block, Fresh, Index}
+use Rattle.trio_session.proofs.Words.{◌++◌, ◌<◌, ◌∙◌, ◌∷◌, ◌≡◌, Allot, Allotted, AreApart, AreLaid, Block, Chain, DeskSeen, FilePlace, Fresh, FreshParts, Given, HasChain, HasLent, In, In-cases, In-left, In-right, InSlot, Index, InoParts, IsAt, IsFile, IsFreshAllotment, IsLaid, IsOn, IsTrue, IsWellLent, Laid, Leased, LentFile, LibNo, LibOut, List, Option, PagePlace, Parcel, Room, SeenAfter, SessionSeen, Sheet, Shown, Sizes, Some, [], ap, are_new-before, arith, block_count, body_at, chain_at, chain_laid, chains_laid, fresh_number, get_or, get_or_append_left, has_out, index_count, inl, ino_numbers, inr, is_core, length, length-append, length-map, lent_numbers, map, map-append, number_at, option_map_or, page_in, page_numbers, pages_out, refl, sheet_at, shown_at, size_in, slice_get, subst, suc, sym, with_given, zero, zero_page, ℕ}
+use Rattle.std.specs.Prelude.{take}
+use Rattle.trio_lists.proofs.New.{are_new-fewer}
 use Rattle.trio_session.proofs.More.{More, chain_more, file_more, has_more}
 use Rattle.trio_session.proofs.Places.{fresh_at, fresh_parts, shown_at-Leased}
-use Rattle.trio_session.specs.inner.Inside.{AreLaid, HasLent, chains_laid}
-use Rattle.trio_session.specs.inner.Giving.{with_given}
-use Rattle.trio_session.specs.declared.laid.Laid.{Laid}
 use Rattle.trio_session.proofs.Given.{apart_pages, left_at, page_out}
 use Rattle.trio_session.proofs.Chains.{chain_there}
 use Rattle.trio_session.proofs.Desks.{alike_trans}
-use Rattle.trio_layout.specs.Range.{is_core}
-use Rattle.trio_desk.specs.Out.{IsWellLent, with_allotted, zero_page, new_ino}
+use Rattle.trio_desk.specs.Out.{with_allotted, new_ino}
 use Rattle.trio_session.specs.Asked.{with_allotted as session_allotted}
-use Rattle.trio_desk.specs.Call.{Allot, Given, DeskSeen, SeenAfter}
-use Rattle.trio_session.specs.Seen.{SessionSeen, Room, IsOn, has_out}
 
 -- what was there is there
 pub given_more : (b : Parcel) (given : Allotted) → More b (with_given b given)

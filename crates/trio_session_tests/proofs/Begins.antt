@@ -1,26 +1,17 @@
 -- What is out to a library of a controller that was started, and to another one after a call.
-use Rattle.std.proofs.Common.{◌≡◌, ◌≤◌, List, [], length, Result, Ok, Err, sym, refl, ap, ◌∙◌, subst, arith}
+use Rattle.trio_session_tests.proofs.Words.{◌∙◌, ◌≡◌, ◌≤◌, Ask, Controller, Creds, DeskSeen, Happens, Image, IsRecorded, LibNo, List, LogsCall, MayBegin, MayCall, NothingIsOut, SessionSeen, Told, [], ap, begun_like, creds_of, desk_of, happens_creds, length, others_see, recorded, refl, subst, sym, underway_of}
+use Rattle.std.proofs.Common.{Result, Ok, Err, arith}
 use Rattle.std.specs.Prelude.{IfOk, IfSome}
 use Rattle.std.specs.Result.{result_ok}
-use Rattle.trio_rights.specs.declared.rights.Creds.{Creds}
-use Rattle.trio_rights.specs.declared.rights.LibNo.{LibNo}
-use Rattle.trio_layout.specs.Image.{Image}
-use Rattle.trio_desk.specs.Call.{Ask, DeskSeen, Told}
 use Rattle.trio_desk.specs.Edits.{nothing}
 use Rattle.trio_desk.specs.Out.{OutAlike, nothing_out}
 use Rattle.trio_state.specs.Run.{start}
-use Rattle.trio_state.specs.State.{State, creds_of}
-use Rattle.trio_laws.specs.history.Recorded.{IsRecorded}
-use Rattle.trio_laws.proofs.acts.Underways.{begun_like}
-use Rattle.trio_session.specs.Seen.{SessionSeen, emptied}
-use Rattle.trio_edit_laws.specs.Calls.{MayCall}
+use Rattle.trio_state.specs.State.{State}
+use Rattle.trio_session.specs.Seen.{emptied}
 use Rattle.trio_edit_laws.proofs.Called.{begins_to_call}
-use Rattle.trio_ctl.specs.Ctl.{Controller, NoneBegun, underway_of}
-use Rattle.trio_ctl.specs.Desk.{Happens, LogsCall, desk_of, out_of}
-use Rattle.trio_ctl.specs.Logged.{recorded}
-use Rattle.trio_ctl.proofs.DeskSteps.{happens_creds, others_see}
+use Rattle.trio_ctl.specs.Ctl.{NoneBegun}
+use Rattle.trio_ctl.specs.Desk.{out_of}
 use Rattle.trio_runner.proofs.EndFree.{nothing_at_start}
-use Rattle.trio_session_tests.specs.Begins.{MayBegin, NothingIsOut}
 
 -- nothing is out to anybody of a controller that was started
 pub none_started : {E : Type 0} (r : Result Controller E) (image : Image) (creds : List Creds) → IfOk r (λ ctl. ctl.state ≡ start image creds) → IfOk r NoneBegun → IfSome (result_ok r) NothingIsOut

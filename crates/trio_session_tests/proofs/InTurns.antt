@@ -1,22 +1,11 @@
 -- What turns of one library leave, and what they leave the sessions of others.
-use Rattle.std.proofs.Common.{◌≡◌, ◌≤◌, List, [], ◌∷◌, length, sym, refl, ap, ◌∙◌, subst}
+use Rattle.trio_session_tests.proofs.Words.{◌∙◌, ◌∷◌, ◌≡◌, ◌≤◌, Ask, Controller, Creds, DeskSeen, Happens, Image, IsRecorded, LibNo, List, LogsCall, MayCall, MayPlay, SessionSeen, Stands, Told, [], ap, begun_like, desk_of, happens_creds, length, others_see, recorded, refl, subst, sym, underway_of}
 use Rattle.std.specs.Prelude.{None}
-use Rattle.trio_rights.specs.declared.rights.Creds.{Creds}
-use Rattle.trio_rights.specs.declared.rights.LibNo.{LibNo}
-use Rattle.trio_layout.specs.Image.{Image}
-use Rattle.trio_desk.specs.Call.{Ask, DeskSeen, Told}
 use Rattle.trio_desk.specs.Calls.{Call, Calls}
 use Rattle.trio_state.specs.Moves.{Underway, begun_by}
-use Rattle.trio_laws.specs.history.Recorded.{IsRecorded}
-use Rattle.trio_laws.proofs.acts.Underways.{begun_like}
-use Rattle.trio_session.specs.Seen.{SessionSeen}
-use Rattle.trio_edit_laws.specs.Calls.{MayCall}
-use Rattle.trio_ctl.specs.Ctl.{AreAsTold, Controller, IsLibrary, underway_of}
-use Rattle.trio_ctl.specs.Desk.{Happens, LogsCall, desk_of}
-use Rattle.trio_ctl.specs.Logged.{recorded}
-use Rattle.trio_ctl.proofs.DeskSteps.{happens_creds, others_see}
-use Rattle.trio_runner.proofs.Moves.{Stands, call_stands}
-use Rattle.trio_session_tests.specs.Turns.{IsTurn, MayPlay}
+use Rattle.trio_ctl.specs.Ctl.{AreAsTold, IsLibrary}
+use Rattle.trio_runner.proofs.Moves.{call_stands}
+use Rattle.trio_session_tests.specs.Turns.{IsTurn}
 
 -- ---- turns
 

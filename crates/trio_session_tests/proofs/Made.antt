@@ -1,11 +1,10 @@
 -- The calls that a call of an honest library makes at its desk, one after another.
-use Rattle.std.proofs.Common.{[], ◌∷◌, ◌++◌, refl}
+use Rattle.trio_session_tests.proofs.Words.{◌++◌, ◌∷◌, Ask, DeskSeen, SessionSeen, Told, [], refl}
 use Rattle.trio_rights.specs.declared.rights.Mode.{Mode}
 use Rattle.trio_nodes.specs.declared.call.Call.{Call}
 use Rattle.trio_nodes.specs.declared.call.Call.TheVariants.{Chmod}
 use Rattle.trio_nodes.specs.Walk.{Path}
-use Rattle.trio_desk.specs.Call.{Ask, DeskSeen, Settle, Told, Settled, NotSettled}
-use Rattle.trio_session.specs.Seen.{SessionSeen}
+use Rattle.trio_desk.specs.Call.{Settle, Settled, NotSettled}
 use Rattle.trio_walk.specs.Asks.{Called, IsUnsettled, Settles, Once, Unsettled, Again, GivesUp, LeftOut}
 use Rattle.trio_walk.specs.declared.outcome.Outcome.{Outcome}
 use Rattle.trio_calls_dir.specs.Asks.{DirTried}

@@ -1,32 +1,21 @@
 -- What belongs to a library goes by what it has out.
-use Rattle.std.proofs.Common.{◌≡◌, ℕ, ◌==◌, ◌&&◌, ◌+◌, ◌*◌, Bool, true, List, length, Option, map, ap, inl, inr, subst, sym, ◌∙◌}
-use Rattle.std.proofs.lemmas.Bool.{eq-eqb}
+use Rattle.trio_shared.proofs.Words.{◌&&◌, ◌+◌, ◌==◌, ◌∙◌, ◌≡◌, AreMarked, Belongs, Bool, Bundle, Bundled, GrantKind, HoldParts, In, In-map, LibNo, LibOut, List, OpenGrant, Option, Shown, Sizes, State, ap, eq-eqb, hold_of, inl, inr, is_hold, is_write, length, map, out_of, shown_of, subst, sym, true, ℕ}
+use Rattle.std.proofs.Common.{◌*◌}
 use Rattle.std.proofs.lemmas.Simd.{map-map}
 use Rattle.trio_rights.specs.Sheets.{Sheet, sheet_numbers}
-use Rattle.trio_rights.specs.declared.rights.LibNo.{LibNo}
-use Rattle.trio_lists.specs.Lists.{In}
 use Rattle.trio_lists.proofs.Filters.{In-filter}
-use Rattle.trio_lists.proofs.Members.{In-map, map-In}
-use Rattle.trio_nodes.specs.GrantKinds.{is_hold, is_write}
+use Rattle.trio_lists.proofs.Members.{map-In}
 use Rattle.trio_nodes.specs.Handed.{Handed}
-use Rattle.trio_nodes.specs.declared.grant.GrantKind.{GrantKind}
-use Rattle.trio_lease.specs.Bundles.{Bundled}
-use Rattle.trio_lease.specs.Shown.{Shown}
 use Rattle.trio_lease.specs.Views.{lent_sheet}
-use Rattle.trio_lease.specs.declared.parts.HoldParts.{HoldParts}
 use Rattle.trio_lease.specs.declared.parts.LentPage.{LentPage}
-use Rattle.trio_rights.specs.Bundle.{Bundle, bundle_pages}
-use Rattle.trio_desk.specs.Contents.{Sizes}
-use Rattle.trio_desk.specs.Out.{LibOut}
+use Rattle.trio_rights.specs.Bundle.{bundle_pages}
 use Rattle.trio_state.specs.Given.{WasAllotted}
-use Rattle.trio_state.specs.State.{OpenGrant, State}
 use Rattle.trio_laws.specs.OutLaws.{numbers_to}
 use Rattle.trio_laws.proofs.StateFacts.{write_is}
-use Rattle.trio_ctl.specs.Belonging.{Belongs, IsHoldOf, IsLeaseOf}
+use Rattle.trio_ctl.specs.Belonging.{IsHoldOf, IsLeaseOf}
 use Rattle.trio_laws.specs.history.Entries.{sheet_handed}
-use Rattle.trio_ctl.specs.HandedIn.{AreMarked}
-use Rattle.trio_ctl.specs.Desk.{grants_of, out_of}
-use Rattle.trio_ctl.specs.Open.{hold_of, shown_of, untouched}
+use Rattle.trio_ctl.specs.Desk.{grants_of}
+use Rattle.trio_ctl.specs.Open.{untouched}
 use Rattle.trio_ctl.proofs.DeskGiven.{behind}
 use Rattle.trio_ctl.proofs.DeskOuts.{In-numbers_to, hold_is, numbers_to-In}
 

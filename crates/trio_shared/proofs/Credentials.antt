@@ -1,6 +1,6 @@
 -- The credentials of all libraries, one after another.
-use Rattle.std.proofs.Common.{◌≡◌, ℕ, suc, ◌+◌, ◌-◌, ◌<◌, ◌≤◌, List, [], ◌∷◌, ◌++◌, length, get_or, take, take-suc, sym, ap, ◌∙◌, arith}
-use Rattle.trio_rights.specs.declared.rights.Creds.{Creds}
+use Rattle.trio_shared.proofs.Words.{◌++◌, ◌+◌, ◌<◌, ◌∙◌, ◌∷◌, ◌≡◌, ◌≤◌, Creds, List, [], ap, arith, length, suc, sym, take, ℕ}
+use Rattle.std.proofs.Common.{◌-◌, get_or, take-suc}
 use Rattle.trio_nodes.specs.Libraries.{creds_in}
 use Rattle.trio_laws.proofs.Credentials.{creds_placed}
 

@@ -1,16 +1,6 @@
 -- The end of a release at a seat, whether it is taken or comes back.
-use Rattle.std.proofs.Common.{◌≡◌, ◌≤◌, ℕ, None, Result, Ok, Err, IfOk, IfErr, length, ap, ◌∙◌}
-use Rattle.trio_rights.specs.declared.rights.LibNo.{LibNo}
-use Rattle.trio_case.specs.Cases.{CaseShown, case_in as case_shown}
-use Rattle.trio_nodes.specs.declared.answers.ReleaseAnswer.{ReleaseAnswer}
-use Rattle.trio_state.specs.Moves.{IsAwaited}
-use Rattle.trio_turn.specs.Marks.{Mark}
-use Rattle.trio_ctl.specs.Ctl.{Controller, underway_of}
-use Rattle.trio_shared.specs.Left.{desk_left}
-use Rattle.trio_shared.specs.Moves.{Ends, IsNotAwaited}
-use Rattle.trio_shared.specs.Turns.{Looks, Seated}
-use Rattle.trio_shared.specs.inner.Found.{EndsHere, Found, Grows, Same}
-use Rattle.trio_shared.specs.Begun.{marked}
+use Rattle.trio_shared.proofs.Words.{◌∙◌, ◌≡◌, ◌≤◌, CaseShown, Controller, Ends, EndsHere, Err, Found, Grows, IfOk, IsAwaited, IsNotAwaited, LibNo, Looks, Mark, None, Ok, ReleaseAnswer, Result, Same, Seated, ap, case_shown, desk_left, length, marked, underway_of, ℕ}
+use Rattle.std.proofs.Common.{IfErr}
 use Rattle.trio_shared.proofs.Grown.{Saw, desk_same, grew_none, looked}
 use Rattle.trio_shared.proofs.TwoMoves.{end_grows, ended, idle_end, not_awaited}
 

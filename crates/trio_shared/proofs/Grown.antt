@@ -1,38 +1,21 @@
 -- A call between the taking of the controller and its giving back.
-use Rattle.std.proofs.Common.{◌≡◌, ℕ, ◌==◌, ◌≤◌, List, [], ◌++◌, length, Option, Some, None, IfSome, All, sym, refl, ap, ◌∙◌, subst, append-nil}
+use Rattle.trio_shared.proofs.Words.{◌++◌, ◌==◌, ◌∙◌, ◌≡◌, ◌≤◌, All-nil, Ask, Back, BadMode, Busy, BusyMode, Calls, Controller, Creds, CtlAnswer, DeskSeen, Entry, Event, Found, GiveBack, GrantFault, Grows, IfSome, IsIdle, Kept, Leaves, LibNo, LibOut, List, Looks, ModeFault, NoParent, None, NotLent, NotLive, NotModeSet, NotOwner, Option, Origin, Outline, Same, Seated, SeenAfter, SetMode, Settle, Shown, Some, State, TellsHolding, Told, [], all_back, ap, append-nil, begun_by, desk_left, desk_of, entries_told, entry_of, filter-append, length, made_by, maker, mark_of, marked, option_map, origin_of, out_of, refl, subst, sym, underway_of, ℕ}
+use Rattle.std.proofs.Common.{All}
 use Rattle.std.specs.Option.{option_to_list}
-use Rattle.std.proofs.lemmas.List.Elements.{All-append, All-cons, All-map, All-nil, filter-append}
+use Rattle.std.proofs.lemmas.List.Elements.{All-append, All-cons, All-map}
 use mathlib.Core.List.{IsPrefix, append_cancel_left}
-use Rattle.trio_rights.specs.declared.rights.Creds.{Creds}
-use Rattle.trio_rights.specs.declared.rights.LibNo.{LibNo}
-use Rattle.trio_lease.specs.Shown.{Shown}
 use Rattle.trio_layout.specs.Image.{Image}
-use Rattle.trio_desk.specs.Call.{Ask, Told, Grant, Allot, GiveBack, Release, Settle, SetMode, NotLent, NotModeSet, DeskSeen, SeenAfter}
-use Rattle.trio_nodes.specs.declared.answers.GrantFault.{GrantFault}
-use Rattle.trio_nodes.specs.declared.answers.GrantFault.TheVariants.{NotLive, Denied, NoParent, Busy}
-use Rattle.trio_nodes.specs.declared.answers.ModeFault.{ModeFault}
-use Rattle.trio_nodes.specs.declared.answers.ModeFault.TheVariants.{NotLive as NoFile, NotOwner, BadMode, Busy as BusyMode}
-use Rattle.trio_nodes.specs.declared.entry.Entry.{Entry}
-use Rattle.trio_nodes.specs.declared.entry.Entry.TheVariants.{Back}
-use Rattle.trio_state.specs.State.{State}
-use Rattle.trio_state.specs.Step.{Event, CtlAnswer, library_of}
+use Rattle.trio_desk.specs.Call.{Grant, Allot, Release}
+use Rattle.trio_nodes.specs.declared.answers.GrantFault.TheVariants.{Denied}
+use Rattle.trio_nodes.specs.declared.answers.ModeFault.TheVariants.{NotLive as NoFile}
+use Rattle.trio_state.specs.Step.{library_of}
 use Rattle.trio_state.specs.Step as step
-use Rattle.trio_laws.specs.history.Entries.{Beside, entry_of, grant_entry, mode_entry}
-use Rattle.trio_ctl.specs.Backs.{all_back, back_entries}
-use Rattle.std.specs.Option.{option_map}
-use Rattle.trio_desk.specs.Out.{LibOut}
-use Rattle.trio_state.specs.Kept.{Kept}
-use Rattle.trio_state.specs.Moves.{Outline, begun_by}
-use Rattle.trio_shared.specs.Begun.{mark_of, marked}
-use Rattle.trio_ctl.specs.Ctl.{Controller, IsIdle, IsLibrary, underway_of}
-use Rattle.trio_ctl.specs.Desk.{Happens, answer_of, backs_of, beside_of, desk_of, entries_told, event_of, handed_back, out_of}
+use Rattle.trio_laws.specs.history.Entries.{Beside, grant_entry, mode_entry}
+use Rattle.trio_ctl.specs.Backs.{back_entries}
+use Rattle.trio_ctl.specs.Ctl.{IsLibrary}
+use Rattle.trio_ctl.specs.Desk.{Happens, answer_of, backs_of, beside_of, event_of, handed_back}
 use Rattle.trio_ctl.proofs.DeskSteps.{happens_creds, others_keep}
-use Rattle.trio_turn.specs.Logs.{made_by, maker}
-use Rattle.trio_turn.specs.Origins.{Origin}
-use Rattle.trio_shared.specs.Left.{Leaves, desk_left, origin_of}
-use Rattle.trio_shared.specs.Standing.{TellsHolding}
-use Rattle.trio_shared.specs.Turns.{Calls, Looks, Seated}
-use Rattle.trio_shared.specs.inner.Found.{Found, Grows, Makes, Same}
+use Rattle.trio_shared.specs.inner.Found.{Makes}
 use Rattle.trio_shared.proofs.Left.{desk_is_left, others_leave}
 use Rattle.trio_shared.proofs.Standing.{tells_holding}
 

@@ -1,40 +1,20 @@
 -- What a log leaves goes by the log, and entries of others leave what a library sees.
-use Rattle.std.proofs.Common.{◌≡◌, ℕ, ◌==◌, ◌&&◌, Bool, List, [], ◌∷◌, ◌++◌, map, sym, refl, ap, ◌∙◌, subst, inl, inr}
-use Rattle.std.specs.Prelude.{◌≢◌, if◌then◌else◌}
-use Rattle.std.specs.List.{filter}
-use Rattle.std.proofs.lemmas.Bool.{cases_Bool, eq-eqb, eqb-true, false≢true}
-use Rattle.trio_rights.specs.declared.rights.LibNo.{LibNo}
-use Rattle.trio_rights.specs.declared.rights.Creds.{Creds}
-use Rattle.trio_nodes.specs.GrantKinds.{is_hold, is_read, is_write}
-use Rattle.trio_nodes.specs.declared.entry.Entry.{Entry}
-use Rattle.trio_nodes.specs.declared.entry.Entry.TheVariants.{Grant, Allot, Back, Raw, Batch, Mode}
-use Rattle.trio_lease.specs.Shown.{Shown}
-use Rattle.trio_lease.specs.declared.parts.HoldParts.{HoldParts}
-use Rattle.trio_desk.specs.Call.{DeskSeen}
-use Rattle.trio_desk.specs.Contents.{Rights, Sizes}
-use Rattle.trio_desk.specs.Out.{LibOut}
-use Rattle.trio_state.specs.Kept.{Kept}
-use Rattle.trio_state.specs.State.{OpenGrant, State, creds_of}
+use Rattle.trio_shared.proofs.Words.{if◌then◌else◌, ◌&&◌, ◌++◌, ◌==◌, ◌∙◌, ◌∷◌, ◌≡◌, ◌≢◌, Allot, Back, Batch, Bool, Creds, DeskSeen, Entry, Grant, HoldParts, Kept, Known, Leaves, LibNo, LibOut, List, Mode, OpenGrant, Origin, Raw, ReplaysFrom, Shown, Sizes, State, [], answer_of, ap, cases_Bool, creds_of, desk_left, desk_of, eq-eqb, eqb-true, event_of, filter, hold_of, inl, inr, is_hold, is_write, known, made_by, maker, map, others_keep_out, out_left, out_of, plain_state, refl, shown_of, started, step_kept, subst, sym, ℕ}
+use Rattle.std.proofs.lemmas.Bool.{false≢true}
+use Rattle.trio_nodes.specs.GrantKinds.{is_read}
+use Rattle.trio_desk.specs.Contents.{Rights}
 use Rattle.trio_laws.specs.Laws.{library_of}
-use Rattle.trio_laws.specs.Known.{Known, known, plain_state}
 use Rattle.trio_laws.specs.OutLaws.{HasOut, without_checkpoint}
 use Rattle.trio_laws.specs.OutLaws as laws
-use Rattle.trio_laws.specs.history.Entries.{event_of, answer_of}
 use Rattle.trio_laws.specs.history.Recorded.{LentWhole}
-use Rattle.trio_laws.specs.history.Replays.{IsLibrary, ReplaysFrom, known_from}
+use Rattle.trio_laws.specs.history.Replays.{IsLibrary, known_from}
 use Rattle.trio_laws.specs.session.Lent.{root_of, sizes_of}
 use Rattle.trio_laws.proofs.KnownSteps.{steps_are_known}
-use Rattle.trio_laws.proofs.OthersOut.{others_keep_out}
-use Rattle.trio_laws.proofs.Runs.{step_kept}
 use Rattle.trio_laws.proofs.history.Grows.{step_whole}
 use Rattle.trio_laws.proofs.session.Lent.{step_keeps_root}
-use Rattle.trio_ctl.specs.Desk.{desk_of, out_of}
-use Rattle.trio_ctl.specs.Open.{hold_of, shown_of}
 use Rattle.trio_ctl.proofs.DeskLists.{filter-both, filter-through}
 use Rattle.trio_ctl.proofs.DeskSteps.{library_stays}
-use Rattle.trio_turn.specs.Logs.{made_by, maker}
-use Rattle.trio_turn.specs.Origins.{Origin}
-use Rattle.trio_shared.specs.Left.{Leaves, desk_left, left_by, out_left, started}
+use Rattle.trio_shared.specs.Left.{left_by}
 use Rattle.trio_shared.specs.Laws.{DeskIsLeft, LeavesOne, OthersLeave}
 
 -- ---- steps in a row

@@ -8,3 +8,4 @@ mod TwoMoves
 mod Finish
 mod Releases
 pub mod Sends
+mod Words

@@ -1,54 +1,25 @@
 -- A release of a seat: what its first turn took in is still so in its second, and the two come to one call.
-use Rattle.std.proofs.Common.{◌≡◌, ℕ, List, [], ◌∷◌, ◌++◌, None, Some, Result, Ok, Err, refl, sym, ap, ◌∙◌, subst, inl, inr, append-nil}
+use Rattle.trio_shared.proofs.Words.{◌++◌, ◌∙◌, ◌∷◌, ◌≡◌, AreMarked, Bundle, Bundled, Calls, CaseShown, DeskSeen, Ends, Entry, Err, In, IsNotAwaited, IsReturned, IsStillSo, Known, Leaves, LibNo, LibOut, List, Looks, None, NotJudged, Ok, Origin, Parted, ReleaseAnswer, ReleaseFault, ReplaysFrom, Result, Seated, SeenAfter, Some, State, Step, WasGiven, [], answer_of, ap, append-nil, bundle_in, case_made, case_shown, creds_of, desk_left, desk_of, entries_made, entries_told, event_of, filter-append, given_to, handed_in, inl, inr, known, made_by, maker, mark_at, mark_of, out_left, out_of, outline_of, parcel_of, plain_state, refl, release_fault_answer, started, step_kept, subst, sym, verdict_of, were_held, with_bundle, ℕ}
 use Rattle.std.proofs.lemmas.List.{append_assoc}
-use Rattle.std.proofs.lemmas.List.Elements.{filter-append}
 use Rattle.std.specs.Prelude.{◌==◌}
-use Rattle.trio_rights.specs.Bundle.{Bundle}
-use Rattle.trio_rights.specs.declared.rights.LibNo.{LibNo}
 use Rattle.trio_layout.specs.Case.{case_of}
 use Rattle.trio_layout.specs.Copied.{with_copied}
-use Rattle.trio_lease.specs.Bundles.{Bundled}
-use Rattle.trio_lease.specs.Views.{bundle_in}
-use Rattle.trio_case.specs.Cases.{CaseShown, case_in as case_shown}
-use Rattle.trio_nodes.specs.declared.answers.ReleaseAnswer.{ReleaseAnswer}
-use Rattle.trio_nodes.specs.declared.answers.ReleaseFault.{ReleaseFault}
 use Rattle.trio_nodes.specs.declared.answers.ReleaseFault.TheVariants.{NotClosed, NoMemory}
-use Rattle.trio_nodes.specs.declared.entry.Entry.{Entry}
-use Rattle.trio_desk.specs.Call.{DeskSeen, Release, Judged, NotJudged, SeenAfter}
-use Rattle.trio_desk.specs.Out.{LibOut, WasGiven, parcel_of}
+use Rattle.trio_desk.specs.Call.{Release, Judged}
 use Rattle.trio_state.specs.Bundles.{parted_hold}
-use Rattle.trio_state.specs.Moves.{outline_of}
-use Rattle.trio_state.specs.State.{State, creds_of}
-use Rattle.trio_state.specs.Step.{Step, Parted}
 use Rattle.trio_state.specs.Step as step
 use Rattle.trio_state.specs.Tells.{case_in}
-use Rattle.trio_laws.specs.Known.{Known, known, plain_state}
 use Rattle.trio_laws.specs.Laws.{library_of}
 use Rattle.trio_laws.specs.RuleLaws.{IsJudgeable}
-use Rattle.trio_laws.specs.history.Entries.{event_of, answer_of}
-use Rattle.trio_laws.specs.history.Replays.{ReplaysFrom}
 use Rattle.trio_laws.proofs.KnownSteps.{known_decides}
 use Rattle.trio_laws.proofs.OtherSteps.{closed_through, given_through}
-use Rattle.trio_laws.proofs.Runs.{step_kept}
 use Rattle.trio_moves.proofs.CopiedStay.{step_leaves_case}
-use Rattle.trio_ctl.specs.Answers.{release_fault_answer, verdict_of}
-use Rattle.trio_ctl.specs.Desk.{desk_of, entries_told, out_of}
-use Rattle.trio_entries.specs.Handed.{handed_in}
-use Rattle.trio_lists.specs.Lists.{In}
 use Rattle.trio_lease.specs.Shown.{KeepsUntouched, LentFile}
-use Rattle.trio_ctl.specs.HandedIn.{AreMarked}
 use Rattle.trio_ctl.specs.DeskLaws.{LentIsMarked}
-use Rattle.trio_ctl.specs.Logged.{entries_made, with_bundle}
-use Rattle.trio_ctl.specs.Pending.{case_made}
 use Rattle.trio_ctl.proofs.Awaiting.{made_is}
-use Rattle.trio_ctl.proofs.DeskGiven.{given_to, were_held, were_lent}
+use Rattle.trio_ctl.proofs.DeskGiven.{were_lent}
 use Rattle.trio_ctl.proofs.DeskSteps.{release_seen}
-use Rattle.trio_turn.specs.Logs.{made_by, maker}
-use Rattle.trio_turn.specs.Origins.{Origin}
-use Rattle.trio_shared.specs.Begun.{mark_of}
-use Rattle.trio_shared.specs.Left.{Leaves, desk_left, out_left, started}
-use Rattle.trio_shared.specs.Moves.{Ends, IsNotAwaited, IsReturned, IsStillSo, MayEnd, mark_at}
-use Rattle.trio_shared.specs.Turns.{Calls, Looks, Seated}
+use Rattle.trio_shared.specs.Moves.{MayEnd}
 use Rattle.trio_shared.proofs.Left.{desk_is_left, kept_through, known_left, known_through, of_another, others_leave, out_known, replays, replays_split, whose}
 
 -- ---- entries of others leave the case of a bundle

@@ -1,16 +1,13 @@
 -- A seat through one turn.
-use Rattle.std.proofs.Common.{◌≡◌, ◌≤◌, ◌<◌, ◌+◌, ℕ, zero, suc, List, [], ◌∷◌, None, Some, length, slice_get, ap, sym, ◌∙◌, subst, arith}
-use Rattle.trio_rights.specs.declared.rights.LibNo.{LibNo}
+use Rattle.trio_shared.proofs.Words.{◌+◌, ◌<◌, ◌∙◌, ◌∷◌, ◌≡◌, ◌≤◌, Controller, IsIdle, Leaves, LibNo, List, None, Origin, Some, [], ap, arith, length, marked, origin_of, seated, slice_get, subst, suc, sym, ℕ}
+use Rattle.std.proofs.Common.{zero}
 use Rattle.trio_turn.specs.Seats as turn
-use Rattle.trio_turn.specs.Origins.{Origin}
 use Rattle.trio_turn.specs.Seats.{AllNew, IsSameSeat}
 use Rattle.trio_turn.specs.declared.seat.LibSeat.{LibSeat}
-use Rattle.trio_ctl.specs.Ctl.{Controller, IsIdle, NoneBegun}
+use Rattle.trio_ctl.specs.Ctl.{NoneBegun}
 use Rattle.trio_shared.specs.declared.held.Held.{Held}
 use Rattle.trio_shared.specs.declared.cell.Shared.{Shared}
-use Rattle.trio_shared.specs.Left.{Leaves, origin_of}
-use Rattle.trio_shared.specs.Seats.{IsSeatOf, Starts, origin, seated}
-use Rattle.trio_shared.specs.Begun.{marked}
+use Rattle.trio_shared.specs.Seats.{IsSeatOf, Starts, origin}
 use Rattle.trio_shared.proofs.Grown.{Saw, marked_none}
 
 abbrev pub numbered : ℕ → LibNo

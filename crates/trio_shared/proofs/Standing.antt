@@ -1,42 +1,27 @@
 -- The grants that stand after a history that leaves a state are the open ones, each with its entry.
-use Rattle.std.proofs.Common.{◌≡◌, ℕ, ◌+◌, ◌==◌, ◌&&◌, ◌||◌, Bool, true, false, not, nat_lt, List, [], ◌∷◌, ◌++◌, length, map, IsTrue, Option, Some, None, is_some, slice_get, sym, refl, ap, ◌∙◌, subst, inl, inr, arith, append_assoc, length-append}
-use Rattle.std.specs.Prelude.{if◌then◌else◌}
-use Rattle.std.specs.List.{filter}
-use Rattle.std.specs.Option.{IsSomeAnd, option_map}
-use Rattle.std.proofs.lemmas.Bool.{and_parts, cases_Bool, eqb-true}
+use Rattle.trio_shared.proofs.Words.{if◌then◌else◌, ◌&&◌, ◌++◌, ◌+◌, ◌==◌, ◌∙◌, ◌∷◌, ◌≡◌, Allot, Ask, Back, BadMode, Batch, Bool, Busy, BusyMode, Creds, Entry, Grant, GrantFault, GrantKind, In, In-map, IsTrue, Leaves, LibNo, List, Mode, ModeFault, NoParent, None, NotLent, NotLive, NotModeSet, NotOwner, OpenGrant, Option, Origin, Raw, SetMode, Shown, Some, State, Step, TellsHolding, Told, [], all_back, ap, arith, cases_Bool, creds_of, eqb-true, filter, inl, inr, length, map, option_map, refl, slice_get, subst, sym, true, ℕ}
+use Rattle.std.proofs.Common.{◌||◌, false, not, nat_lt, is_some, append_assoc, length-append}
+use Rattle.std.specs.Option.{IsSomeAnd}
+use Rattle.std.proofs.lemmas.Bool.{and_parts}
 use Rattle.trio_rights.specs.Row.{Row}
-use Rattle.trio_rights.specs.declared.rights.Creds.{Creds}
-use Rattle.trio_rights.specs.declared.rights.LibNo.{LibNo}
-use Rattle.trio_lists.specs.Lists.{In}
 use Rattle.trio_lists.proofs.Filters.{filter-In}
-use Rattle.trio_lists.proofs.Members.{In-cases, In-map}
+use Rattle.trio_lists.proofs.Members.{In-cases}
 use Rattle.trio_layout.specs.Image.{row_at}
-use Rattle.trio_desk.specs.Call.{Ask, Told, Grant as AskGrant, SetMode, NotLent, NotModeSet}
-use Rattle.trio_nodes.specs.declared.answers.GrantFault.{GrantFault}
-use Rattle.trio_nodes.specs.declared.answers.GrantFault.TheVariants.{NotLive, NoParent, Busy}
-use Rattle.trio_nodes.specs.declared.answers.ModeFault.{ModeFault}
-use Rattle.trio_nodes.specs.declared.answers.ModeFault.TheVariants.{NotLive as NotLiveFile, NotOwner, BadMode, Busy as BusyMode}
-use Rattle.trio_nodes.specs.declared.entry.Entry.{Entry}
-use Rattle.trio_nodes.specs.declared.entry.Entry.TheVariants.{Grant, Allot, Back, Raw, Batch, Mode}
+use Rattle.trio_desk.specs.Call.{Grant as AskGrant}
+use Rattle.trio_nodes.specs.declared.answers.ModeFault.TheVariants.{NotLive as NotLiveFile}
 use Rattle.trio_nodes.specs.declared.entry.GrantAnswer.TheVariants.{Granted, Refused as NotGranted}
-use Rattle.trio_nodes.specs.declared.grant.GrantKind.{GrantKind}
 use Rattle.trio_nodes.specs.declared.grant.Holder.{Holder}
 use Rattle.trio_nodes.specs.GrantKinds.{excludes_kind}
 use Rattle.trio_nodes.specs.Legal.{Past, LegalFrom, past_after}
 use Rattle.trio_nodes.specs.Standing.{Standing, grants_after, is_given}
-use Rattle.trio_lease.specs.Shown.{Shown}
 use Rattle.trio_state.specs.Grants.{denied_by, denied_or, excluding, grant_fault, holder_of, lacks_parent, told_children}
-use Rattle.trio_state.specs.State.{OpenGrant, State, creds_of}
-use Rattle.trio_state.specs.Step.{Comes, Step, granted_to, mode_excluding, mode_fault, mode_outcome, moded_to}
+use Rattle.trio_state.specs.Step.{Comes, granted_to, mode_excluding, mode_fault, mode_outcome, moded_to}
 use Rattle.trio_state.specs.Step as step
 use Rattle.trio_laws.specs.history.Stands.{past_of, standing_of}
-use Rattle.trio_turn.specs.Origins.{Origin}
-use Rattle.trio_ctl.specs.Backs.{all_back}
 use Rattle.trio_ctl.specs.Desk.{CallStep}
 use Rattle.trio_ctl.specs.inner.Modes.{is_back}
 use Rattle.trio_ctl.proofs.LeasesBack.{all_back_is}
-use Rattle.trio_shared.specs.Left.{Leaves}
-use Rattle.trio_shared.specs.Standing.{Holds, HoldsAround, IsOrLists, RefusesFirst, TellsHolding, mode_refusal, standing, standing_from}
+use Rattle.trio_shared.specs.Standing.{Holds, HoldsAround, IsOrLists, RefusesFirst, mode_refusal, standing, standing_from}
 
 -- ---- what stands is what is open
 

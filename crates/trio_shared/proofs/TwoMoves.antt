@@ -1,47 +1,20 @@
 -- The two moves of a release between the taking of the controller and its giving back.
-use Rattle.std.proofs.Common.{◌≡◌, ◌≤◌, ℕ, List, [], ◌∷◌, ◌++◌, map, length, Option, Some, None, Result, Ok, Err, MatchResult, IfOk, ap, append-nil, inl, refl, subst, sym, ◌∙◌}
-use Rattle.std.specs.Prelude.{◌≢◌}
-use Rattle.std.specs.Option.{option_map}
-use Rattle.std.proofs.lemmas.List.Elements.{All-nil}
-use Rattle.trio_rights.specs.Bundle.{Bundle}
+use Rattle.trio_shared.proofs.Words.{◌++◌, ◌∙◌, ◌∷◌, ◌≡◌, ◌≢◌, ◌≤◌, Acts, All-nil, Answered, Begin, Bundle, Bundled, CaseShown, Controller, CtlAnswer, DeskSeen, End, Ends, EndsHere, Entry, Err, Event, Found, Grows, IfOk, IsLibrary, IsNotAwaited, IsReturned, IsStillSo, Kept, Leaves, LibNo, LibOut, List, Mark, None, NotJudged, Ok, Option, Origin, Outline, Parted, Release, ReleaseAnswer, ReleaseFault, Result, Seated, Shown, Some, State, Step, TellsBeginning, TellsWhetherClosed, [], ap, append-nil, begin_answer, begun_by, bundle_in, case_made, entries_made, entry_of, inl, length, maker, map, mark_at, mark_of, marked, option_map, origin_of, others_keep_out, out_left, out_of, outline_of, parcel_of, refl, release_fault_answer, subst, sym, underway_of, verdict_of, with_bundle, ℕ}
+use Rattle.std.proofs.Common.{MatchResult}
 use Rattle.trio_rights.specs.declared.kind.Kind.{Kind}
-use Rattle.trio_rights.specs.declared.rights.LibNo.{LibNo}
-use Rattle.trio_lease.specs.Bundles.{Bundled}
-use Rattle.trio_lease.specs.Shown.{Shown}
-use Rattle.trio_lease.specs.Views.{bundle_in}
-use Rattle.trio_case.specs.Cases.{CaseShown}
-use Rattle.trio_desk.specs.Call.{DeskSeen, NotJudged, TellsClosed}
-use Rattle.trio_desk.specs.Out.{LibOut, parcel_of}
-use Rattle.trio_nodes.specs.declared.entry.Entry.{Entry}
-use Rattle.trio_nodes.specs.declared.answers.ReleaseAnswer.{ReleaseAnswer}
-use Rattle.trio_nodes.specs.declared.answers.ReleaseFault.{ReleaseFault}
+use Rattle.trio_desk.specs.Call.{TellsClosed}
 use Rattle.trio_nodes.specs.declared.answers.ReleaseFault.TheVariants.{NotClosed as NotClosedBundle, NoMemory as NoReleaseMemory}
 use Rattle.trio_state.specs.Given.{GivenEvent}
-use Rattle.trio_state.specs.Kept.{Kept}
-use Rattle.trio_state.specs.Moves.{ActAnswer, Acts, Answered, Begin, ComesBack, End, FileOutline, HasBegun, HasNoRoom, IsTaken, KeptUnderway, Outline, Underway, begun_by, outline_of, with_begun}
-use Rattle.trio_state.specs.State.{IsLibrary, State}
-use Rattle.trio_state.specs.Step.{CtlAnswer, Event, IsAccepted, IsRefused, Parted, Release, ReleaseEnd, Step, library_of}
+use Rattle.trio_state.specs.Moves.{ActAnswer, ComesBack, FileOutline, HasBegun, HasNoRoom, IsTaken, KeptUnderway, Underway, with_begun}
+use Rattle.trio_state.specs.Step.{IsAccepted, IsRefused, ReleaseEnd, library_of}
 use Rattle.trio_state.specs.Step as step
-use Rattle.trio_laws.proofs.OthersOut.{others_keep_out}
 use Rattle.trio_laws.proofs.acts.Underways.{begun_here, begun_like, begun_other}
-use Rattle.trio_turn.specs.Logs.{maker}
-use Rattle.trio_turn.specs.Marks.{Mark}
-use Rattle.trio_turn.specs.Origins.{Origin}
 use Rattle.trio_turn.specs.declared.logged.Begun.{Begun}
 use Rattle.trio_turn.specs.declared.logged.BegunLease.{BegunLease}
-use Rattle.trio_ctl.specs.Answers.{begin_answer, release_fault_answer, verdict_of}
-use Rattle.trio_ctl.specs.Ctl.{AreAsTold, Controller, underway_of}
+use Rattle.trio_ctl.specs.Ctl.{AreAsTold}
 use Rattle.trio_ctl.proofs.DeskClosed.{is_closed, is_lowest_parted}
-use Rattle.trio_ctl.specs.Desk.{out_of}
-use Rattle.trio_ctl.specs.Logged.{entries_made, with_bundle}
-use Rattle.trio_ctl.specs.Pending.{case_made}
 use Rattle.trio_ctl.proofs.Ends.{begun_so}
-use Rattle.trio_laws.specs.history.Entries.{entry_of}
-use Rattle.trio_shared.specs.Begun.{lease_mark, mark_of, marked}
-use Rattle.trio_shared.specs.Left.{Leaves, origin_of, out_left}
-use Rattle.trio_shared.specs.Moves.{Ends, IsNotAwaited, IsReturned, IsStillSo, TellsBeginning, TellsWhetherClosed, mark_at}
-use Rattle.trio_shared.specs.Turns.{Seated}
-use Rattle.trio_shared.specs.inner.Found.{EndsHere, Found, Grows}
+use Rattle.trio_shared.specs.Begun.{lease_mark}
 use Rattle.trio_shared.proofs.Left.{lib_out, out_is}
 use Rattle.trio_shared.proofs.Grown.{Saw, each_of, here, maker_of, marked_none, same_origin}
 

@@ -1,21 +1,14 @@
 -- Seats in their order.
-use Rattle.std.proofs.Common.{◌≡◌, ◌≤◌, ◌<◌, ◌+◌, ℕ, zero, suc, List, [], ◌∷◌, ◌++◌, Some, None, length, slice_get, slice_index_or, slice_set, refl, subst, sym, ◌∙◌, arith}
-use Rattle.trio_rights.specs.declared.rights.LibNo.{LibNo}
-use Rattle.trio_lists.specs.Lists.{In}
+use Rattle.trio_shared_tests.proofs.Words.{◌++◌, ◌+◌, ◌<◌, ◌∙◌, ◌∷◌, ◌≡◌, AreAll, Entry, Held, In, IsBack, IsNew, IsSeatOf, LibNo, LibSeat, List, None, OfEach, Origin, OutAlike, Shared, SitsOn, Some, [], arith, first, length, library, library_of, refl, slice_get, subst, suc, sym, zero, ℕ}
+use Rattle.std.proofs.Common.{◌≤◌, slice_index_or, slice_set}
 use Rattle.trio_tables.specs.Out.{lib_at, none_out}
 use Rattle.trio_tables.proofs.OutLemmas.{lib_at-none_out}
 use Rattle.trio_laws.specs.OutLaws.{numbers_to}
-use Rattle.trio_nodes.specs.declared.entry.Entry.{Entry}
-use Rattle.trio_desk.specs.Out.{OutAlike, nothing_out}
+use Rattle.trio_desk.specs.Out.{nothing_out}
 use Rattle.trio_ctl.proofs.DeskOuts.{numbers_to-In}
-use Rattle.trio_turn.specs.declared.seat.LibSeat.{LibSeat}
-use Rattle.trio_turn.specs.Origins.{Origin}
-use Rattle.trio_turn.specs.Seats.{EverySeat, OfEach, first, library}
-use Rattle.trio_shared.specs.declared.cell.Shared.{Shared}
-use Rattle.trio_shared.specs.declared.held.Held.{Held}
+use Rattle.trio_turn.specs.Seats.{EverySeat}
 use Rattle.trio_shared.specs.Left.{out_left}
-use Rattle.trio_shared.specs.Seats.{AllStart, IsSeatOf, library_count, library_of}
-use Rattle.trio_shared_tests.specs.Sits.{AreAll, IsBack, IsNew, SitsOn}
+use Rattle.trio_shared.specs.Seats.{AllStart, library_count}
 
 -- ---- lists
 

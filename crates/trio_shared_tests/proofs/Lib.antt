@@ -4,3 +4,4 @@ mod Sends
 mod Sitting
 mod TwoMoves
 mod Writing
+mod Words

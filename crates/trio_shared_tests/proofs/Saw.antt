@@ -1,19 +1,14 @@
 -- What seats have seen of the log at the close.
-use Rattle.std.proofs.Common.{◌≡◌, ◌<◌, ℕ, zero, suc, ◌==◌, Bool, false, List, [], ◌∷◌, ◌++◌, Some, Result, Ok, Err, IfOk, IfSome, length, slice_get, ap, subst, sym, ◌∙◌, inl, inr, arith, append-nil}
+use Rattle.trio_shared_tests.proofs.Words.{◌++◌, ◌<◌, ◌∙◌, ◌∷◌, ◌≡◌, AreAll, Controller, Entry, Err, HaveSeen, Held, IfOk, IfSome, IsBack, LibSeat, List, OfEach, Ok, Result, Shared, Some, [], ap, arith, inl, inr, length, library, seen, slice_get, subst, suc, sym, zero, ℕ}
+use Rattle.std.proofs.Common.{◌==◌, Bool, false, append-nil}
 use Rattle.std.specs.Prelude.{if◌then◌else◌}
 use Rattle.std.specs.Result.{result_ok}
 use Rattle.std.proofs.lemmas.Bool.{cases_Bool, eq-eqb, false≢true}
 use Rattle.std.proofs.lemmas.List.Elements.{filter-append}
 use mathlib.Core.List.{IsPrefix, append_cancel_left}
-use Rattle.trio_nodes.specs.declared.entry.Entry.{Entry}
-use Rattle.trio_ctl.specs.Ctl.{Controller}
-use Rattle.trio_turn.specs.declared.seat.LibSeat.{LibSeat}
 use Rattle.trio_turn.specs.Logs.{made_by, maker}
-use Rattle.trio_turn.specs.Seats.{OfEach, library, mine, seen}
-use Rattle.trio_shared.specs.declared.held.Held.{Held}
-use Rattle.trio_shared.specs.declared.cell.Shared.{Shared}
-use Rattle.trio_shared_tests.specs.Seen.{HasSeen, HaveSeen}
-use Rattle.trio_shared_tests.specs.Sits.{AreAll, IsBack}
+use Rattle.trio_turn.specs.Seats.{mine}
+use Rattle.trio_shared_tests.specs.Seen.{HasSeen}
 
 not_there : (lib : ℕ) (x e : Entry) (xs : List Entry) (k : ℕ) → (maker x == lib) ≡ false → maker e ≡ lib → slice_get (x ∷ xs) k ≡ Some e → ((j : ℕ) → slice_get xs j ≡ Some e → ⊥) → ⊥
 not_there lib x e xs zero other is at rest = let same : x ≡ e = cc at in false≢true (sym other ∙ eq-eqb (maker x) lib (ap maker same ∙ is))

@@ -1,9 +1,9 @@
 -- What threads share that play libraries.
+use Rattle.trio_shared_tests.proofs.Words.{crosses}
 use denote.Builtin.{u64}
 use denote.Param.Send.{AllSync, IsSync, recorded_sync, sendable, struct_sync}
 use denote.Struct.Declared.{Declared, fields, row, shape}
 use denote.Struct.Struct.{Struct}
-use Rattle.std.proofs.Crossing.{crosses}
 use Rattle.std.specs.contracts.sync.atomic.AtomicBool as flag
 
 pub flag_syncs : IsSync flag.the_row

@@ -1,24 +1,16 @@
 -- A seat after calls of its desk.
-use Rattle.std.proofs.Common.{◌≡◌, ℕ, List, Option, Some, None, Result, refl, ap, ◌∙◌, subst, sym, inl, inr}
+use Rattle.trio_shared_tests.proofs.Words.{◌∙◌, ◌≡◌, Entry, Has, Held, IsSeatOf, LibNo, LibOut, LibSeat, List, None, OnList, Option, Origin, Plays, PlaysOn, Result, Shared, SitsOn, Some, State, ap, desk, desk_left, first, inl, inr, library, library_of, nothing, out, refl, seated, seen, subst, sym, ℕ}
 use Rattle.std.specs.Prelude.{◌⊎◌, IsErr, MatchOption}
-use Rattle.trio_rights.specs.declared.rights.LibNo.{LibNo}
 use Rattle.trio_lease.specs.Shown.{Shown}
 use Rattle.trio_desk.specs.Call.{Ask, GiveBack, Told}
 use Rattle.trio_desk.specs.Calls.{OneCall, Made, NotMade}
-use Rattle.trio_desk.specs.Out.{LibOut}
 use Rattle.trio_raw.specs.Asked.{AfterBack, Back}
-use Rattle.trio_raw.specs.Has.{Has, OnList, nothing, read_on}
-use Rattle.trio_nodes.specs.declared.entry.Entry.{Entry}
-use Rattle.trio_state.specs.State.{State}
-use Rattle.trio_turn.specs.Origins.{Origin}
-use Rattle.trio_turn.specs.Seats.{IsSameSeat, first, library, seen}
-use Rattle.trio_turn.specs.declared.seat.LibSeat.{LibSeat}
-use Rattle.trio_shared.specs.declared.cell.Shared.{Shared}
-use Rattle.trio_shared.specs.declared.held.Held.{Held}
-use Rattle.trio_shared.specs.Left.{Leaves, desk_left}
-use Rattle.trio_shared.specs.Seats.{IsIdle, IsSeatOf, desk, library_of, out, seated}
+use Rattle.trio_raw.specs.Has.{read_on}
+use Rattle.trio_turn.specs.Seats.{IsSameSeat}
+use Rattle.trio_shared.specs.Left.{Leaves}
+use Rattle.trio_shared.specs.Seats.{IsIdle}
 use Rattle.trio_shared.specs.Turns.{Calls}
-use Rattle.trio_shared_tests.specs.Sits.{IsLeft, Plays, PlaysOn, Sits, SitsOn}
+use Rattle.trio_shared_tests.specs.Sits.{IsLeft, Sits}
 use Rattle.trio_shared_tests.proofs.TwoMoves.{nothing_on_list}
 
 -- ---- a library plays on

@@ -1,23 +1,17 @@
 -- A file that is handed in in two moves.
-use Rattle.std.proofs.Common.{◌≡◌, ℕ, [], ◌∷◌, Option, Some, None, Result, Ok, Err, IfOk, IfSome, refl, sym, subst}
-use Rattle.trio_rights.specs.declared.rights.LibNo.{LibNo}
+use Rattle.trio_shared_tests.proofs.Words.{◌∷◌, ◌≡◌, CaseShown, DeskSeen, Err, IfOk, IfSome, In, LibNo, LibOut, None, Ok, OnList, Option, OutAlike, Result, Some, State, WasGiven, [], desk_left, nothing, parcel_of, refl, subst, sym, ℕ}
 use Rattle.trio_lease.specs.Bundles.{Bundled}
-use Rattle.trio_lists.specs.Lists.{In}
 use Rattle.trio_lease.specs.Shown.{KeepsUntouched, LentFile}
 use Rattle.trio_lease.specs.declared.lease.Lease.TheVariants.{Write}
-use Rattle.trio_desk.specs.Call.{DeskSeen}
 use Rattle.trio_desk.specs.Contents.{Sizes}
-use Rattle.trio_desk.specs.Out.{IsFreshLease, LibOut, OutAlike, Parcel, WasGiven, parcel_of, with_lease}
-use Rattle.trio_case.specs.Cases.{CaseShown}
-use Rattle.trio_raw.specs.Has.{OnList, keeps_lease, nothing}
+use Rattle.trio_desk.specs.Out.{IsFreshLease, Parcel, with_lease}
+use Rattle.trio_raw.specs.Has.{keeps_lease}
 use Rattle.trio_raw.proofs.Standing.{stands-lease, stands_alike, whole-given}
-use Rattle.trio_state.specs.State.{State}
 use Rattle.trio_entries.specs.Handed.{handed_in}
 use Rattle.trio_ctl.specs.HandedIn.{AreMarked}
 use Rattle.trio_ctl.specs.DeskLaws.{LentIsMarked}
 use Rattle.trio_ctl.proofs.DeskGiven.{were_lent}
 use Rattle.trio_shared.specs.Laws.{DeskIsLeft}
-use Rattle.trio_shared.specs.Left.{desk_left}
 use Rattle.trio_shared.specs.Moves.{MayEnd, TellsBeginning}
 use Rattle.trio_shared.specs.Turns.{Looks, Seated}
 use Rattle.trio_nodes.specs.declared.answers.ReleaseFault.{ReleaseFault}

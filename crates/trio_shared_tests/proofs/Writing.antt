@@ -1,10 +1,6 @@
 -- A library after it has written into what it has.
-use Rattle.std.proofs.Common.{refl}
-use Rattle.trio_raw.specs.Has.{Has}
-use Rattle.trio_turn.specs.declared.seat.LibSeat.{LibSeat}
-use Rattle.trio_shared.specs.declared.cell.Shared.{Shared}
+use Rattle.trio_shared_tests.proofs.Words.{Has, LibSeat, Plays, PlaysOn, Shared, WritesOn, refl}
 use Rattle.trio_shared.specs.declared.held.Held as shared
-use Rattle.trio_shared_tests.specs.Sits.{Plays, PlaysOn, WritesOn}
 
 pub writes_here : (has : Has) → WritesOn has has
 writes_here has = record { stays = λ out h. h }

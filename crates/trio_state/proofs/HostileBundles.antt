@@ -1,28 +1,18 @@
 -- Hostile bundles, evaluated: each is what a raw library wrote at which offset of what it was lent. Rules and whole
 -- image say of each what is expected from outside.
-use Rattle.std.proofs.Common.{refl}
-use Rattle.std.specs.Prelude.{◌≡◌, ℕ, List, [], ◌∷◌, ◌++◌, ◌+◌, ◌==◌, map, replicate, Option, Some, None, not, if◌then◌else◌}
+use Rattle.trio_state.proofs.Words.{◌++◌, ◌∷◌, ◌≡◌, Body, Case, Directory, Image, List, None, Regular, Sheet, Some, Verifies, Written, [], is_accepted, listing, map, meets_edges, meets_grammar, meets_owning, meets_rights, refl, ℕ}
+use Rattle.std.specs.Prelude.{◌+◌, ◌==◌, replicate, Option, not, if◌then◌else◌}
 use Rattle.trio_page.specs.Field.{number_at, with_part, zeros}
 use Rattle.trio_rights.specs.Row.{Row}
 use Rattle.trio_rights.specs.declared.kind.Kind.{Kind}
-use Rattle.trio_rights.specs.declared.kind.Kind.TheVariants.{Regular, Directory}
-use Rattle.trio_layout.specs.declared.body.Body.{Body}
 use Rattle.trio_layout.specs.Body.{body_bytes, body_of}
 use Rattle.trio_layout.specs.Slot.{entry_bytes, slot_of}
 use Rattle.trio_layout.specs.Index.{index_bytes, index_of}
 use Rattle.trio_layout.specs.Entries.{entries_on}
-use Rattle.trio_rights.specs.Sheets.{Sheet}
 use Rattle.trio_layout.specs.Survey.{file_of, survey}
-use Rattle.trio_layout.specs.Image.{Image}
-use Rattle.trio_layout.specs.Verifies.{Verifies}
-use Rattle.trio_rights.specs.Bundle.{Written}
-use Rattle.trio_layout.specs.Accept.{is_accepted}
-use Rattle.trio_layout.specs.Case.{Case, Held}
+use Rattle.trio_layout.specs.Case.{Held}
 use Rattle.trio_layout.specs.Within.{file_within}
 use Rattle.trio_layout.specs.JudgedFiles.{judged_files}
-use Rattle.trio_layout.specs.Listing.{listing}
-use Rattle.trio_layout.specs.Edges.{meets_edges}
-use Rattle.trio_layout.specs.Rules.{meets_grammar, meets_owning, meets_rights}
 use Rattle.trio_state.proofs.WorkedImages.{file_entry, directory_entry, one_number, slots_page}
 use Rattle.trio_state.proofs.WorkedBundles.{sheet}
 

@@ -2,3 +2,4 @@ mod WorkedImages
 mod WorkedBundles
 mod WorkedRules
 mod HostileBundles
+mod Words

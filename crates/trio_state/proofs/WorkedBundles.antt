@@ -1,17 +1,13 @@
 -- Bundles over the small image, evaluated: what is to be accepted is, and each way to break the image is refused.
-use Rattle.std.specs.Prelude.{◌≡◌, ℕ, List, [], ◌∷◌, ◌++◌, true, false}
-use Rattle.std.proofs.Common.{refl}
+use Rattle.trio_state.proofs.Words.{◌++◌, ◌∷◌, ◌≡◌, Bundle, Directory, List, Regular, Sheet, Written, [], false, is_accepted, refl, true, ℕ}
 use Rattle.trio_page.specs.Field.{number_at, zeros}
-use Rattle.trio_rights.specs.declared.kind.Kind.TheVariants.{Regular, Directory}
 use Rattle.trio_rights.specs.declared.rights.Creds.{Creds}
 use Rattle.trio_layout.specs.Body.{body_bytes, body_of}
 use Rattle.trio_layout.specs.Slot.{entry_bytes, slot_of}
 use Rattle.trio_layout.specs.Index.{index_bytes, index_of}
 use Rattle.trio_layout.specs.Entries.{entries_on}
 use Rattle.trio_layout.specs.Survey.{survey, file_of}
-use Rattle.trio_rights.specs.Sheets.{Sheet}
-use Rattle.trio_rights.specs.Bundle.{Bundle, Written}
-use Rattle.trio_layout.specs.Accept.{is_accepted, next}
+use Rattle.trio_layout.specs.Accept.{next}
 use Rattle.trio_state.proofs.WorkedImages.{directory_body, empty_body, short_body, file_entry, directory_entry, one_number, slots_page, image}
 
 abbrev pub root_user : Creds

@@ -1,20 +1,14 @@
 -- A small image, evaluated: the definitions give what a person expects of it.
-use Rattle.std.specs.Prelude.{◌≡◌, ℕ, List, [], ◌∷◌, ◌++◌, Some, None, Ok, Err}
-use Rattle.std.proofs.Common.{refl}
+use Rattle.trio_state.proofs.Words.{◌++◌, ◌∷◌, ◌≡◌, Body, Core, Directory, Image, List, None, Regular, Some, Verifies, [], numbers, owners_table, plain, refl, rows_table, ℕ}
+use Rattle.std.specs.Prelude.{Ok, Err}
 use Rattle.trio_page.specs.Field.{number_at, zeros}
-use Rattle.trio_rights.specs.declared.kind.Kind.TheVariants.{Regular, Directory}
-use Rattle.trio_layout.specs.declared.body.Body.{Body}
 use Rattle.trio_layout.specs.declared.slot.EntryPart.{EntryPart}
 use Rattle.trio_layout.specs.Body.{body_bytes, body_of}
 use Rattle.trio_layout.specs.Slot.{entry_bytes, slot_of}
 use Rattle.trio_layout.specs.Index.{index_bytes, index_of}
-use Rattle.trio_layout.specs.Core.{Core}
 use Rattle.trio_layout.specs.Chain.{chain_of}
 use Rattle.trio_layout.specs.Entries.{entries_on}
-use Rattle.trio_layout.specs.Survey.{survey, plain, numbers, file_of, root_of, owner_of}
-use Rattle.trio_layout.specs.Sound.{rows_table, owners_table}
-use Rattle.trio_layout.specs.Image.{Image}
-use Rattle.trio_layout.specs.Verifies.{Verifies}
+use Rattle.trio_layout.specs.Survey.{survey, file_of, root_of, owner_of}
 
 abbrev pub directory_body : ℕ → Body
 directory_body head = record { mode = record { 0 = 493 }; uid = 0; gid = 0; head = head; size = 4096 }

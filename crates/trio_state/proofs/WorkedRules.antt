@@ -1,25 +1,16 @@
 -- The rules on bundles over small images, evaluated: each way to break the image is refused by the rule that is to name it.
-use Rattle.std.proofs.Common.{refl}
-use Rattle.std.specs.Prelude.{List, None, Some, [], false, map, true, ℕ, ◌++◌, ◌∷◌, ◌≡◌}
+use Rattle.trio_state.proofs.Words.{◌++◌, ◌∷◌, ◌≡◌, Body, Bundle, Case, Core, Directory, Image, List, None, Some, [], false, is_accepted, listing, map, meets_edges, meets_grammar, meets_owning, meets_rights, numbers, owners_table, plain, refl, rows_table, true, ℕ}
 use Rattle.trio_page.specs.Field.{number_at, zeros}
-use Rattle.trio_rights.specs.declared.kind.Kind.TheVariants.{Directory}
-use Rattle.trio_layout.specs.Accept.{is_accepted}
 use Rattle.trio_layout.specs.Body.{body_bytes, body_of}
-use Rattle.trio_layout.specs.Case.{Case, case_of}
-use Rattle.trio_layout.specs.Core.{Core}
-use Rattle.trio_layout.specs.Edges.{meets_edges}
+use Rattle.trio_layout.specs.Case.{case_of}
 use Rattle.trio_layout.specs.Entries.{entries_on}
-use Rattle.trio_layout.specs.Image.{Image}
 use Rattle.trio_layout.specs.Index.{index_bytes, index_of}
 use Rattle.trio_layout.specs.JudgedFiles.{judged_files}
-use Rattle.trio_layout.specs.Listing.{ListedEntry, listing}
-use Rattle.trio_rights.specs.Bundle.{Bundle}
-use Rattle.trio_layout.specs.Rules.{meets_grammar, meets_owning, meets_rights, meets_rules}
+use Rattle.trio_layout.specs.Listing.{ListedEntry}
+use Rattle.trio_layout.specs.Rules.{meets_rules}
 use Rattle.trio_layout.specs.Slot.{entry_bytes, slot_of}
-use Rattle.trio_layout.specs.Sound.{owners_table, rows_table}
-use Rattle.trio_layout.specs.Survey.{file_of, numbers, plain, survey}
+use Rattle.trio_layout.specs.Survey.{file_of, survey}
 use Rattle.trio_layout.specs.Within.{file_within}
-use Rattle.trio_layout.specs.declared.body.Body.{Body}
 use Rattle.trio_state.proofs.WorkedImages.{directory_body, short_body, file_entry, directory_entry, one_number, slots_page, image}
 use Rattle.trio_state.proofs.WorkedBundles.{root_user, user, sheet, root_with, slot_a, slot_b, file_with, writes}
 

@@ -1,24 +1,12 @@
 -- One entry more of a directory: a file that is met for the first time, or again.
-use Rattle.std.proofs.Common.{◌≡◌, ℕ, suc, ◌+◌, ◌&&◌, ◌<◌, ltb, drop, drop-cons, Bool, true, false, cond, List, [], ◌∷◌, ◌++◌, map, length, get_or, set, take, Option, None, Some, sym, subst, refl, ap, ◌∙◌, inl, inr, arith, append_assoc}
-use Rattle.std.specs.Option.{option_or}
-use Rattle.std.proofs.lemmas.List.{append-nil, map-append, map_push, length_push, length-map, get_or-map, take-append-drop}
+use Rattle.trio_survey.proofs.Words.{◌&&◌, ◌++◌, ◌+◌, ◌<◌, ◌∙◌, ◌∷◌, ◌≡◌, AreMarked, Bool, DirEntry, Grows, List, Listed, Location, Met, None, Option, Pick, Some, [], all_below, among-first_listed, and_parts, ap, append-nil, append_assoc, are_marked, arith, below_at, cond, drop, entry_seen, false, first_listed, flat_map, flat_map-append, get_or, get_or-map, inl, inr, is_among, length, length-map, list_all, list_all-append, ltb, map, map-append, map_push, met_in, numbers, option_or, place_of, refl, set, subst, suc, sym, take, take-append-drop, true, ℕ}
+use Rattle.std.proofs.Common.{drop-cons}
+use Rattle.std.proofs.lemmas.List.{length_push}
 use Rattle.std.proofs.lemmas.List.Sums.{sum_by-set}
-use Rattle.std.specs.List.{flat_map, list_all}
-use Rattle.std.proofs.lemmas.Bool.{and_parts}
-use Rattle.std.proofs.lemmas.List.Concat.{flat_map-append}
-use Rattle.std.proofs.lemmas.List.Folds.{list_all-append}
-use Rattle.trio_lists.specs.Lists.{is_among}
-use Rattle.trio_lists.specs.Marked.{all_below}
-use Rattle.trio_layout.specs.Entries.{Listed, place_of}
-use Rattle.trio_layout.specs.Survey.{Met, Pick, numbers, first_listed, met_in}
-use Rattle.trio_layout.proofs.QueueLaws.{first_listed-append, among-first_listed}
-use Rattle.trio_lists.proofs.Marked.{MarksJust-set, below_at}
-use Rattle.trio_survey.specs.declared.blocks.DirEntry.{DirEntry}
-use Rattle.trio_survey.specs.inner.Blocks.{entry_seen}
-use Rattle.trio_survey.specs.inner.Walk.{are_marked, AreMarked, Grows}
+use Rattle.trio_layout.proofs.QueueLaws.{first_listed-append}
+use Rattle.trio_lists.proofs.Marked.{MarksJust-set}
 use Rattle.trio_survey.proofs.Naming.{blocks_left}
 use Rattle.trio_survey.proofs.Repeats.{numbers_of, numbers_met, entry_marked, entry_unmarked}
-use Rattle.trio_layout.specs.Core.{Location}
 
 listed_push : (old now ms : List Met) (m : Met) (b : Bool) → now ≡ old ++ first_listed (numbers old) ms → is_among m.ino (numbers now) ≡ b → now ++ cond b [] (m ∷ []) ≡ old ++ first_listed (numbers old) (ms ++ m ∷ [])
 listed_push old now ms m b e among =

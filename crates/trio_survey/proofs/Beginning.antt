@@ -1,12 +1,6 @@
 -- A walk that has met the root and passed nothing.
-use Rattle.std.proofs.Common.{◌≡◌, ℕ, zero, suc, ◌+◌, ◌<◌, ◌≤◌, true, false, ltb, [], ◌∷◌, length, get_or, set, replicate, None, refl, ◌∙◌, arith}
+use Rattle.trio_survey.proofs.Words.{◌+◌, ◌<◌, ◌∙◌, ◌∷◌, ◌≡◌, ◌≤◌, AreMarked, Core, None, Pick, Stands, [], and_from, arith, false, get_or, length, length-replicate, length-set, ltb, nat_tests, refl, replicate, root_of, set, suc, true, zero, ℕ}
 use Rattle.std.specs.List.{count_by}
-use Rattle.std.proofs.lemmas.List.{length-set, length-replicate}
-use Rattle.std.proofs.lemmas.Bool.{and_from}
-use Rattle.std.proofs.lemmas.Bool.Decides.{nat_tests}
-use Rattle.trio_layout.specs.Core.{Core}
-use Rattle.trio_layout.specs.Survey.{Pick, root_of}
-use Rattle.trio_survey.specs.inner.Walk.{AreMarked, Stands}
 use Rattle.trio_survey.proofs.Adding.{AreMarked-add}
 
 no_mark : (n k : ℕ) → get_or (replicate n false) k false ≡ false

@@ -1,11 +1,6 @@
 -- One index page more of a chain.
-use Rattle.std.proofs.Common.{◌≡◌, ℕ, suc, ◌-◌, ◌<◌, min, leb, eqb, List, [], ◌∷◌, ◌++◌, Some, None, Result, Ok, Err, sym, refl, ◌∙◌, append_assoc, arith}
-use Rattle.std.proofs.lemmas.List.{append-nil}
-use Rattle.std.proofs.lemmas.Bool.Decides.{nat_tests}
-use Rattle.trio_layout.specs.Core.{Core, Location, at_page, page_of}
-use Rattle.trio_layout.specs.Index.{Index, index_of}
-use Rattle.trio_lists.specs.Lists.{result_map, result_then}
-use Rattle.trio_layout.specs.Chain.{Chain, chain_from, index_count, index_page, with_index}
+use Rattle.trio_survey.proofs.Words.{◌++◌, ◌-◌, ◌<◌, ◌∙◌, ◌∷◌, ◌≡◌, Chain, Core, Err, Index, List, Location, None, Ok, Result, Some, [], append-nil, append_assoc, arith, at_page, chain_from, eqb, index_count, index_page, leb, min, nat_tests, page_of, refl, result_map, result_then, suc, sym, with_index, ℕ}
+use Rattle.trio_layout.specs.Index.{index_of}
 
 -- a chain that goes on after these pages and blocks
 abbrev pub after : List ℕ → List ℕ → Chain → Chain

@@ -1,20 +1,7 @@
 -- The pages that a file in the grammar lists are core pages.
-use Rattle.std.proofs.Common.{◌≡◌, ℕ, suc, zero, ◌-◌, min, Bool, true, false, ◌&&◌, eqb, ltb, leb, List, [], ◌∷◌, ◌++◌, Some, Ok, Err, Result, IfOk, inl, inr, sym, refl, ap, ◌∙◌, arith}
-use Rattle.std.specs.List.{list_all}
-use Rattle.std.specs.Str.{bytes_eq}
-use Rattle.std.proofs.lemmas.List.Folds.{list_all-append}
-use Rattle.std.proofs.lemmas.Bool.{and_parts, and_from, or_cases, false≢true}
-use Rattle.std.proofs.lemmas.Bool.Decides.{nat_tests}
-use Rattle.trio_layout.specs.declared.range.CoreRange.{CoreRange}
-use Rattle.trio_layout.specs.Range.{is_core}
-use Rattle.trio_layout.specs.Body.{body_of}
-use Rattle.trio_layout.specs.Index.{Index, index_at, index_bytes, index_fits, link_fits, index_of}
-use Rattle.trio_lists.specs.Lists.{is_among, result_map, result_then, there_or}
-use Rattle.trio_layout.specs.Core.{Core, at_page, nowhere, page_of}
-use Rattle.trio_layout.specs.Chain.{Chain, chain_from, chain_of, index_page, with_index}
-use Rattle.trio_layout.specs.Entries.{entries_of_kind}
-use Rattle.trio_layout.specs.Survey.{Met, FileRead, file_of, file_with}
-use Rattle.trio_layout.proofs.EntryNumbers.{if_ok_then, if_ok_map, if_ok_at, if_ok_weaker}
+use Rattle.trio_survey.proofs.Words.{◌&&◌, ◌++◌, ◌-◌, ◌∙◌, ◌∷◌, ◌≡◌, Bool, Chain, Core, CoreRange, Err, FileRead, IfOk, Index, List, Met, Ok, Result, Some, [], and_from, and_parts, ap, arith, at_page, body_of, bytes_eq, chain_from, chain_of, entries_of_kind, eqb, false, false≢true, file_with, if_ok_at, if_ok_map, if_ok_then, if_ok_weaker, index_at, index_bytes, index_fits, index_page, inl, inr, is_among, is_core, leb, link_fits, list_all, list_all-append, ltb, min, nat_tests, nowhere, or_cases, page_of, refl, result_map, result_then, suc, sym, there_or, true, with_index, zero, ℕ}
+use Rattle.trio_layout.specs.Index.{index_of}
+use Rattle.trio_layout.specs.Survey.{file_of}
 use Rattle.trio_survey.proofs.Fits.{there_some, and_then_some, cond_some, cond_there}
 
 index_numbers : (used : ℕ) (last : Bool) (range : CoreRange) (page : List ℕ) (i : Index) → index_of used last range page ≡ Some i → list_all (is_core range) i.numbers ≡ true

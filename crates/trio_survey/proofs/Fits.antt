@@ -1,24 +1,10 @@
 -- The numbers that a file in the grammar lists are numbers of its image.
-use Rattle.std.proofs.Common.{◌≡◌, ℕ, suc, zero, ◌+◌, ◌-◌, min, Bool, true, false, ◌&&◌, cond, eqb, ltb, leb, List, [], ◌∷◌, map, Option, Some, None, Ok, IfOk, sym, refl, ap, ◌∙◌}
-use Rattle.std.specs.List.{list_all}
-use Rattle.std.specs.Str.{bytes_eq}
-use Rattle.std.specs.Option.{option_and_then}
-use Rattle.std.proofs.lemmas.List.Folds.{list_all-append, list_all-map}
-use Rattle.std.proofs.lemmas.Bool.{and_parts, and_from}
-use Rattle.trio_rights.specs.declared.kind.Kind.{Kind}
-use Rattle.trio_rights.specs.declared.kind.Kind.TheVariants.{Regular, Directory}
-use Rattle.trio_layout.specs.declared.range.CoreRange.{CoreRange}
-use Rattle.trio_layout.specs.Range.{is_core}
-use Rattle.trio_layout.specs.Body.{body_of}
-use Rattle.trio_layout.specs.Index.{Index, index_at, index_bytes, index_fits, link_fits, index_of}
-use Rattle.trio_lists.specs.Lists.{result_map, result_then, gathered, there_or}
-use Rattle.trio_lists.specs.Marked.{all_below}
-use Rattle.trio_layout.specs.Core.{Core, Location, at_page, nowhere, page_of}
-use Rattle.trio_layout.specs.Chain.{Chain, chain_from, chain_of, index_page, with_index}
-use Rattle.trio_layout.specs.Entries.{Listed, entries_on, page_entries, repeated_name, with_names_apart, entries_of_kind}
-use Rattle.trio_layout.specs.Survey.{Met, FileRead, file_of, file_with}
-use Rattle.trio_layout.proofs.EntryNumbers.{AreInodes, entries_on_fit, gathered_all, if_ok_at, if_ok_map, if_ok_then, if_ok_weaker, is_inode, unless_repeated_fit}
-use Rattle.trio_survey.specs.Within.{IsWithin, all_some}
+use Rattle.trio_survey.proofs.Words.{◌&&◌, ◌+◌, ◌-◌, ◌∙◌, ◌∷◌, ◌≡◌, Bool, Chain, Core, CoreRange, Directory, FileRead, IfOk, Index, IsWithin, Kind, List, Listed, Location, Met, None, Ok, Option, Regular, Some, [], all_below, all_some, and_from, and_parts, ap, at_page, body_of, bytes_eq, chain_from, chain_of, cond, entries_of_kind, entries_on, eqb, false, file_with, gathered, if_ok_at, if_ok_map, if_ok_then, if_ok_weaker, index_at, index_bytes, index_fits, index_page, is_core, leb, link_fits, list_all, list_all-append, ltb, map, min, nowhere, option_and_then, page_entries, page_of, refl, repeated_name, result_map, result_then, suc, sym, there_or, true, with_index, zero, ℕ}
+use Rattle.std.proofs.lemmas.List.Folds.{list_all-map}
+use Rattle.trio_layout.specs.Index.{index_of}
+use Rattle.trio_layout.specs.Entries.{with_names_apart}
+use Rattle.trio_layout.specs.Survey.{file_of}
+use Rattle.trio_layout.proofs.EntryNumbers.{AreInodes, entries_on_fit, gathered_all, is_inode, unless_repeated_fit}
 
 pub there_some : {X : Type 0} (place : Location) (o : Option X) (x : X) → there_or place o ≡ Ok x → o ≡ Some x
 there_some place None x e = absurd cc

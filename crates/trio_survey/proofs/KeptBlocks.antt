@@ -1,20 +1,11 @@
 -- What is kept of directory blocks, as one more is read.
-use Rattle.std.proofs.Common.{◌≡◌, ℕ, ◌-◌, ◌<◌, ◌≤◌, Bool, true, false, cond, List, [], ◌∷◌, ◌++◌, leb, ltb, length, set, take, drop, get_or, Option, None, Some, Result, Ok, Err, sym, refl, ap, ◌∙◌, subst, arith, inl, inr}
+use Rattle.trio_survey.proofs.Words.{◌++◌, ◌-◌, ◌<◌, ◌∙◌, ◌∷◌, ◌≡◌, ◌≤◌, Bool, CoreRange, DirEntry, Err, GoesOn, HasParts, IsGood, IsPart, List, Location, None, Ok, Option, Result, SaysBlocks, Some, Span, [], and_parts, ap, arith, block_kept, cases_eq, cond, core_with, drop, entries_kept, false, get_or, get_or-set_other, get_or-set_same, inl, inr, is_core, leb, length, length-set, ltb, nat_tests, page_entries, refl, set, subst, sym, take, true, ℕ}
 use Rattle.std.specs.Prelude.{⊤, MatchOption, MatchResult}
 use Rattle.std.specs.Vec.{with_item}
-use Rattle.std.proofs.lemmas.Bool.{and_parts, cases_eq}
-use Rattle.std.proofs.lemmas.Bool.Decides.{nat_tests}
-use Rattle.std.proofs.lemmas.List.{get_or-set_same, get_or-set_other, length-set}
-use Rattle.trio_layout.specs.declared.range.CoreRange.{CoreRange}
-use Rattle.trio_layout.specs.Range.{core_count, is_core}
-use Rattle.trio_layout.specs.Entries.{page_entries}
-use Rattle.trio_survey.specs.Seen.{core_with}
-use Rattle.trio_survey.specs.declared.blocks.DirEntry.{DirEntry}
+use Rattle.trio_layout.specs.Range.{core_count}
 use Rattle.trio_survey.specs.declared.blocks.KeptBlocks.{KeptBlocks}
-use Rattle.trio_survey.specs.declared.blocks.Span.{Span}
-use Rattle.trio_survey.specs.inner.Blocks.{block_kept, entries_kept, GoesOn, HasParts, IsGood, IsPart, SaysBlock, SaysBlocks, StaysRead}
+use Rattle.trio_survey.specs.inner.Blocks.{SaysBlock, StaysRead}
 use Rattle.trio_survey.proofs.KeptLists.{behind, part_seen, part_stays}
-use Rattle.trio_layout.specs.Core.{Location}
 
 abbrev Read : Type 0
 Read = Result Span Location

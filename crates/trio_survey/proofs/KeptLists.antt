@@ -1,15 +1,8 @@
 -- Names and entries that are kept, as more of them come.
-use Rattle.std.proofs.Common.{◌≡◌, ℕ, ◌+◌, ◌<◌, ◌≤◌, List, [], ◌∷◌, ◌++◌, length, take, drop, map, get_or, sym, refl, ap, ◌∙◌, append_assoc, arith, inl, inr}
-use Rattle.std.proofs.lemmas.List.{take_more, get_or_append_left, map-append, take_all, take-append-le, take-append-drop, drop-append-le, length-drop, length-append}
+use Rattle.trio_survey.proofs.Words.{◌++◌, ◌+◌, ◌<◌, ◌∙◌, ◌∷◌, ◌≡◌, ◌≤◌, AreNamed, DirEntry, In, In-cases, IsPart, List, Listed, Span, [], ap, append_assoc, arith, drop, drop-append-le, entry_seen, get_or, get_or_append_left, inl, inr, length, length-append, length-drop, listed_seen, map, map-append, refl, sym, take, take-append-drop, take-append-le, take_all, take_more, ℕ}
 use Rattle.std.proofs.Math.Seq.{drop-append_seam}
-use Rattle.trio_lists.specs.Lists.{In}
-use Rattle.trio_lists.proofs.Members.{In-cases}
-use Rattle.trio_layout.specs.Entries.{Listed}
-use Rattle.trio_survey.specs.Seen.{listed_seen}
 use Rattle.trio_survey.specs.declared.file.EntryRead.{EntryRead}
-use Rattle.trio_survey.specs.declared.blocks.DirEntry.{DirEntry}
-use Rattle.trio_survey.specs.declared.blocks.Span.{Span}
-use Rattle.trio_survey.specs.inner.Blocks.{entry_seen, part, AreNamed, IsFront, IsPart}
+use Rattle.trio_survey.specs.inner.Blocks.{part, IsFront}
 
 -- a part stays as the list grows
 pub part-grown : {X : Type 0} (s : Span) (xs ys : List X) → s.from + s.len ≤ length xs → part s (xs ++ ys) ≡ part s xs

@@ -1,9 +1,7 @@
 -- Places for core pages.
-use Rattle.std.proofs.Common.{◌≡◌, ◌≤◌, ◌+◌, ℕ, zero, suc, cond, List, [], ◌∷◌, ◌++◌, length, get_or, Option, None, refl, arith}
-use Rattle.std.specs.Prelude.{is_some}
+use Rattle.trio_survey.proofs.Words.{◌++◌, ◌+◌, ◌∷◌, ◌≡◌, ◌≤◌, List, None, Option, [], arith, cond, count_by-le-length, get_or, is_some, kept_count, length, refl, suc, zero, ℕ}
 use Rattle.std.specs.List.{sum_by}
-use Rattle.std.proofs.lemmas.List.Sums.{count_by-le-length, sum_by-append}
-use Rattle.trio_survey.specs.inner.Kept.{kept_count}
+use Rattle.std.proofs.lemmas.List.Sums.{sum_by-append}
 
 -- no more pages were looked at than have a place
 pub few_kept : (kept : List (Option (Option (List ℕ)))) → kept_count kept ≤ length kept

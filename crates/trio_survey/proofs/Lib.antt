@@ -16,3 +16,4 @@ pub mod Standing
 pub mod ListedAgain
 pub mod Verdicts
 pub mod PickProofs
+mod Words

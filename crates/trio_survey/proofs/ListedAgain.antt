@@ -1,32 +1,16 @@
 -- A file whose chain is that of one that was passed.
-use Rattle.std.proofs.Common.{◌≡◌, ℕ, zero, suc, ◌+◌, ◌-◌, ◌<◌, min, Bool, true, false, ◌||◌, eqb, List, [], ◌∷◌, ◌++◌, map, length, get_or, replicate, set, take, Option, Some, None, Ok, sym, refl, ap, ◌∙◌, inl, inr, ◌⊎◌, arith}
-use Rattle.std.specs.List.{flat_map}
-use Rattle.std.specs.Prelude.{is_some}
-use Rattle.std.proofs.lemmas.Bool.{eq-eqb, or_left, or_right, false≢true}
-use Rattle.std.proofs.lemmas.List.{append-nil, take_more}
-use Rattle.std.proofs.lemmas.List.Concat.{flat_map-append}
-use Rattle.trio_rights.specs.Row.{Row}
-use Rattle.trio_rights.specs.declared.kind.Kind.{Kind}
-use Rattle.trio_rights.specs.declared.kind.Kind.TheVariants.{Regular, Directory}
-use Rattle.trio_lists.specs.Lists.{In, is_among, are_new, result_map, result_then, there_or}
-use Rattle.trio_lists.specs.Marked.{MarksJust}
-use Rattle.trio_lists.proofs.Marked.{is_among-append}
+use Rattle.trio_survey.proofs.Words.{◌++◌, ◌+◌, ◌-◌, ◌<◌, ◌||◌, ◌∙◌, ◌∷◌, ◌≡◌, Bool, Chain, Core, Directory, FaultAt, FileRead, In, IsListedBefore, Kind, List, Listed, MarksJust, Met, None, Ok, Option, Pick, Regular, Row, Some, Stands, Tabled, [], ap, append-nil, are_new, arith, block_count, body_of, chain_from, chain_of, children, children_in, entries_of_kind, eqb, false, false≢true, file_with, first_listed, flat_map, flat_map-append, get_or, heads_of, index_count, index_page, inl, inr, is_among, is_among-append, is_some, length, listed_numbers, listed_pages, map, met_in, min, nowhere, numbers, pages_in, pages_of, refl, replicate, result_map, result_then, root_of, row_by, set, suc, sym, take, take_more, there_or, true, with_index, zero, ℕ}
+use Rattle.std.proofs.Common.{◌⊎◌}
+use Rattle.std.proofs.lemmas.Bool.{eq-eqb, or_left, or_right}
 use Rattle.trio_lists.proofs.Members.{In-left, In-right, result_map-Ok, result_then-Ok}
 use Rattle.trio_layout.specs.declared.body.Body.{Body}
-use Rattle.trio_layout.specs.Body.{block_count, body_of}
-use Rattle.trio_layout.specs.Core.{Core, nowhere}
-use Rattle.trio_layout.specs.Chain.{Chain, chain_from, chain_of, index_count, index_page, with_index}
-use Rattle.trio_layout.specs.Entries.{Listed, entries_of_kind}
-use Rattle.trio_layout.specs.Survey.{Met, FileRead, Pick, children, children_in, file_of, file_with, first_listed, met_in, numbers, pages_in, pages_of, root_of, row_by}
-use Rattle.trio_layout.specs.Sound.{listed_numbers, listed_pages}
+use Rattle.trio_layout.specs.Survey.{file_of}
 use Rattle.trio_survey.specs.declared.again.Heads.{Heads}
-use Rattle.trio_survey.specs.inner.Again.{heads_after, heads_of, IsListedBefore, KnowsAllHeads, KnowsHeads, WasPassed}
-use Rattle.trio_survey.specs.inner.Walk.{Stands, Tabled}
+use Rattle.trio_survey.specs.inner.Again.{heads_after, KnowsAllHeads, KnowsHeads, WasPassed}
 use Rattle.trio_survey.proofs.Fits.{file_within}
 use Rattle.trio_survey.proofs.Repeats.{numbers_met, numbers_of, repeat_not_new, repeats_keep}
 use Rattle.trio_survey.proofs.Standing.{stands_more}
 use Rattle.trio_survey.proofs.Tables.{next_is_new, tabled_by}
-use Rattle.trio_layout.specs.declared.refusal.FaultAt.{FaultAt}
 
 -- ---- where the chains of passed files begin
 

@@ -1,24 +1,13 @@
 -- Names one after another, up to the first that comes again.
-use Rattle.std.proofs.Common.{◌≡◌, ℕ, suc, zero, ◌+◌, ◌<◌, ◌≤◌, Bool, true, false, not, ◌||◌, cond, List, [], ◌∷◌, ◌++◌, map, length, get_or, set, replicate, take, drop, Option, Some, None, sym, refl, ap, ◌∙◌, append_assoc, inl, inr, arith}
-use Rattle.std.specs.List.{flat_map}
-use Rattle.std.specs.Str.{bytes_eq}
-use Rattle.std.specs.Prelude.{slice_get}
-use Rattle.std.specs.Ordering.{is_eq, nat_cmp}
-use Rattle.std.specs.Cmp.Lexicographic.{slice_cmp}
-use Rattle.std.specs.BTreeMap.{BTreeMap, get}
+use Rattle.trio_survey.proofs.Words.{◌++◌, ◌+◌, ◌<◌, ◌||◌, ◌∙◌, ◌∷◌, ◌≡◌, ◌≤◌, AreNamed, Bool, DirEntry, In, List, Listed, Location, MarksNames, None, Option, Regular, Some, [], ap, append-nil, append_assoc, arith, bytes_eq, cases_eq, cond, drop, entry_seen, false, flat_map, flat_map-append, get, get_or, get_or-set_other, get_or-set_same, get_or_append_left, get_or_default, get_or_from_slice_get, inl, inr, length, length-append, length-replicate, length-set, map, map-append, nat_cmp, not, place_of, refl, repeated_name, replicate, set, slice_cmp, slice_get, slice_get_within, suc, sym, take, take_more, true, zero, ℕ}
+use Rattle.std.specs.Ordering.{is_eq}
+use Rattle.std.specs.BTreeMap.{BTreeMap}
 use Rattle.std.proofs.lemmas.Map.Text.{is_eq-slice_cmp}
-use Rattle.std.proofs.lemmas.Bool.{cases_eq}
-use Rattle.std.proofs.lemmas.List.{append-nil, get_or_default, map-append, take_more, get_or-set_same, get_or-set_other, get_or_append_left, length-append, length-set, length-replicate}
-use Rattle.std.proofs.lemmas.Option.{get_or_from_slice_get, none-some, same_Some, slice_get-get_or, slice_get_within}
+use Rattle.std.proofs.lemmas.Option.{none-some, same_Some, slice_get-get_or}
 use Rattle.std.proofs.lemmas.Slice.Eq.{bytes_eq-Decides}
 use Rattle.std.proofs.Math.Seq.{drop-cons}
-use Rattle.std.proofs.lemmas.List.Concat.{flat_map-append}
-use Rattle.trio_lists.specs.Lists.{In}
-use Rattle.trio_rights.specs.declared.kind.Kind.TheVariants.{Regular}
-use Rattle.trio_layout.specs.Core.{Location}
-use Rattle.trio_layout.specs.Entries.{Listed, has_name, place_of, repeated_name}
-use Rattle.trio_survey.specs.declared.blocks.DirEntry.{DirEntry}
-use Rattle.trio_survey.specs.inner.Blocks.{entry_seen, AreApart, AreNamed, AreNumbered, MarksNames}
+use Rattle.trio_layout.specs.Entries.{has_name}
+use Rattle.trio_survey.specs.inner.Blocks.{AreApart, AreNumbered}
 
 -- ---- numbers of names
 

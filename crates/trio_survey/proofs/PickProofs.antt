@@ -1,5 +1,5 @@
 -- The laws of picks.
-use Rattle.std.proofs.Common.{◌≡◌, ℕ, zero, suc, Option, None, get_or, refl, ap}
+use Rattle.trio_survey.proofs.Words.{◌≡◌, None, Option, ap, get_or, refl, suc, zero, ℕ}
 use Rattle.std.specs.Prelude.{replicate}
 use mathlib.Core.Path.{fun_ext}
 use Rattle.trio_survey.specs.declared.picks.Picked.{Picked}

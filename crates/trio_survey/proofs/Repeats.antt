@@ -1,18 +1,9 @@
 -- What is listed again, of numbers, entries and files.
-use Rattle.std.proofs.Common.{◌≡◌, ℕ, Bool, true, false, not, ◌&&◌, ◌||◌, List, [], ◌∷◌, ◌++◌, map, Option, Some, None, Ok, is_ok, inl, inr, sym, refl, ap, ◌∙◌, append_assoc}
-use Rattle.std.specs.List.{list_all}
-use Rattle.std.specs.Option.{option_or}
-use Rattle.std.proofs.lemmas.List.{append-nil, map-append}
-use Rattle.std.proofs.lemmas.List.Concat.{flat_map-append}
-use Rattle.std.proofs.lemmas.Bool.{and_from, and_parts, and_right}
-use Rattle.trio_lists.specs.Lists.{In, is_among, are_new}
-use Rattle.trio_layout.specs.Core.{Core, Location, at_page}
-use Rattle.trio_layout.specs.Entries.{Listed, place_of}
-use Rattle.trio_layout.specs.Survey.{Met, FileRead, Pick, file_of, children, children_in, met_in, numbers, pages_of, pages_in, survey}
-use Rattle.trio_layout.specs.Sound.{are_in_grammar, are_listed_once, is_sound, listings, listed_numbers, listed_pages, page_listings, PageListing, FailsAt, ListsNumberAgain, ListsPageAgain}
-use Rattle.trio_lists.proofs.Marked.{is_among-append, are_new-append, are_new-push, and-false}
-use Rattle.trio_survey.specs.inner.Walk.{Repeats, RepeatsEntry, FirstRepeat, FirstEntry, RepeatsAt, IsFirstRepeat, file_repeat}
-use Rattle.trio_layout.specs.declared.refusal.FaultAt.{FaultAt}
+use Rattle.trio_survey.proofs.Words.{◌&&◌, ◌++◌, ◌||◌, ◌∙◌, ◌∷◌, ◌≡◌, Bool, Core, FailsAt, FaultAt, FileRead, FirstEntry, FirstRepeat, In, IsFirstRepeat, List, Listed, Location, Met, None, Ok, Option, Pick, Some, [], and_from, and_parts, ap, append-nil, append_assoc, are_in_grammar, are_listed_once, are_new, are_new-append, at_page, children, children_in, false, file_of, file_repeat, flat_map-append, inl, inr, is_among, is_among-append, is_ok, list_all, listed_numbers, listed_pages, map, map-append, met_in, not, numbers, option_or, pages_in, pages_of, place_of, refl, survey, sym, true, ℕ}
+use Rattle.std.proofs.lemmas.Bool.{and_right}
+use Rattle.trio_layout.specs.Sound.{is_sound, listings, page_listings, PageListing, ListsNumberAgain, ListsPageAgain}
+use Rattle.trio_lists.proofs.Marked.{are_new-push, and-false}
+use Rattle.trio_survey.specs.inner.Walk.{Repeats, RepeatsEntry, RepeatsAt}
 
 -- ---- numbers
 

@@ -1,14 +1,6 @@
 -- What a file says doesn't hang on the body of the root.
-use Rattle.std.proofs.Common.{◌≡◌, ℕ, suc, zero, ◌-◌, min, eqb, List, Result, Ok, Err, refl, ap, ◌∙◌}
-use Rattle.trio_rights.specs.declared.kind.Kind.{Kind}
-use Rattle.trio_rights.specs.declared.kind.Kind.TheVariants.{Regular, Directory}
-use Rattle.trio_layout.specs.Body.{body_of, block_count}
-use Rattle.trio_lists.specs.Lists.{result_map, result_then, there_or}
-use Rattle.trio_layout.specs.Core.{Core, nowhere}
-use Rattle.trio_layout.specs.Chain.{chain_from, chain_of, index_count, index_page, with_index}
-use Rattle.trio_layout.specs.Entries.{entries_of_kind}
-use Rattle.trio_layout.specs.Survey.{Met, file_of, file_with}
-use Rattle.trio_survey.specs.Seen.{core_with}
+use Rattle.trio_survey.proofs.Words.{◌-◌, ◌∙◌, ◌≡◌, Core, Directory, Err, Kind, List, Met, Ok, Regular, Result, ap, block_count, body_of, chain_from, chain_of, core_with, entries_of_kind, eqb, file_with, index_count, index_page, min, nowhere, refl, result_map, result_then, suc, there_or, with_index, zero, ℕ}
+use Rattle.trio_layout.specs.Survey.{file_of}
 
 -- the core without its root
 abbrev pub rootless : Core → Core

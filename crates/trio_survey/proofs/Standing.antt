@@ -1,28 +1,12 @@
 -- One file more of the walk, and its end.
-use Rattle.std.proofs.Common.{◌≡◌, ℕ, suc, zero, ◌+◌, ◌<◌, ◌≤◌, Bool, true, ◌&&◌, ◌||◌, ltb, List, [], ◌∷◌, ◌++◌, map, length, get_or, take, drop, Option, Some, None, Ok, Err, is_ok, inl, inr, sym, refl, ap, ◌∙◌, arith}
-use Rattle.std.specs.Option.{option_or}
-use Rattle.std.proofs.lemmas.List.{append-nil, map-append, length-append, take_more, drop_more, take-append-le, drop-append-le, take-append-drop, take_all, drop_all}
-use Rattle.std.proofs.lemmas.List.Concat.{flat_map-append}
-use Rattle.std.proofs.lemmas.List.Folds.{list_all-append}
-use Rattle.std.proofs.lemmas.List.Sums.{count_by-le-length}
-use Rattle.std.proofs.lemmas.Bool.{and_from, and_parts}
-use Rattle.trio_rights.specs.Row.{Row}
-use Rattle.trio_lists.specs.Lists.{In, is_among, are_new}
-use Rattle.trio_layout.specs.Core.{Core, Location}
-use Rattle.trio_lists.specs.Marked.{MarksJust, all_below}
-use Rattle.trio_layout.specs.Queue.{pass_on, pass, queue}
-use Rattle.trio_layout.specs.Survey.{Met, FileRead, file_of, first_listed, numbers, children, children_in, Pick, root_of, met_in, survey, pages_of, pages_in}
-use Rattle.trio_layout.specs.Sound.{IsSound, are_in_grammar, are_listed_once, listed_numbers, listed_pages, rows_table, owners_table, FailsAt}
-use Rattle.trio_layout.proofs.QueueLaws.{files_are_levels, waiting_is_met, among-first_listed}
-use Rattle.trio_lists.proofs.Marked.{is_among-append}
-use Rattle.trio_survey.specs.declared.fault.SurveyFault.{SurveyFault}
-use Rattle.trio_survey.specs.declared.fault.SurveyFault.TheVariants.{Fails, NoMemory}
-use Rattle.trio_survey.specs.Answer.{IsRefused}
-use Rattle.trio_survey.specs.Within.{all_some}
-use Rattle.trio_survey.specs.inner.Walk.{AreMarked, FirstRepeat, FirstEntry, IsFault, IsFirstRepeat, Stands, Tabled, file_repeat}
+use Rattle.trio_survey.proofs.Words.{◌&&◌, ◌++◌, ◌+◌, ◌<◌, ◌||◌, ◌∙◌, ◌∷◌, ◌≡◌, ◌≤◌, AreMarked, Bool, Core, Err, Fails, FailsAt, FaultAt, FileRead, FirstEntry, FirstRepeat, In, IsFirstRepeat, IsRefused, IsSound, List, Location, MarksJust, Met, NoMemory, None, Ok, Option, Pick, Row, Some, Stands, SurveyFault, Tabled, [], all_below, all_some, among-first_listed, and_from, and_parts, ap, append-nil, are_in_grammar, are_listed_once, are_new, arith, children, children_in, count_by-le-length, drop, drop-append-le, drop_more, file_of, file_repeat, first_listed, flat_map-append, get_or, inl, inr, is_among, is_among-append, is_ok, length, length-append, list_all-append, listed_numbers, listed_pages, ltb, map, map-append, met_in, numbers, option_or, owners_table, pages_in, pages_of, queue, refl, root_of, rows_table, suc, sym, take, take-append-drop, take-append-le, take_all, take_more, true, zero, ℕ}
+use Rattle.std.proofs.lemmas.List.{drop_all}
+use Rattle.trio_layout.specs.Queue.{pass_on, pass}
+use Rattle.trio_layout.specs.Survey.{survey}
+use Rattle.trio_layout.proofs.QueueLaws.{files_are_levels, waiting_is_met}
+use Rattle.trio_survey.specs.inner.Walk.{IsFault}
 use Rattle.trio_survey.proofs.Repeats.{fails_unsound, first_repeat, numbers_of, numbers_met}
 use Rattle.trio_survey.proofs.Tables.{all_first, owners_are, rows_are}
-use Rattle.trio_layout.specs.declared.refusal.FaultAt.{FaultAt}
 use Rattle.trio_layout.specs.declared.refusal.Rule.TheVariants.{Grammar, Owning}
 use Rattle.trio_layout.specs.Rule.{rule_number}
 

@@ -1,22 +1,12 @@
 -- The tables after one file more, and as whole lists.
-use Rattle.std.proofs.Common.{◌≡◌, ℕ, suc, zero, ◌+◌, ◌<◌, ◌≤◌, Bool, true, false, not, cond, eqb, ltb, List, [], ◌∷◌, ◌++◌, length, get_or, set, take, drop, Option, Some, None, Ok, sym, refl, ap, ◌∙◌, inl, inr, arith}
-use Rattle.std.specs.List.{find, list_all}
-use Rattle.std.specs.Option.{option_and_then}
-use Rattle.std.proofs.lemmas.List.{append-nil, map-append, length-set, get_or-set_same, get_or-set_other, get_or_default, drop_more, take-append-le, take_more, length-map, get_or-map, same_lists}
-use Rattle.std.proofs.lemmas.List.Concat.{flat_map-append}
-use Rattle.std.proofs.lemmas.Bool.{and_parts, and_from, or_parts, or_cases, cases_eq, false≢true}
-use Rattle.std.proofs.lemmas.Bool.Decides.{nat_tests}
-use Rattle.trio_rights.specs.Row.{Row}
-use Rattle.trio_lists.specs.Lists.{is_among, are_new, tabulated}
-use Rattle.trio_lists.specs.Marked.{all_below}
-use Rattle.trio_layout.specs.Core.{Core}
-use Rattle.trio_layout.specs.Queue.{queue}
-use Rattle.trio_layout.specs.Survey.{Met, FileRead, file_of, first_listed, numbers, children, Pick, root_of, row_by, row_of, row_read, owner_of, pages_of, pages_in}
-use Rattle.trio_layout.specs.Sound.{listed_pages, rows_table, owners_table}
+use Rattle.trio_survey.proofs.Words.{◌++◌, ◌+◌, ◌<◌, ◌∙◌, ◌∷◌, ◌≡◌, ◌≤◌, Bool, Core, FileRead, List, Met, None, Ok, Option, Pick, Row, Some, Tabled, [], all_below, all_some, and_from, and_parts, ap, append-nil, are_new, are_new-append, arith, below_at, cases_eq, children, cond, drop, drop_more, eqb, false, false≢true, file_of, first_listed, flat_map-append, get_or, get_or-map, get_or-set_other, get_or-set_same, get_or_default, inl, inr, is_among, is_among-append, length, length-map, length-set, list_all, listed_pages, ltb, map-append, nat_tests, not, numbers, option_and_then, or_cases, owners_table, pages_in, pages_of, queue, refl, root_of, row_by, rows_table, set, suc, sym, take, take-append-le, take_more, true, zero, ℕ}
+use Rattle.std.specs.List.{find}
+use Rattle.std.proofs.lemmas.List.{same_lists}
+use Rattle.std.proofs.lemmas.Bool.{or_parts}
+use Rattle.trio_lists.specs.Lists.{tabulated}
+use Rattle.trio_layout.specs.Survey.{row_of, row_read, owner_of}
 use Rattle.trio_layout.proofs.QueueLaws.{met_by, queue_distinct}
-use Rattle.trio_lists.proofs.Marked.{below_at, is_among-append, are_new-append}
-use Rattle.trio_survey.specs.Within.{all_some}
-use Rattle.trio_survey.specs.inner.Walk.{Tabled, Entered, owner_in}
+use Rattle.trio_survey.specs.inner.Walk.{Entered, owner_in}
 use Rattle.trio_survey.proofs.CorePages.{file_in_core, listed_not_below}
 use Rattle.trio_lists.proofs.Tabulated.{tabulated-length, tabulated-get}
 

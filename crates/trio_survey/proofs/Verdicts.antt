@@ -1,16 +1,7 @@
 -- What a comparison of the stored tables finds, and what it says of the image.
-use Rattle.std.proofs.Common.{◌≡◌, ℕ, List, Option, inl, inr, sym, ◌∙◌}
-use Rattle.std.proofs.lemmas.Bool.{false≢true}
-use Rattle.trio_rights.specs.Row.{Row}
-use Rattle.trio_layout.specs.declared.superblock.Superblock.{Superblock}
-use Rattle.trio_layout.specs.Survey.{plain}
-use Rattle.trio_layout.specs.Sound.{IsSound}
-use Rattle.trio_survey.specs.Stored.{core_in, image_in, PagesVerify, StoresTables}
-use Rattle.trio_survey.specs.declared.fault.SurveyFault.{SurveyFault}
-use Rattle.trio_survey.specs.declared.fault.SurveyFault.TheVariants.{Fails, NoMemory}
-use Rattle.trio_survey.specs.Answer.{IsRefused}
+use Rattle.trio_survey.proofs.Words.{◌∙◌, ◌≡◌, Fails, IsDenied, IsRefused, IsSound, List, NoMemory, Option, PagesVerify, Row, Superblock, SurveyFault, core_in, false≢true, image_in, inl, inr, plain, sym, ℕ}
+use Rattle.trio_survey.specs.Stored.{StoresTables}
 use Rattle.trio_survey.specs.inner.Compared.{IsTableFault}
-use Rattle.trio_survey.specs.Verdict.{IsDenied}
 
 -- what the survey says of the image
 pub denied_by_survey : (s : Superblock) (pages : List (Option (List ℕ))) (e : SurveyFault) → IsRefused (core_in s pages) plain e → IsDenied s pages e

@@ -1,22 +1,8 @@
 -- What an accepted bundle leaves verifies.
-use Rattle.std.proofs.Common.{◌≡◌, ℕ, Bool, true, false, cond, eqb, List, [], ◌∷◌, length, Option, Some, None, sym, refl, ap, ◌∙◌, inl, inr, slice_set, arith}
-use Rattle.std.specs.Option.{option_map, option_and_then}
-use Rattle.std.proofs.lemmas.Bool.{and_parts}
-use Rattle.std.proofs.lemmas.List.{length-set}
-use Rattle.trio_rights.specs.declared.rights.Creds.{Creds}
-use Rattle.trio_layout.specs.Core.{Core, page_of}
-use Rattle.trio_lists.specs.Lists.{is_among, In}
-use Rattle.trio_layout.specs.Sound.{is_sound, rows_table, owners_table}
-use Rattle.trio_layout.specs.Survey.{Met, Pick, plain, file_of, survey, pages_of, owner_of, row_read}
-use Rattle.trio_layout.specs.Accept.{is_accepted, next, with_bodies}
+use Rattle.trio_surveys.proofs.Words.{◌∙◌, ◌∷◌, ◌≡◌, AgreeOn, Bool, Bundle, Core, Creds, Image, In, IsFit, List, Met, None, Option, Pick, Sheet, Some, Verifies, [], and_parts, ap, arith, bundle_sheets, cond, eqb, false, file_of, find-In, inl, inr, is_among, is_sound, length, length-set, option_and_then, option_map, owner_of, owners_table, page_of, pages_of, plain, proposed, refl, row_read, rows_table, slice_set, survey, sym, tabulated-same, true, with_bodies, with_other, ℕ}
+use Rattle.trio_layout.specs.Accept.{is_accepted, next}
 use Rattle.trio_layout.specs.Allowed.{is_allowed}
-use Rattle.trio_layout.specs.Image.{IsFit, Image}
-use Rattle.trio_rights.specs.Bundle.{Bundle, bundle_sheets}
-use Rattle.trio_layout.specs.Proposed.{proposed, proposed_pick}
-use Rattle.trio_rights.specs.Sheets.{Sheet}
-use Rattle.trio_layout.specs.Verifies.{Verifies}
-use Rattle.trio_lists.proofs.Tabulated.{tabulated-same}
-use Rattle.trio_lists.proofs.Filters.{find-In}
+use Rattle.trio_layout.specs.Proposed.{proposed_pick}
 use Rattle.trio_surveys.proofs.Local.{read_at, file_agrees, survey_local}
 use Rattle.trio_surveys.proofs.Owned.{sound_parts}
 use Rattle.trio_surveys.proofs.Picked.{all_listed, page_put_is, listed_placed, file_put, pages_put, survey_put, sound_put}
@@ -24,7 +10,7 @@ use Rattle.trio_surveys.proofs.Putting.{put_on, put_on-length}
 use Rattle.trio_surveys.proofs.SheetLaws.{length-with_pages}
 use Rattle.trio_surveys.proofs.SoundLocal.{agreeing_sound}
 use Rattle.trio_surveys.proofs.Sheets.{Pages, with_pages_from, page_there, page_from}
-use Rattle.trio_surveys.specs.Reading.{with_picked_bodies, with_other, AgreeOn}
+use Rattle.trio_surveys.specs.Reading.{with_picked_bodies}
 
 then_same : {X Y : Type 0} (o : Option X) (f g : X → Option Y) → ((x : X) → o ≡ Some x → f x ≡ g x) → option_and_then f o ≡ option_and_then g o
 then_same None f g h = refl

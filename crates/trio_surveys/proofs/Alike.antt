@@ -1,8 +1,5 @@
 -- Rows that are alike, and tests of all numbers up to one.
-use Rattle.std.proofs.Common.{◌≡◌, ℕ, suc, zero, ◌<◌, ◌≤◌, Bool, true, Option, Some, ap, ◌∙◌, inl, inr, ◌⊎◌, arith}
-use Rattle.std.proofs.lemmas.Bool.{and_parts, eqb-true, false≢true, cases_lt}
-use Rattle.trio_rights.specs.Row.{Row}
-use Rattle.trio_rights.specs.declared.kind.Kind.{Kind}
+use Rattle.trio_surveys.proofs.Words.{◌<◌, ◌∙◌, ◌≡◌, ◌≤◌, ◌⊎◌, Bool, Kind, Option, Row, Some, and_parts, ap, arith, cases_lt, eqb-true, false≢true, inl, inr, suc, true, zero, ℕ}
 use Rattle.trio_layout.specs.Allowed.{same_row, all_up_to}
 use Rattle.trio_rights.specs.Kind.{same_kind}
 

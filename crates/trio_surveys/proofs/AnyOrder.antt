@@ -1,19 +1,8 @@
 -- The bodies of a sound survey at their places, in any order, but for those that stand there already.
-use Rattle.std.proofs.Common.{◌≡◌, ℕ, true, List, [], ◌∷◌, Option, Some, None, slice_get, sym, refl, ap, ◌∙◌, inl, inr, ◌⊎◌, arith}
-use Rattle.std.specs.Option.{option_map}
-use Rattle.std.proofs.lemmas.Bool.{cases_eq, cases_Bool, both_ways}
-use Rattle.trio_layout.specs.Range.{is_core}
-use Rattle.trio_lists.specs.Lists.{In}
-use Rattle.trio_layout.specs.Core.{Core, page_of}
-use Rattle.trio_layout.specs.Entries.{Listed, body_in_slot}
-use Rattle.trio_layout.specs.Survey.{Met, Pick, survey, children}
-use Rattle.trio_layout.specs.Sound.{is_sound}
-use Rattle.trio_layout.specs.Image.{IsFit, body_at_place}
-use Rattle.trio_layout.specs.Accept.{with_bodies}
+use Rattle.trio_surveys.proofs.Words.{◌∙◌, ◌∷◌, ◌≡◌, ◌⊎◌, Core, In, IsFit, List, Listed, Met, None, Option, Pick, Some, [], ap, arith, body_at_place, body_in_slot, both_ways, cases_Bool, cases_eq, children, flat_map-In, inl, inr, is_core, is_sound, option_map, page_of, refl, slice_get, survey, sym, true, with_bodies, ℕ}
 use Rattle.trio_surveys.specs.SurveyLaws.{BodiesInAnyOrder}
 use Rattle.trio_surveys.proofs.Cores.{page_is_core}
 use Rattle.trio_surveys.proofs.Images.{root_or_listed}
-use Rattle.trio_lists.proofs.Members.{flat_map-In}
 use Rattle.trio_surveys.proofs.PageSlots.{page_by_slots, pages_same}
 use Rattle.trio_surveys.proofs.Picked.{all_listed, bodies_are, listed_are_met, listed_no_root, listed_placed, same_place}
 use Rattle.trio_surveys.proofs.Putting.{put_on, put_on-none, put_on-front, put_on-body, put_on-length, with_bodies-get, ArePlaced}

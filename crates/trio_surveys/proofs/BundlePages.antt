@@ -1,20 +1,8 @@
 -- The pages of a bundle alone, and the same pages put in place in an image.
-use Rattle.std.proofs.Common.{◌≡◌, ℕ, ◌<◌, ◌≤◌, true, ltb, leb, List, [], ◌∷◌, length, Option, Some, None, slice_get, slice_set, sym, ap, ◌∙◌, inl, inr, arith}
-use Rattle.std.specs.Prelude.{replicate}
-use Rattle.std.specs.Option.{option_map}
-use Rattle.std.proofs.lemmas.List.{length-set, length-replicate}
-use Rattle.std.proofs.lemmas.Bool.{and_parts, ltb-true}
-use Rattle.trio_lists.specs.Lists.{In}
-use Rattle.trio_layout.specs.Range.{is_core}
-use Rattle.trio_layout.specs.Core.{Core, page_of}
-use Rattle.trio_rights.specs.declared.rights.Creds.{Creds}
-use Rattle.trio_rights.specs.Sheets.{Sheet, sheet_numbers, with_pages}
-use Rattle.trio_layout.specs.Image.{Image}
-use Rattle.trio_rights.specs.Bundle.{Bundle, bundle_sheets, bundle_pages}
-use Rattle.trio_layout.specs.Proposed.{proposed}
+use Rattle.trio_surveys.proofs.Words.{◌<◌, ◌∙◌, ◌∷◌, ◌≡◌, ◌≤◌, Bundle, Core, Creds, Image, In, List, None, Option, Sheet, Some, [], and_parts, ap, arith, bundle_core, bundle_pages, bundle_sheets, case_of, inl, inr, is_core, leb, length, length-set, ltb, ltb-true, option_map, page_of, proposed, replicate, sheet_numbers, slice_get, slice_set, sym, true, with_pages, ℕ}
+use Rattle.std.proofs.lemmas.List.{length-replicate}
 use Rattle.trio_surveys.proofs.SheetLaws.{get-set_same}
 use Rattle.trio_surveys.proofs.Sheets.{Pages, among_cases, with_pages_apart, page_from, place_there}
-use Rattle.trio_layout.specs.Case.{case_of, bundle_core}
 
 -- a page that is put in place is the same over any two lists that have a place for it
 handed : (ss : List Sheet) (a b : Pages) (p : ℕ) → p < length a → p < length b → In p (sheet_numbers ss) → (bytes : List ℕ) × (slice_get (with_pages ss a) p ≡ Some (Some bytes)) × (slice_get (with_pages ss b) p ≡ Some (Some bytes))

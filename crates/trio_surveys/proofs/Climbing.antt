@@ -1,7 +1,8 @@
 -- Climbs to the root.
-use Rattle.std.proofs.Common.{◌≡◌, ℕ, suc, zero, ◌≤◌, true, false, not, ◌&&◌, eqb, sym, ap, ◌∙◌, inl, inr, arith}
-use Rattle.std.proofs.lemmas.Bool.{and_parts, and_from, or_cases, or_left, or_right, eqb-true, both_ways, cases_Bool, not_from_false}
-use Rattle.trio_layout.specs.Edges.{climbs, climbs_clear}
+use Rattle.trio_surveys.proofs.Words.{◌&&◌, ◌∙◌, ◌≡◌, ◌≤◌, and_from, and_parts, ap, arith, both_ways, cases_Bool, climbs, eqb, eqb-true, false, inl, inr, or_cases, or_right, suc, sym, true, zero, ℕ}
+use Rattle.std.proofs.Common.{not}
+use Rattle.std.proofs.lemmas.Bool.{or_left, not_from_false}
+use Rattle.trio_layout.specs.Edges.{climbs_clear}
 
 module _ (parent : ℕ → ℕ) where
   -- more steps do as well

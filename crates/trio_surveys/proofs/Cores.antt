@@ -1,17 +1,7 @@
 -- The pages that a file in the grammar lists are core pages.
-use Rattle.std.proofs.Common.{◌≡◌, ℕ, suc, zero, ◌-◌, min, Bool, true, false, cond, eqb, List, ◌∷◌, ◌++◌, Option, Some, None, Ok, sym, ap, refl, ◌∙◌, subst, inl, inr, arith}
+use Rattle.trio_surveys.proofs.Words.{◌++◌, ◌-◌, ◌∙◌, ◌∷◌, ◌≡◌, Bool, Chain, Core, CoreRange, FileRead, In, In-cases, In-left, In-right, Index, List, Met, None, Ok, Option, Some, and_parts, ap, arith, at_page, block_count, chain_from, cond, cond_some, eqb, false, file_of, index_count, index_page, inl, inr, is_core, list_all-In, min, option_and_then-Some, page_of, pages_of, refl, result_map, result_map-Ok, result_then-Ok, subst, suc, sym, there_or-Ok, true, with_index, zero, ℕ}
 use Rattle.std.specs.List.{list_all}
-use Rattle.std.proofs.lemmas.Bool.{and_parts}
-use Rattle.std.proofs.lemmas.Option.{cond_some}
-use Rattle.trio_layout.specs.declared.range.CoreRange.{CoreRange}
-use Rattle.trio_layout.specs.Range.{is_core}
-use Rattle.trio_layout.specs.Body.{block_count}
-use Rattle.trio_layout.specs.Index.{Index, index_of}
-use Rattle.trio_lists.specs.Lists.{In, result_map}
-use Rattle.trio_layout.specs.Core.{Core, at_page, page_of}
-use Rattle.trio_layout.specs.Chain.{Chain, chain_from, index_count, index_page, with_index}
-use Rattle.trio_layout.specs.Survey.{Met, FileRead, file_of, pages_of}
-use Rattle.trio_lists.proofs.Members.{In-cases, In-left, In-right, list_all-In, result_map-Ok, result_then-Ok, option_and_then-Some, there_or-Ok}
+use Rattle.trio_layout.specs.Index.{index_of}
 use Rattle.trio_surveys.proofs.Local.{reads_from}
 use Rattle.trio_surveys.proofs.Owned.{pages_are}
 

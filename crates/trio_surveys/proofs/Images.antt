@@ -1,26 +1,15 @@
 -- What a sound survey and its tables say of files, rows, owners and bodies.
-use Rattle.std.proofs.Common.{◌≡◌, ℕ, ◌<◌, ◌≤◌, true, false, cond, eqb, ltb, leb, List, [], ◌∷◌, Option, Some, None, Result, Ok, Err, sym, refl, ap, ◌∙◌, subst, inl, inr, ◌⊎◌, arith}
-use Rattle.std.specs.Prelude.{is_some, slice_index}
+use Rattle.trio_surveys.proofs.Words.{◌<◌, ◌∙◌, ◌∷◌, ◌≡◌, ◌≤◌, ◌⊎◌, Core, FileRead, Image, In, In-find, IsFit, List, Location, Met, None, Ok, Option, Pick, Result, Row, Some, [], and_parts, ap, are_new, arith, body_by_row, body_in_slot, cases_lt, children, cond, eq-eqb, eqb, eqb-true, false, false_from_ne_true, false≢true, file_of, find-In, flat_map-In, inl, inr, is_among, is_among-In, is_some, is_sound, le-ltb, leb, leb-true, ltb, ltb-true, ne_eqb, numbers, numbers-flat, option_and_then, option_and_then-Some, option_map_or, owner_of, owners_table, page_of, pages_of, plain, refl, root_of, row_at, row_by, row_of, row_read, rows_table, settled_body, slice_index, subst, survey, sym, tabulated-get, true, ℕ}
+use Rattle.std.proofs.Common.{Err}
 use Rattle.std.specs.List.{find}
-use Rattle.std.specs.Option.{option_and_then, option_map_or}
-use Rattle.std.proofs.lemmas.Bool.{and_parts, cases_lt, eqb-true, eq-eqb, ne_eqb, ltb-true, leb-true, lt-ltb, le-ltb, false_from_ne_true, false≢true}
-use Rattle.trio_rights.specs.Row.{Row}
-use Rattle.trio_layout.specs.Core.{Core, Location, page_of}
-use Rattle.trio_layout.specs.Entries.{body_in_slot}
-use Rattle.trio_lists.specs.Lists.{is_among, are_new, In}
-use Rattle.trio_layout.specs.Sound.{is_sound, rows_table, owners_table}
-use Rattle.trio_layout.specs.Survey.{Met, Pick, plain, FileRead, file_of, survey, children, root_of, numbers, pages_of, owner_of, row_of, row_by, row_read}
-use Rattle.trio_layout.specs.Image.{IsFit, Image, row_at, settled_body, body_by_row}
+use Rattle.std.proofs.lemmas.Bool.{lt-ltb}
 use Rattle.trio_surveys.proofs.Cores.{listed_is_core}
 use Rattle.trio_surveys.proofs.Local.{read_at}
 use Rattle.trio_lists.proofs.Gathered.{one_keyed}
-use Rattle.trio_lists.proofs.Members.{flat_map-In, is_among-In, option_and_then-Some}
 use Rattle.trio_surveys.proofs.Owned.{sound_parts, owner_is}
 use Rattle.trio_surveys.proofs.Picked.{all_listed, listed_no_root}
-use Rattle.trio_layout.proofs.Walks.{numbers-flat}
 use Rattle.trio_surveys.proofs.Tree.{survey_tree, child_from, child_placed, child_numbered}
-use Rattle.trio_lists.proofs.Filters.{find-In, In-find}
-use Rattle.trio_lists.proofs.Tabulated.{tabulated-get, tabulated-past}
+use Rattle.trio_lists.proofs.Tabulated.{tabulated-past}
 
 -- what is there
 pub some_of : {X : Type 0} (o : Option X) → is_some o ≡ true → (x : X) × (o ≡ Some x)

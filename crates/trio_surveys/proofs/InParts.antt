@@ -1,12 +1,5 @@
 -- Bodies that are put into parts of the pages, and into all of them.
-use Rattle.std.proofs.Common.{◌≡◌, ℕ, zero, suc, List, [], ◌∷◌, ◌++◌, length, Option, Some, slice_get, slice_set, sym, refl, ap, ◌∙◌, inl, inr, cond, eqb, subst, arith}
-use Rattle.std.specs.Option.{option_map}
-use Rattle.std.proofs.lemmas.List.{length-set}
-use Rattle.trio_lists.specs.Lists.{In}
-use Rattle.trio_lists.proofs.Members.{In-left, In-right}
-use Rattle.trio_rights.specs.Sheets.{Sheet, sheet_numbers, with_pages}
-use Rattle.trio_layout.specs.Survey.{Met}
-use Rattle.trio_layout.specs.Accept.{with_bodies, with_body_in}
+use Rattle.trio_surveys.proofs.Words.{◌++◌, ◌∙◌, ◌∷◌, ◌≡◌, In, In-left, In-right, List, Met, Option, Sheet, Some, [], ap, arith, cond, eqb, inl, inr, length, length-set, option_map, refl, sheet_numbers, slice_get, slice_set, subst, suc, sym, with_bodies, with_body_in, with_pages, zero, ℕ}
 use Rattle.trio_surveys.specs.SurveyLaws.{BodiesInParts, StandApart}
 use Rattle.trio_surveys.proofs.Accepted.{length-bodies}
 use Rattle.trio_surveys.proofs.PageSlots.{pages_same}

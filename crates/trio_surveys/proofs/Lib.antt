@@ -27,3 +27,4 @@ pub mod RowsLaw
 pub mod Within
 pub mod BundlePages
 pub mod OwnFiles
+mod Words

@@ -1,19 +1,8 @@
 -- A survey goes by the pages that it reads, and by nothing else of a core.
-use Rattle.std.proofs.Common.{◌≡◌, ℕ, suc, zero, ◌-◌, min, true, ◌==◌, List, [], ◌∷◌, ◌++◌, Option, Some, Ok, is_ok, refl, ap, ◌∙◌, subst, inl, inr, arith}
-use Rattle.std.specs.Option.{option_and_then}
-use Rattle.trio_rights.specs.declared.kind.Kind.{Kind}
-use Rattle.trio_rights.specs.declared.kind.Kind.TheVariants.{Regular, Directory}
-use Rattle.trio_layout.specs.declared.body.Body.{Body}
-use Rattle.trio_layout.specs.Body.{body_of, block_count}
-use Rattle.trio_layout.specs.Index.{index_of}
-use Rattle.trio_lists.specs.Lists.{In, result_map, result_then, both, gathered, there_or}
-use Rattle.trio_layout.specs.Core.{Core, at_page, page_of}
-use Rattle.trio_layout.specs.Chain.{Chain, index_page, chain_from, chain_of, with_index, index_count}
-use Rattle.trio_layout.specs.Entries.{Listed, page_entries, entries_on, entries_of_kind}
-use Rattle.trio_layout.specs.Survey.{Met, Pick, Front, FileRead, file_of, children, children_in, root_of, levels, descend, first_listed, numbers, survey}
-use Rattle.trio_layout.specs.Sound.{are_in_grammar}
-use Rattle.trio_surveys.specs.Reading.{pages_read, with_other, AgreeOn}
-use Rattle.trio_lists.proofs.Members.{In-left, In-right, list_all-In, flat_map-same, result_map-Ok, result_then-Ok, there_or-Ok, is_ok-Ok}
+use Rattle.trio_surveys.proofs.Words.{◌++◌, ◌-◌, ◌∙◌, ◌∷◌, ◌≡◌, AgreeOn, Body, Chain, Core, Directory, FileRead, Front, In, In-left, In-right, Kind, List, Listed, Met, Ok, Option, Pick, Regular, Some, [], ap, are_in_grammar, arith, at_page, block_count, body_of, both, chain_from, chain_of, children, children_in, descend, entries_of_kind, entries_on, first_listed, flat_map-same, gathered, index_count, index_of, index_page, inl, inr, is_ok, levels, list_all-In, min, numbers, option_and_then, page_entries, page_of, pages_read, refl, result_map, result_map-Ok, result_then, result_then-Ok, root_of, subst, suc, there_or, there_or-Ok, true, with_index, with_other, zero, ℕ}
+use Rattle.std.proofs.Common.{◌==◌}
+use Rattle.trio_layout.specs.Survey.{file_of, survey}
+use Rattle.trio_lists.proofs.Members.{is_ok-Ok}
 
 -- a file that is read, by its parts
 pub record Reads (core : Core) (m : Met) (f : FileRead) : Type 0 where

@@ -1,23 +1,10 @@
 -- The survey of a core in which one file has another mode.
-use Rattle.std.proofs.Common.{◌≡◌, ℕ, suc, zero, ◌≤◌, Bool, true, false, cond, ◌&&◌, eqb, List, [], ◌∷◌, ◌++◌, Some, sym, refl, ap, ◌∙◌, inl, inr, arith}
-use Rattle.std.specs.Prelude.{map}
-use Rattle.std.specs.List.{flat_map}
-use Rattle.std.specs.Str.{bytes_eq}
-use Rattle.std.proofs.lemmas.List.{map-append}
-use Rattle.std.proofs.lemmas.Option.{cond_some}
-use Rattle.std.proofs.lemmas.Bool.{and_parts, and_from, le-leb}
-use Rattle.std.proofs.lemmas.Slice.Eq.{bytes_eq-Decides}
-use Rattle.std.specs.Int.{w16, w32, w64}
+use Rattle.trio_surveys.proofs.Words.{◌&&◌, ◌++◌, ◌∙◌, ◌∷◌, ◌≡◌, ◌≤◌, Body, Bool, CoreRange, Front, In, In-left, In-right, Kind, List, Met, Some, [], and_from, and_parts, ap, arith, body_with_mode, bytes_eq, bytes_eq-Decides, cond, cond_some, descend, eqb, false, first_listed, flat_map, inl, inr, is_among, levels, map, map-append, numbers, refl, suc, sym, true, w32, zero, ℕ}
+use Rattle.std.proofs.lemmas.Bool.{le-leb}
+use Rattle.std.specs.Int.{w16, w64}
 use Rattle.std.proofs.lemmas.Nat.{from_le_bytes-to_le_bytes_2}
 use Rattle.trio_page.specs.Field.{number_at, with_number, with_part}
-use Rattle.trio_rights.specs.declared.kind.Kind.{Kind}
 use Rattle.trio_layout.specs.Body.{body_of, body_at, body_fits, body_bytes}
-use Rattle.trio_lists.specs.Lists.{is_among, In}
-use Rattle.trio_layout.specs.Survey.{Met, Front, numbers, levels, descend, first_listed}
-use Rattle.trio_layout.specs.declared.body.Body.{Body}
-use Rattle.trio_layout.specs.declared.range.CoreRange.{CoreRange}
-use Rattle.trio_layout.specs.Mode.{body_with_mode}
-use Rattle.trio_lists.proofs.Members.{In-left, In-right}
 
 -- a body with another mode
 abbrev pub body_moded : ℕ → Body → Body

@@ -1,32 +1,13 @@
 -- The core with one body of another mode: its files, and that it is sound.
-use Rattle.std.proofs.Common.{◌≡◌, ℕ, suc, ◌<◌, ◌≤◌, Bool, true, false, cond, eqb, List, [], ◌∷◌, ◌++◌, length, Option, Some, None, sym, refl, ap, ◌∙◌, subst, inl, inr, arith}
-use Rattle.std.specs.Prelude.{Ok, map, is_ok}
-use Rattle.std.specs.List.{flat_map}
-use Rattle.std.specs.Option.{option_map}
-use Rattle.std.proofs.lemmas.Bool.{cases_eq, eq-eqb, ne_eqb}
+use Rattle.trio_surveys.proofs.Words.{◌++◌, ◌<◌, ◌∙◌, ◌∷◌, ◌≡◌, ◌≤◌, Body, Bool, Core, Directory, Entry, EntryPart, FileRead, Front, In, In-flat, IsFit, Kind, List, Listed, Met, None, Option, Pick, Regular, Some, [], ap, are_in_grammar, are_new, arith, at_page, block_count, body_in_slot, body_of, body_with_mode, cases_eq, chain_of, children, children_in, cond, entries_of_kind, eq-eqb, eqb, false, file_of, flat_map, flat_map-In, gathered, index_count, inl, inr, is_sound, length, length-with_part, levels, list_all-each, listed_at, listed_numbers, listed_pages, map, map-In, met_in, ne_eqb, numbers, option_map, page_entries, page_of, pages_in, pages_of, plain, refl, result_map, result_then, root_of, slot_bytes, slot_entries, slot_of, subst, suc, sym, there_or, true, unless_repeated, with_bodies, with_names_apart, with_other, ℕ}
+use Rattle.std.specs.Prelude.{Ok, is_ok}
 use Rattle.trio_page.specs.Field.{with_number}
-use Rattle.trio_page.proofs.Fields.{length-with_part}
-use Rattle.trio_rights.specs.declared.kind.Kind.{Kind}
-use Rattle.trio_rights.specs.declared.kind.Kind.TheVariants.{Regular, Directory}
-use Rattle.trio_layout.specs.Body.{body_of, block_count}
-use Rattle.trio_layout.specs.Chain.{index_count, chain_of}
-use Rattle.trio_layout.specs.Core.{Core, at_page, page_of}
-use Rattle.trio_lists.specs.Lists.{there_or, result_map, result_then, are_new, gathered, In}
-use Rattle.trio_layout.specs.Entries.{slot_bytes, body_in_slot, with_names_apart, unless_repeated, Listed, slot_entries, listed_at, entries_on, page_entries, entries_of_kind}
-use Rattle.trio_layout.specs.Slot.{slot_of}
-use Rattle.trio_layout.specs.Sound.{are_in_grammar, listed_numbers, listed_pages, is_sound}
-use Rattle.trio_layout.specs.Survey.{Front, levels, Met, Pick, plain, FileRead, file_of, survey, children, children_in, met_in, root_of, numbers, pages_of, pages_in}
-use Rattle.trio_layout.specs.declared.body.Body.{Body}
-use Rattle.trio_layout.specs.declared.slot.EntryPart.{EntryPart}
-use Rattle.trio_layout.specs.declared.slot.SlotRead.TheVariants.{Entry}
-use Rattle.trio_surveys.specs.Reading.{picked_entry, with_other}
-use Rattle.trio_layout.specs.Accept.{with_bodies}
-use Rattle.trio_layout.specs.Image.{IsFit}
-use Rattle.trio_layout.specs.Mode.{body_with_mode}
+use Rattle.trio_layout.specs.Entries.{entries_on}
+use Rattle.trio_layout.specs.Survey.{survey}
+use Rattle.trio_surveys.specs.Reading.{picked_entry}
 use Rattle.trio_surveys.proofs.Accepted.{length-bodies, map_is}
 use Rattle.trio_surveys.proofs.Images.{read_met, one_met, root_or_listed}
 use Rattle.trio_surveys.proofs.Local.{reads_from, reads_to, chain_follows}
-use Rattle.trio_lists.proofs.Members.{In-flat, flat_map-In, map-In, list_all-each}
 use Rattle.trio_surveys.proofs.Moded.{body_moded, mode_body, changed, numbers_changed, levels_changed}
 use Rattle.trio_surveys.proofs.Owned.{index_apart, sound_parts, sound_from}
 use Rattle.trio_surveys.proofs.Picked.{all_listed, listed_picked, below_map, gathered_map, names_picked, listed_are_met, listed_placed}

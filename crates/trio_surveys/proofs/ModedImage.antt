@@ -1,20 +1,9 @@
 -- An image in which one file has another mode verifies.
-use Rattle.std.proofs.Common.{◌≡◌, ℕ, ◌≤◌, true, false, cond, eqb, ltb, List, [], ◌∷◌, set, Option, Some, None, sym, refl, ap, ◌∙◌, subst, inl, inr, arith}
-use Rattle.std.specs.Prelude.{Ok, map}
-use Rattle.std.proofs.lemmas.List.{length-set, get_or-set_same, get_or-set_other, same_lists}
-use Rattle.std.proofs.lemmas.Bool.{cases_eq, eq-eqb, ne_eqb}
-use Rattle.trio_rights.specs.Row.{Row}
-use Rattle.trio_layout.specs.Core.{Core}
-use Rattle.trio_lists.specs.Lists.{is_among, In}
-use Rattle.trio_layout.specs.Sound.{is_sound, rows_table, owners_table}
-use Rattle.trio_layout.specs.Survey.{Met, plain, FileRead, file_of, survey, pages_of, row_by, row_of, owner_of}
-use Rattle.trio_layout.specs.Accept.{with_bodies}
-use Rattle.trio_layout.specs.Image.{IsFit, Image, row_at, settled_body}
-use Rattle.trio_layout.specs.Mode.{body_with_mode, row_with_mode, body_put, image_with_mode}
-use Rattle.trio_layout.specs.Verifies.{Verifies}
+use Rattle.trio_surveys.proofs.Words.{◌∙◌, ◌∷◌, ◌≡◌, ◌≤◌, Core, FileRead, Image, In, In-map, IsFit, List, Met, None, Option, Row, Some, Verifies, [], ap, arith, body_with_mode, cases_eq, cond, eq-eqb, eqb, false, file_of, get_or-set_other, inl, inr, is_among, is_sound, length-set, ltb, map, map-In, ne_eqb, owner_of, owners_table, pages_of, plain, refl, row_at, row_by, row_of, rows_table, set, settled_body, subst, survey, sym, tabulated-get, tabulated-length, tabulated-same, true, with_bodies, ℕ}
+use Rattle.std.specs.Prelude.{Ok}
+use Rattle.std.proofs.lemmas.List.{get_or-set_same, same_lists}
+use Rattle.trio_layout.specs.Mode.{row_with_mode, body_put, image_with_mode}
 use Rattle.trio_surveys.proofs.Images.{TablesOf, MetAt, row_at_is, row_met, met_row, read_met, met_numbered, settled_body_met}
-use Rattle.trio_lists.proofs.Tabulated.{tabulated-length, tabulated-get, tabulated-same}
-use Rattle.trio_lists.proofs.Members.{In-map, map-In}
 use Rattle.trio_surveys.proofs.Moded.{body_moded, changed}
 use Rattle.trio_surveys.proofs.ModedCore.{now, read_now, file_now, survey_now, pages_moded, moded_sound, moded_fit}
 

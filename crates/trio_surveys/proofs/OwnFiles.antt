@@ -1,23 +1,8 @@
 -- A file of the bundle's pages alone reads the same in the bundle and in the image with its pages in place.
-use Rattle.std.proofs.Common.{List, None, Ok, Option, Some, [], ap, eqb, length, refl, subst, sym, true, ℕ, ◌++◌, ◌∙◌, ◌∷◌, ◌≡◌, ◌≤◌, arith}
-use Rattle.std.proofs.lemmas.Bool.{and_from, and_parts, eq-eqb, eqb-true, false≢true}
-use Rattle.std.specs.Option.{option_map_or}
-use Rattle.std.specs.Prelude.{map, replicate}
-use Rattle.trio_rights.specs.Row.{Row}
-use Rattle.trio_rights.specs.declared.rights.Creds.{Creds}
-use Rattle.trio_lists.proofs.Filters.{In-find, find-In}
-use Rattle.trio_lists.proofs.Members.{In-map, map-In}
-use Rattle.trio_lists.specs.Lists.{In}
-use Rattle.trio_layout.specs.Case.{Held, bundle_core, case_of}
-use Rattle.trio_layout.specs.Core.{Core}
-use Rattle.trio_layout.specs.Entries.{Listed}
-use Rattle.trio_layout.specs.Image.{Image, settled_body}
-use Rattle.trio_rights.specs.Bundle.{Bundle, bundle_pages, bundle_sheets}
-use Rattle.trio_layout.specs.Proposed.{is_place_of, kept_body, proposed}
+use Rattle.trio_surveys.proofs.Words.{◌++◌, ◌∙◌, ◌∷◌, ◌≡◌, ◌≤◌, Bundle, Core, Creds, FileRead, Image, In, In-find, In-map, List, Listed, Met, None, Ok, Option, Pick, Row, Some, [], and_from, and_parts, ap, arith, bundle_core, bundle_pages, bundle_sheets, case_of, eq-eqb, eqb, eqb-true, false≢true, file_of, file_within, find-In, length, map, map-In, met_in, numbers, option_map_or, proposed, refl, replicate, settled_body, subst, sym, true, with_pages, ℕ}
+use Rattle.trio_layout.specs.Case.{Held}
+use Rattle.trio_layout.specs.Proposed.{is_place_of, kept_body}
 use Rattle.trio_layout.specs.Rules.{lent_body}
-use Rattle.trio_rights.specs.Sheets.{with_pages}
-use Rattle.trio_layout.specs.Survey.{FileRead, Met, Pick, file_of, met_in, numbers}
-use Rattle.trio_layout.specs.Within.{file_within}
 use Rattle.trio_surveys.proofs.BundlePages.{in_there, there_same}
 use Rattle.trio_surveys.proofs.Cores.{listed_is_core}
 use Rattle.trio_surveys.proofs.Local.{file_local}

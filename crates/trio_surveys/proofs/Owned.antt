@@ -1,20 +1,8 @@
 -- In a sound survey a page is listed by one file, and once.
-use Rattle.std.proofs.Common.{◌≡◌, ℕ, Bool, true, false, cond, List, [], ◌∷◌, ◌++◌, length, Some, Ok, sym, refl, ap, ◌∙◌, subst, inl, inr, arith}
-use Rattle.std.proofs.lemmas.Bool.{and_parts, and_from, both_ways}
-use Rattle.std.proofs.lemmas.Option.{cond_some}
-use Rattle.std.proofs.lemmas.Slice.Eq.{bytes_eq-Decides}
-use Rattle.trio_rights.specs.declared.kind.Kind.{Kind}
-use Rattle.trio_layout.specs.declared.range.CoreRange.{CoreRange}
-use Rattle.trio_layout.specs.declared.body.Body.{Body}
+use Rattle.trio_surveys.proofs.Words.{◌++◌, ◌∙◌, ◌∷◌, ◌≡◌, Body, Bool, Core, CoreRange, FileRead, In, In-flat, In-left, In-right, Kind, List, Met, Ok, Pick, Some, [], and_from, and_parts, ap, are_in_grammar, are_new, are_new-append, are_new-before, are_new-fewer, arith, both_ways, bytes_eq-Decides, cond, cond_some, false, file_of, inl, inr, is_among, is_among-In, is_sound, length, listed_numbers, listed_pages, owner_of, pages_in, pages_of, refl, subst, survey, sym, true, ℕ}
 use Rattle.trio_page.specs.Field.{zeros}
 use Rattle.trio_layout.specs.Body.{body_of, body_bytes}
-use Rattle.trio_lists.specs.Lists.{In, is_among, are_new}
-use Rattle.trio_layout.specs.Core.{Core}
-use Rattle.trio_layout.specs.Survey.{Met, Pick, FileRead, file_of, pages_of, pages_in, owner_of, survey}
-use Rattle.trio_layout.specs.Sound.{are_in_grammar, listed_numbers, listed_pages, is_sound}
-use Rattle.trio_lists.proofs.Marked.{are_new-append}
-use Rattle.trio_lists.proofs.Members.{In-left, In-right, In-flat, is_among-In, In-is_among}
-use Rattle.trio_lists.proofs.New.{are_new-before, are_new-fewer}
+use Rattle.trio_lists.proofs.Members.{In-is_among}
 
 -- the pages of the first file apart from those of the rest
 pub first_apart : (core : Core) (x : Met) (xs : List Met) → are_new [] (listed_pages core (x ∷ xs)) ≡ true → (are_new [] (pages_of core x) ≡ true) × (are_new (pages_of core x) (listed_pages core xs) ≡ true)

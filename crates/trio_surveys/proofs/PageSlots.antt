@@ -1,8 +1,7 @@
 -- A page is its 16 slots, and a list of pages its pages.
-use Rattle.std.proofs.Common.{◌≡◌, ℕ, suc, zero, ◌+◌, ◌-◌, ◌*◌, ◌<◌, List, [], ◌∷◌, ◌++◌, length, take, drop, slice_get, sym, refl, ap, ◌∙◌, arith}
-use Rattle.std.proofs.lemmas.List.{take-append-drop, drop-take, drop-drop}
+use Rattle.trio_surveys.proofs.Words.{◌*◌, ◌++◌, ◌+◌, ◌-◌, ◌<◌, ◌∙◌, ◌∷◌, ◌≡◌, List, [], ap, arith, body_in_slot, drop, drop-take, length, refl, slice_get, slot_bytes, suc, sym, take, zero, ℕ}
+use Rattle.std.proofs.lemmas.List.{take-append-drop, drop-drop}
 use Rattle.std.proofs.Math.Seq.{take-add, take-length}
-use Rattle.trio_layout.specs.Entries.{slot_bytes, body_in_slot}
 use Rattle.trio_surveys.proofs.Slots.{front_in_slot}
 use Rattle.trio_surveys.proofs.Sheets.{Pages}
 

@@ -1,35 +1,15 @@
 -- The plain survey of a core with the picked bodies at their places is the survey with the pick.
-use Rattle.std.proofs.Common.{◌≡◌, ℕ, suc, zero, ◌<◌, true, cond, List, [], ◌∷◌, ◌++◌, ◌||◌, Option, Some, None, Result, Ok, sym, refl, ap, ◌∙◌, subst, inl, inr, arith}
-use Rattle.std.specs.Prelude.{map, is_ok}
-use Rattle.std.specs.List.{flat_map}
-use Rattle.std.specs.Option.{option_map}
-use Rattle.std.specs.Str.{bytes_eq}
-use Rattle.trio_rights.specs.declared.kind.Kind.{Kind}
-use Rattle.trio_rights.specs.declared.kind.Kind.TheVariants.{Regular, Directory}
-use Rattle.trio_layout.specs.declared.slot.EntryPart.{EntryPart}
-use Rattle.trio_layout.specs.declared.slot.SlotRead.{SlotRead}
-use Rattle.trio_layout.specs.declared.slot.SlotRead.TheVariants.{Entry}
-use Rattle.trio_lists.specs.Lists.{In, are_new, result_map, result_then, both, gathered, gathered_below, there_or}
-use Rattle.trio_layout.specs.Body.{block_count}
-use Rattle.trio_layout.specs.Slot.{slot_of}
-use Rattle.trio_layout.specs.Core.{Core, at_page, page_of}
-use Rattle.trio_layout.specs.Chain.{index_count}
-use Rattle.trio_layout.specs.Entries.{Listed, slot_bytes, body_in_slot, listed_at, slot_entries, entries_on, page_entries, entries_of_kind, place_of, has_name, repeated_name, unless_repeated, with_names_apart}
-use Rattle.trio_layout.specs.Survey.{Met, Pick, plain, FileRead, file_of, survey, children, children_in, met_in, numbers, pages_of, pages_in}
-use Rattle.trio_layout.specs.Sound.{are_in_grammar, listed_numbers, listed_pages, is_sound}
-use Rattle.trio_layout.specs.Image.{IsFit}
-use Rattle.trio_layout.specs.Accept.{with_bodies}
-use Rattle.trio_surveys.specs.Reading.{with_other}
+use Rattle.trio_surveys.proofs.Words.{◌++◌, ◌<◌, ◌∙◌, ◌∷◌, ◌≡◌, Core, Directory, Entry, EntryPart, FileRead, In, In-flat, In-map, In-right, IsFit, Kind, List, Listed, Met, None, Ok, Option, Pick, Regular, Result, SlotRead, Some, [], ap, are_in_grammar, are_new, are_new-before, arith, at_page, block_count, body_in_slot, both, bytes_eq, children, children_in, cond, entries_of_kind, file_of, flat_map, flat_map-In, flat_map-same, gathered, gathered_below, index_count, inl, inr, is_sound, list_all-each, listed_at, listed_numbers, listed_pages, map, met_in, numbers, numbers-flat, option_map, page_entries, page_of, pages_in, pages_of, plain, refl, repeated_name, result_map, result_then, slot_bytes, slot_entries, slot_of, subst, suc, survey, sym, there_or, true, unless_repeated, with_bodies, with_names_apart, with_other, zero, ℕ}
+use Rattle.std.proofs.Common.{◌||◌}
+use Rattle.std.specs.Prelude.{is_ok}
+use Rattle.trio_layout.specs.Entries.{entries_on, place_of, has_name}
 pub use Rattle.trio_surveys.specs.Reading.{picked_entry as picked, with_picked_bodies as put}
-use Rattle.trio_lists.proofs.Members.{In-right, In-flat, flat_map-In, In-map, list_all-each, flat_map-same}
 use Rattle.trio_surveys.proofs.Local.{reads_from, reads_to, read_at, chain_local, survey_follows}
 use Rattle.trio_surveys.proofs.Places.{at_place, gathers_directory, slot_has}
-use Rattle.trio_layout.proofs.Walks.{numbers-flat}
 use Rattle.trio_surveys.proofs.Tree.{survey_tree, child_from, child_has, child_placed}
 use Rattle.trio_surveys.proofs.Slots.{slot_by_front}
 use Rattle.trio_surveys.proofs.Putting.{put_on, page_of-bodies, put_on-none, put_on-front, put_on-body, ArePlaced}
 use Rattle.trio_surveys.proofs.Owned.{page_owner, pages_are, index_apart, sound_parts, sound_from, body_sized}
-use Rattle.trio_lists.proofs.New.{are_new-before}
 
 -- all that the files list
 abbrev pub all_listed : Core → Pick → List Met

@@ -1,17 +1,8 @@
 -- Each entry of a directory stands at its place, and each slot that says an entry is one of them.
-use Rattle.std.proofs.Common.{◌≡◌, ℕ, suc, zero, ◌<◌, ◌≤◌, Bool, true, cond, ◌&&◌, eqb, ltb, leb, List, [], ◌∷◌, take, Option, Some, None, Result, Ok, sym, refl, ap, ◌∙◌, subst, inl, inr, arith}
-use Rattle.std.specs.Str.{bytes_eq}
-use Rattle.std.proofs.lemmas.Bool.{and_parts, ltb-true, leb-true, cases_eq}
-use Rattle.trio_rights.specs.declared.kind.Kind.{Kind}
-use Rattle.trio_rights.specs.declared.kind.Kind.TheVariants.{Directory}
-use Rattle.trio_layout.specs.declared.slot.EntryPart.{EntryPart}
-use Rattle.trio_layout.specs.declared.slot.SlotRead.{SlotRead}
-use Rattle.trio_layout.specs.declared.slot.SlotRead.TheVariants.{Empty, Entry, Bad}
-use Rattle.trio_lists.specs.Lists.{In, result_then, gathered, gathered_below, there_or}
-use Rattle.trio_layout.specs.Slot.{slot_of, entry_at, entry_fits, entry_bytes}
-use Rattle.trio_layout.specs.Core.{Core, Location, at_page, page_of}
-use Rattle.trio_layout.specs.Entries.{Listed, slot_bytes, body_in_slot, listed_at, slot_entries, entries_on, page_entries, entries_of, entries_of_kind, repeated_name, unless_repeated}
-use Rattle.trio_lists.proofs.Members.{In-left, In-right, In-cases, result_then-Ok, there_or-Ok, both-Ok}
+use Rattle.trio_surveys.proofs.Words.{◌&&◌, ◌<◌, ◌∙◌, ◌∷◌, ◌≡◌, ◌≤◌, Bad, Bool, Core, Directory, Empty, Entry, EntryPart, In, In-cases, In-left, In-right, Kind, List, Listed, Location, None, Ok, Option, Result, SlotRead, Some, [], and_parts, ap, arith, at_page, body_in_slot, bytes_eq, cases_eq, cond, entries_of_kind, entry_at, entry_fits, eqb, gathered, gathered_below, inl, inr, leb, leb-true, listed_at, ltb, ltb-true, page_entries, page_of, refl, repeated_name, result_then, result_then-Ok, slot_bytes, slot_entries, subst, suc, sym, take, there_or, there_or-Ok, true, unless_repeated, zero, ℕ}
+use Rattle.trio_layout.specs.Slot.{slot_of, entry_bytes}
+use Rattle.trio_layout.specs.Entries.{entries_on, entries_of}
+use Rattle.trio_lists.proofs.Members.{both-Ok}
 
 -- the entry stands at its place in a page of these blocks
 pub record Placed (core : Core) (blocks : List ℕ) (l : Listed) : Type 0 where

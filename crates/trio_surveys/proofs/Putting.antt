@@ -1,13 +1,5 @@
 -- The bodies of files at their places, page by page.
-use Rattle.std.proofs.Common.{◌≡◌, ℕ, ◌<◌, Bool, true, false, cond, eqb, List, [], ◌∷◌, length, Option, None, slice_get, slice_index_or, slice_set, sym, refl, ap, ◌∙◌, subst, inl, inr, ◌⊎◌, arith}
-use Rattle.std.specs.Option.{option_map, option_and_then}
-use Rattle.std.proofs.lemmas.Bool.{cases_eq, eq-eqb, ne_eqb}
-use Rattle.trio_lists.specs.Lists.{In}
-use Rattle.trio_layout.specs.Core.{Core, page_of}
-use Rattle.trio_layout.specs.Entries.{body_in_slot}
-use Rattle.trio_layout.specs.Survey.{Met}
-use Rattle.trio_layout.specs.Accept.{with_body_in, with_bodies}
-use Rattle.trio_surveys.specs.Reading.{with_other}
+use Rattle.trio_surveys.proofs.Words.{◌<◌, ◌∙◌, ◌∷◌, ◌≡◌, ◌⊎◌, Bool, Core, In, List, Met, None, Option, [], ap, arith, body_in_slot, cases_eq, cond, eq-eqb, eqb, false, inl, inr, length, ne_eqb, option_and_then, option_map, page_of, refl, slice_get, slice_index_or, slice_set, subst, sym, true, with_bodies, with_body_in, with_other, ℕ}
 use Rattle.trio_surveys.proofs.SheetLaws.{page_at, page_of_at, get-set_same, get-set_other}
 use Rattle.trio_surveys.proofs.Slots.{front_in_slot, with_body-length, with_body-front, with_body-body, with_body-other}
 

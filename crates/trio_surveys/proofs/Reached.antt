@@ -1,23 +1,9 @@
 -- Ways from the root down to the files that a survey meets.
-use Rattle.std.proofs.Common.{List, [], ap, arith, inl, inr, refl, subst, suc, sym, true, zero, ℕ, ◌++◌, ◌<◌, ◌∙◌, ◌∷◌, ◌≡◌, ◌≤◌, ◌⊎◌}
-use Rattle.std.proofs.lemmas.Bool.{and_parts}
-use Rattle.std.proofs.lemmas.List.{map-append}
-use Rattle.std.specs.List.{flat_map}
-use Rattle.std.specs.Option.{option_map_or}
-use Rattle.trio_lists.proofs.Members.{In-cases, In-flat, In-map, flat_map-In}
-use Rattle.trio_lists.specs.Lists.{In, are_new}
-use Rattle.trio_lists.proofs.Marked.{are_new-append}
-use Rattle.trio_layout.specs.Core.{Core}
-use Rattle.trio_layout.specs.Entries.{body_in_slot}
-use Rattle.trio_layout.specs.Image.{body_at_place}
-use Rattle.trio_layout.specs.Sound.{is_sound, listed_numbers}
-use Rattle.trio_layout.specs.Survey.{Front, Met, Pick, children, levels, met_in, numbers, root_of, survey}
-use Rattle.trio_lists.proofs.New.{are_new-before}
+use Rattle.trio_surveys.proofs.Words.{◌++◌, ◌<◌, ◌∙◌, ◌∷◌, ◌≡◌, ◌≤◌, ◌⊎◌, Core, Front, In, In-cases, In-flat, In-map, List, Met, Pick, Reaches, [], and_parts, ap, are_new, are_new-append, are_new-before, arith, body_at_place, body_in_slot, children, flat_map, flat_map-In, fronts_are, fronts_new, inl, inr, is_sound, levels, listed_numbers, map-append, met_in, numbers, option_map_or, refl, root_of, subst, suc, sym, true, zero, ℕ}
+use Rattle.trio_layout.specs.Survey.{survey}
 use Rattle.trio_surveys.proofs.Owned.{sound_parts}
 use Rattle.trio_surveys.proofs.Tree.{child_from, child_placed, survey_tree}
 use Rattle.trio_layout.proofs.Walks.{first_are_listed}
-use Rattle.trio_layout.proofs.Walks.{fronts_are, fronts_new}
-use Rattle.trio_surveys.specs.Tree.{Reaches}
 
 -- a child has its directory for a parent, and the body that is picked at its place
 pub child_parent : (core : Core) (pick : Pick) (m c : Met) → In c (children core pick m) → c.parent ≡ m.ino

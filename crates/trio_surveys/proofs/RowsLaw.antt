@@ -1,35 +1,22 @@
 -- Over a core with rows: the survey meets just the live numbers exactly where the rows say all that is listed.
-use Rattle.std.proofs.Common.{Bool, List, None, Option, Some, [], ap, arith, cond, eqb, get_or, inl, inr, is_ok, length, refl, set, subst, suc, sym, true, zero, ℕ, ◌++◌, ◌+◌, ◌<◌, ◌∙◌, ◌∷◌, ◌≡◌, ◌≤◌}
-use Rattle.std.proofs.lemmas.Bool.{cases_eq, cases_lt, eq-eqb, eqb-true, false≢true, ne_eqb, or_cases, or_right}
-use Rattle.std.proofs.lemmas.List.{get_or-set_other, get_or_past, length-map}
+use Rattle.trio_surveys.proofs.Words.{◌++◌, ◌+◌, ◌<◌, ◌∙◌, ◌∷◌, ◌≡◌, ◌≤◌, Bool, Core, Front, Image, In, In-flat, IsFit, List, Met, None, Option, Pick, Reaches, Row, Some, Verifies, [], ap, are_new, are_new-before, are_new-fewer, arith, body_at_place, body_by_row, cases_eq, cases_lt, children, climbs, cond, eq-eqb, eqb, eqb-true, false≢true, file_of, flat_map, flat_map-In, get_or, get_or-set_other, inl, inr, is_ok, is_some, is_sound, length, levels, list_all-In, list_all-each, listed_numbers, map-In, ne_eqb, new_beside, numbers, numbers-flat, option_map_or, or_cases, or_right, pages_of, plain, refl, root_of, row_by, row_of, set, settled_body, subst, suc, survey, sym, tabulated-length, true, zero, ℕ}
+use Rattle.std.proofs.lemmas.List.{get_or_past, length-map}
 use Rattle.std.proofs.lemmas.List.Sums.{sum_by-set}
-use Rattle.std.specs.List.{count_by, flat_map}
-use Rattle.std.specs.Option.{option_map_or}
-use Rattle.std.specs.Prelude.{is_some}
-use Rattle.trio_rights.specs.Row.{Row, row_in}
+use Rattle.std.specs.List.{count_by}
+use Rattle.trio_rights.specs.Row.{row_in}
 use Rattle.trio_lists.proofs.Counting.{count_from, count_in}
 use Rattle.trio_lists.proofs.Filters.{some_one}
-use Rattle.trio_lists.proofs.Members.{In-flat, list_all-In, list_all-each, flat_map-In, map-In}
-use Rattle.trio_lists.proofs.Gathered.{each_new, new_beside, new_spread, new_tail, one_of}
-use Rattle.trio_lists.proofs.New.{are_new-before, are_new-fewer}
+use Rattle.trio_lists.proofs.Gathered.{each_new, new_spread, new_tail, one_of}
 use Rattle.trio_lists.specs.Counting.{count_up}
-use Rattle.trio_lists.specs.Lists.{In, are_new}
 use Rattle.trio_layout.proofs.QueueLaws.{levels_enough}
-use Rattle.trio_layout.specs.Core.{Core}
-use Rattle.trio_layout.specs.Edges.{climbs, row_parent}
-use Rattle.trio_layout.specs.Image.{Image, IsFit, body_at_place, body_by_row, settled_body}
-use Rattle.trio_layout.specs.Sound.{is_sound, listed_numbers, listings}
-use Rattle.trio_layout.specs.Survey.{Front, Met, Pick, children, file_of, levels, numbers, pages_of, plain, root_of, row_by, row_of, survey}
-use Rattle.trio_layout.specs.Verifies.{Verifies}
+use Rattle.trio_layout.specs.Edges.{row_parent}
+use Rattle.trio_layout.specs.Sound.{listings}
 use Rattle.trio_surveys.proofs.Climbing.{climbs_more}
 use Rattle.trio_surveys.proofs.Images.{MetAt, TablesOf, met_numbered, met_row, read_met, root_is_met, row_at_is, row_met, same_met, settled_body_met, some_of}
-use Rattle.trio_lists.proofs.Tabulated.{tabulated-length}
 use Rattle.trio_surveys.proofs.Owned.{sound_parts}
 use Rattle.trio_surveys.proofs.Reached.{child_body, child_met, child_parent, level_down, level_of, met_cases, no_root_listed, passed_new, reached_met, root_met, survey_reached}
-use Rattle.trio_layout.proofs.Walks.{numbers-flat}
 use Rattle.trio_surveys.proofs.Sharing.{Shares, sound_by, survey_keeps}
 use Rattle.trio_surveys.specs.Rows.{HasRows, IsAtRow, ListsRows, MeetsRows, RowsAreSurvey, VerifiedHasRows, file_at_row, live_at, live_files}
-use Rattle.trio_surveys.specs.Tree.{Reaches}
 
 pub row_there : (rows : List (Option Row)) (n : ℕ) → is_some (row_in rows n) ≡ true → n < length rows
 row_there rows n e = search (arith, cases_lt, false≢true, get_or_past)

@@ -1,18 +1,10 @@
 -- What all files have that a survey meets: soundness by a property of files that their children share.
-use Rattle.std.proofs.Common.{List, [], ap, inl, inr, is_ok, refl, subst, suc, sym, true, ℕ, ◌++◌, ◌∙◌, ◌∷◌, ◌≡◌}
-use Rattle.std.proofs.lemmas.Bool.{and_parts}
-use Rattle.std.proofs.lemmas.List.{map-append}
-use Rattle.std.specs.List.{flat_map}
-use Rattle.trio_lists.proofs.Members.{In-left, list_all-each, flat_map-In, map-In}
-use Rattle.trio_lists.proofs.Gathered.{gathered_new, new_beside}
-use Rattle.trio_lists.specs.Lists.{In, are_new}
-use Rattle.trio_lists.proofs.Marked.{are_new-append}
+use Rattle.trio_surveys.proofs.Words.{◌++◌, ◌∙◌, ◌∷◌, ◌≡◌, Core, Front, In, In-left, List, Met, Pick, [], and_parts, ap, are_new, are_new-append, children, file_of, flat_map, flat_map-In, fronts_are, fronts_new, inl, inr, is_ok, is_sound, levels, list_all-each, map-In, map-append, new_beside, numbers, pages_of, refl, root_of, subst, suc, sym, true, ℕ}
+use Rattle.trio_lists.proofs.Gathered.{gathered_new}
 use Rattle.trio_layout.proofs.QueueLaws.{met_by}
-use Rattle.trio_layout.specs.Core.{Core}
-use Rattle.trio_layout.specs.Sound.{is_sound}
-use Rattle.trio_layout.specs.Survey.{Front, Met, Pick, children, file_of, levels, numbers, pages_of, root_of, survey}
+use Rattle.trio_layout.specs.Survey.{survey}
 use Rattle.trio_surveys.proofs.Owned.{sound_from}
-use Rattle.trio_layout.proofs.Walks.{fronts_are, fronts_keep, fronts_new}
+use Rattle.trio_layout.proofs.Walks.{fronts_keep}
 
 -- all files that a survey meets have what the root has and each file hands to its children
 pub survey_keeps : (core : Core) (pick : Pick) (P : Met → Type 0) → P (root_of core) → ((m c : Met) → P m → In c (children core pick m) → P c) → (m : Met) → In m (survey core pick) → P m

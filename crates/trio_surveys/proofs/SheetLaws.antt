@@ -1,13 +1,7 @@
 -- Pages that are set: the page itself, and every other.
-use Rattle.std.proofs.Common.{◌≡◌, ℕ, zero, suc, false, cond, eqb, List, [], ◌∷◌, length, Option, Some, None, refl, ap, ◌∙◌, arith, slice_get, slice_index_or, slice_set}
-use Rattle.std.specs.Option.{option_map, option_and_then}
+use Rattle.trio_surveys.proofs.Words.{◌∙◌, ◌∷◌, ◌≡◌, Core, List, None, Option, Sheet, Some, [], ap, arith, cond, eqb, false, is_among, is_core, length, length-set, option_and_then, option_map, page_of, refl, sheet_numbers, slice_get, slice_index_or, slice_set, suc, with_pages, zero, ℕ}
 use Rattle.std.proofs.lemmas.Bool.{or_parts}
 use Rattle.std.proofs.lemmas.Bool.Decides.{nat_tests}
-use Rattle.std.proofs.lemmas.List.{length-set}
-use Rattle.trio_layout.specs.Range.{is_core}
-use Rattle.trio_lists.specs.Lists.{is_among}
-use Rattle.trio_layout.specs.Core.{Core, page_of}
-use Rattle.trio_rights.specs.Sheets.{Sheet, sheet_numbers, with_pages}
 
 -- a page as it is read, by its place in the list
 pub page_at : (pages : List (Option (List ℕ))) (n : ℕ) → slice_index_or pages n None ≡ option_and_then (λ x. x) (slice_get pages n)

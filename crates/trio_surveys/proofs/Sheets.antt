@@ -1,16 +1,8 @@
 -- Pages that are put in place, or taken away.
-use Rattle.std.proofs.Common.{◌≡◌, ◌<◌, arith, ℕ, suc, zero, Bool, true, false, cond, List, [], ◌∷◌, ◌++◌, length, Option, Some, None, slice_get, slice_set, sym, refl, ap, ◌∙◌, inl, inr, ◌⊎◌}
+use Rattle.trio_surveys.proofs.Words.{◌++◌, ◌<◌, ◌∙◌, ◌∷◌, ◌≡◌, ◌⊎◌, Bool, Core, In, List, None, Option, Sheet, Some, [], ap, arith, cases_eq, cond, false, false_from_ne_true, inl, inr, is_among, is_among-In, is_core, length, length-set, ne_eqb, option_and_then, option_map, page_of, refl, sheet_numbers, slice_get, slice_set, suc, sym, true, with_other, with_pages, zero, ℕ}
 use Rattle.std.specs.List.{cons_option}
-use Rattle.std.specs.Option.{option_map, option_and_then}
-use Rattle.std.proofs.lemmas.Bool.{cases_eq, ne_eqb, false_from_ne_true}
-use Rattle.std.proofs.lemmas.List.{length-set}
-use Rattle.trio_layout.specs.Range.{is_core}
-use Rattle.trio_lists.specs.Lists.{In, is_among}
-use Rattle.trio_layout.specs.Core.{Core, page_of}
-use Rattle.trio_rights.specs.Sheets.{Sheet, sheet_numbers, with_pages, without_pages}
+use Rattle.trio_rights.specs.Sheets.{without_pages}
 use Rattle.trio_layout.specs.Pages.{sheets_of}
-use Rattle.trio_surveys.specs.Reading.{with_other}
-use Rattle.trio_lists.proofs.Members.{is_among-In}
 use Rattle.trio_surveys.proofs.SheetLaws.{page_of_at, get-set_same, get-set_other, with_pages-other}
 
 abbrev pub Pages : Type 0

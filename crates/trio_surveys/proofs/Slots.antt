@@ -1,20 +1,12 @@
 -- A body that is written into a slot changes the last 64 bytes of the slot and nothing else of the page.
-use Rattle.std.proofs.Common.{◌≡◌, ℕ, ◌+◌, ◌-◌, ◌*◌, ◌<◌, ◌≤◌, false, cond, ◌&&◌, eqb, List, length, get_or, take, drop, sym, refl, ap, ◌∙◌, inl, inr, arith}
+use Rattle.trio_surveys.proofs.Words.{◌&&◌, ◌*◌, ◌+◌, ◌-◌, ◌<◌, ◌∙◌, ◌≡◌, ◌≤◌, Bad, Empty, Entry, EntryPart, List, SlotRead, ap, arith, body_in_slot, bytes_eq, bytes_eq-Decides, cases_lt, cond, drop, drop-take, entry_at, entry_fits, eqb, false, false_from_ne_true, get_or, inl, inr, length, length-with_part, refl, slot_bytes, sym, take, w32, with_body_in, ℕ}
 use Rattle.std.specs.Prelude.{slice_range}
-use Rattle.std.specs.Int.{w32, from_le_bytes}
-use Rattle.std.specs.Str.{bytes_eq}
-use Rattle.std.proofs.lemmas.Bool.{cases_lt, false_from_ne_true}
-use Rattle.std.proofs.lemmas.List.{take-take, drop-take, get_or-take, length-take, length-append}
-use Rattle.std.proofs.lemmas.Slice.Eq.{bytes_eq-Decides}
+use Rattle.std.specs.Int.{from_le_bytes}
+use Rattle.std.proofs.lemmas.List.{take-take, get_or-take, length-take, length-append}
 use Rattle.trio_page.specs.Field.{number_at}
-use Rattle.trio_page.proofs.Fields.{length-with_part, slice-with_part_same, slice-with_part_below, slice-with_part_above}
+use Rattle.trio_page.proofs.Fields.{slice-with_part_same, slice-with_part_below, slice-with_part_above}
 use Rattle.trio_page.proofs.Cursor.{length-zeros}
-use Rattle.trio_layout.specs.declared.slot.EntryPart.{EntryPart}
-use Rattle.trio_layout.specs.declared.slot.SlotRead.{SlotRead}
-use Rattle.trio_layout.specs.declared.slot.SlotRead.TheVariants.{Empty, Entry, Bad}
-use Rattle.trio_layout.specs.Slot.{slot_of, entry_at, entry_fits, entry_bytes}
-use Rattle.trio_layout.specs.Entries.{slot_bytes, body_in_slot}
-use Rattle.trio_layout.specs.Accept.{with_body_in}
+use Rattle.trio_layout.specs.Slot.{slot_of, entry_bytes}
 
 -- the entry part of a slot, as a range of the page
 abbrev pub front_in_slot : ℕ → List ℕ → List ℕ

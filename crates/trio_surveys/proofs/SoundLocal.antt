@@ -1,11 +1,5 @@
 -- Soundness goes by the pages that are read.
-use Rattle.std.proofs.Common.{◌≡◌, ℕ, true, List, [], ◌∷◌, Option, is_ok, ap, ◌∙◌}
-use Rattle.trio_lists.specs.Lists.{In, are_new}
-use Rattle.trio_layout.specs.Core.{Core}
-use Rattle.trio_layout.specs.Survey.{Met, Pick, file_of, survey, children, children_in, numbers, pages_of, pages_in}
-use Rattle.trio_layout.specs.Sound.{is_sound, are_in_grammar, listed_numbers, listed_pages}
-use Rattle.trio_surveys.specs.Reading.{with_other, AgreeOn}
-use Rattle.trio_lists.proofs.Members.{flat_map-same, list_all-In, list_all-each}
+use Rattle.trio_surveys.proofs.Words.{◌∙◌, ◌∷◌, ◌≡◌, AgreeOn, Core, In, List, Met, Option, Pick, [], ap, are_in_grammar, are_new, children, children_in, file_of, flat_map-same, is_ok, is_sound, list_all-In, list_all-each, listed_numbers, listed_pages, numbers, pages_in, pages_of, survey, true, with_other, ℕ}
 use Rattle.trio_surveys.proofs.Local.{file_agrees, survey_local}
 use Rattle.trio_surveys.proofs.Owned.{sound_parts, sound_from}
 

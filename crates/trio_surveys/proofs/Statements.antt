@@ -1,9 +1,5 @@
 -- The laws of surveys, each from the lemmas that carry it.
-use Rattle.std.proofs.Common.{◌≡◌, ap, ◌∙◌, subst, arith}
-use Rattle.trio_layout.specs.Core.{Core}
-use Rattle.trio_layout.specs.Survey.{Pick, survey}
-use Rattle.trio_layout.specs.Sound.{is_sound}
-use Rattle.trio_surveys.specs.Reading.{with_other, AgreeOn}
+use Rattle.trio_surveys.proofs.Words.{◌∙◌, ◌≡◌, AgreeOn, Core, Pick, ap, arith, is_sound, subst, survey, with_other}
 use Rattle.trio_surveys.specs.SurveyLaws.{IsAlike, SurveyFollows, SurveyIsLocal, SoundnessIsLocal, SurveyIsTree, FileKeeps, BodiesInPlace}
 use Rattle.trio_surveys.proofs.Local.{survey_follows as follows, survey_local}
 use Rattle.trio_surveys.proofs.SoundLocal.{agreeing_sound}

@@ -1,17 +1,11 @@
 -- A sound survey is the root with all that its files list.
-use Rattle.std.proofs.Common.{ℕ, ◌≡◌, List, Ok, Result, [], ap, arith, inl, inr, refl, subst, suc, sym, true, ◌++◌, ◌<◌, ◌∙◌, ◌∷◌, ◌≤◌}
-use Rattle.std.proofs.lemmas.Bool.{and_parts}
-use Rattle.std.specs.List.{flat_map}
-use Rattle.trio_lists.proofs.Members.{In-map, flat_map-In, map-In}
-use Rattle.trio_lists.specs.Lists.{In, are_new}
-use Rattle.trio_layout.specs.Core.{Core, Location}
-use Rattle.trio_layout.specs.Entries.{Listed, slot_bytes}
+use Rattle.trio_surveys.proofs.Words.{◌++◌, ◌<◌, ◌∙◌, ◌∷◌, ◌≡◌, ◌≤◌, Core, FileRead, Front, In, In-map, List, Listed, Location, Met, Ok, Pick, Result, [], and_parts, ap, are_in_grammar, are_new, arith, children, children_in, file_of, flat_map, flat_map-In, fronts_are, inl, inr, is_sound, levels, listed_numbers, listed_pages, map-In, met_in, numbers, refl, root_of, slot_bytes, subst, suc, sym, true, ℕ}
 use Rattle.trio_layout.specs.JudgedFiles.{fronts}
-use Rattle.trio_layout.specs.Sound.{are_in_grammar, are_listed_once, is_sound, listed_numbers, listed_pages}
-use Rattle.trio_layout.specs.Survey.{FileRead, Front, Met, Pick, children, children_in, file_of, levels, met_in, numbers, root_of, survey}
+use Rattle.trio_layout.specs.Sound.{are_listed_once}
+use Rattle.trio_layout.specs.Survey.{survey}
 use Rattle.trio_surveys.proofs.Local.{reads_from}
 use Rattle.trio_surveys.proofs.Places.{Placed, entry_numbered, placed_from}
-use Rattle.trio_layout.proofs.Walks.{fronts_are, fronts_closed, fronts_listed, fronts_tree}
+use Rattle.trio_layout.proofs.Walks.{fronts_closed, fronts_listed, fronts_tree}
 
 -- the body of a child is what its pick says
 pub picked_met : (pick : Pick) (d : ℕ) (m : Met) (l : Listed) → m ≡ met_in pick d l → m.body ≡ pick m.parent m.page m.slot m.ino l.body

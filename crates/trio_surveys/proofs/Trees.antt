@@ -1,15 +1,6 @@
 -- An image that verifies is one connected tree with each page owned once, and its rows are those of the files met.
-use Rattle.std.proofs.Common.{Bool, List, Some, [], ap, cond, false, inl, inr, leb, ltb, refl, sym, true, ℕ, ◌∙◌, ◌∷◌, ◌≡◌, ◌≢◌, ◌⊎◌}
-use Rattle.std.proofs.lemmas.Bool.{and_parts, le-ltb, leb-true, ltb-true}
-use Rattle.std.specs.Prelude.{is_some, slice_index}
-use Rattle.trio_rights.specs.Row.{Row}
-use Rattle.trio_lists.proofs.Members.{is_among-In}
-use Rattle.trio_lists.specs.Lists.{In, is_among}
-use Rattle.trio_layout.specs.Core.{Core}
-use Rattle.trio_layout.specs.Image.{Image, IsFit, row_at, settled_body}
-use Rattle.trio_layout.specs.Range.{is_core}
-use Rattle.trio_layout.specs.Survey.{Met, owner_of, pages_of, plain, survey}
-use Rattle.trio_layout.specs.Verifies.{Verifies}
+use Rattle.trio_surveys.proofs.Words.{◌∙◌, ◌∷◌, ◌≡◌, ◌⊎◌, Bool, Core, Image, In, IsFit, List, Met, Row, Some, Verifies, [], and_parts, ap, cond, false, inl, inr, is_among, is_among-In, is_core, is_some, le-ltb, leb, leb-true, ltb, ltb-true, owner_of, pages_of, plain, refl, row_at, settled_body, slice_index, survey, sym, true, ℕ}
+use Rattle.std.proofs.Common.{◌≢◌}
 use Rattle.trio_surveys.proofs.Images.{TablesOf, met_row, numbers_new, one_met, owner_at, owner_listed, read_met, row_at_is, row_met, settled_body_met}
 use Rattle.trio_surveys.proofs.Owned.{sound_parts}
 use Rattle.trio_surveys.proofs.Reached.{survey_reached}

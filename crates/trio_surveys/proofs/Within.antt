@@ -1,20 +1,8 @@
 -- A file that is read as far as its pages are there, and the same file where they all are.
-use Rattle.std.proofs.Common.{List, None, Ok, Option, Some, [], ap, eqb, inl, inr, min, refl, subst, suc, sym, zero, ℕ, ◌++◌, ◌-◌, ◌∙◌, ◌∷◌, ◌≡◌, arith}
-use Rattle.std.specs.Option.{option_and_then}
-use Rattle.trio_rights.specs.declared.kind.Kind.{Kind}
-use Rattle.trio_rights.specs.declared.kind.Kind.TheVariants.{Directory, Regular}
-use Rattle.trio_lists.proofs.Members.{In-left, In-right, result_map-Ok, result_then-Ok}
-use Rattle.trio_lists.specs.Lists.{In, both, gathered, result_map, result_then, there_or}
-use Rattle.trio_layout.specs.Body.{block_count}
-use Rattle.trio_layout.specs.Chain.{Chain, chain_from, index_count, with_index}
-use Rattle.trio_layout.specs.Core.{Core, at_page, page_of}
-use Rattle.trio_layout.specs.Entries.{entries_of_kind, entries_on, page_entries, with_names_apart}
-use Rattle.trio_layout.specs.Index.{Index, index_of}
-use Rattle.trio_layout.specs.Survey.{FileRead, Met, file_of}
-use Rattle.trio_layout.specs.Within.{chain_within, entries_where, entries_within, file_within, index_within}
-use Rattle.trio_layout.specs.declared.range.CoreRange.{CoreRange}
+use Rattle.trio_surveys.proofs.Words.{◌++◌, ◌-◌, ◌∙◌, ◌∷◌, ◌≡◌, Chain, Core, CoreRange, Directory, FileRead, In, In-left, In-right, Index, Kind, List, Met, None, Ok, Option, Regular, Some, [], ap, arith, at_page, block_count, both, chain_from, entries_of_kind, entries_on, eqb, file_within, gathered, index_count, index_of, inl, inr, min, option_and_then, page_entries, page_of, pages_read, refl, result_map, result_map-Ok, result_then, result_then-Ok, subst, suc, sym, there_or, with_index, with_names_apart, zero, ℕ}
+use Rattle.trio_layout.specs.Survey.{file_of}
+use Rattle.trio_layout.specs.Within.{chain_within, entries_where, entries_within, index_within}
 use Rattle.trio_surveys.proofs.Local.{reads_from, reads_to}
-use Rattle.trio_surveys.specs.Reading.{pages_read}
 use Rattle.trio_layout.proofs.WithinCore.{rest_of, within_from, within_to}
 
 -- ---- where all pages are there

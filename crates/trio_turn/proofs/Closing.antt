@@ -1,26 +1,12 @@
 -- What starting, meeting and closing owe, over plain views.
-use Rattle.std.proofs.Common.{◌≡◌, ◌≢◌, ◌⊎◌, inl, inr, ⊎_elim, ℕ, zero, suc, ◌+◌, ◌-◌, ◌<◌, true, List, [], ◌∷◌, ◌++◌, map, length, Option, Some, None, slice_get, refl, ap, sym, ◌∙◌, subst, arith}
+use Rattle.trio_turn.proofs.Words.{◌++◌, ◌+◌, ◌-◌, ◌<◌, ◌∙◌, ◌∷◌, ◌≡◌, ◌≢◌, ◌⊎◌, AllNew, DoesNotWait, Entry, Final, HasEach, Idle, InTurn, IsInLine, IsNew, LibSeat, Library, LibraryAgrees, List, LooksAt, Mark, None, Option, Origin, ReadAt, Seen, Some, Spent, Stage, TicketRule, View, Waiting, [], ap, arith, at_longer, copied, dealing, held, inl, inr, is_resting, left_with, length, made_by, map, met, own_begun, own_number, refl, seated, slice_get, subst, suc, sym, true, unseated, view, zero, ℕ, ⊎_elim}
 use mathlib.Core.Option.{some, some-injective}
 use Rattle.atomic_table.specs.Seated.{TableId}
 use mathlib.Core.List.{IsPrefix, append-nil}
 use lib.ListN.{get_elem?}
-use Rattle.atomic_table.proofs.Lists.{at_longer, at_last}
-use Rattle.trio_nodes.specs.declared.entry.Entry.{Entry}
-use Rattle.trio_turn.specs.Origins.{Origin}
-use Rattle.trio_turn.specs.Marks.{Mark}
-use Rattle.trio_turn.specs.declared.view.Library.{Library}
-use Rattle.trio_turn.specs.declared.view.View.{View}
-use Rattle.trio_turn.specs.declared.view.Stage.{Stage}
-use Rattle.trio_turn.specs.declared.view.Stage.TheVariants.{Idle, Waiting, InTurn, Spent}
-use Rattle.trio_turn.specs.declared.seat.LibSeat.{LibSeat}
-use Rattle.trio_turn.specs.Rule.{TicketRule, LibraryAgrees}
-use Rattle.trio_turn.specs.Logs.{made_by, IsInLine}
-use Rattle.trio_turn.specs.Views.{held, view, own_number, own_begun}
-use Rattle.trio_turn.specs.inner.Steps.{dealing, unseated, seated, copied, left_with, met, LooksAt, ReadAt, DoesNotWait}
-use Rattle.trio_turn.specs.inner.Resting.{is_resting}
-use Rattle.trio_turn.specs.Seats.{library, seen, mine, first as began, begun as mark, AllNew, IsNew, EverySeat}
-use Rattle.trio_turn.specs.inner.Gathered.{library_of, HasEach}
-use Rattle.atomic_table.specs.Table.{Final, Seen}
+use Rattle.atomic_table.proofs.Lists.{at_last}
+use Rattle.trio_turn.specs.Seats.{library, seen, mine, first as began, begun as mark, EverySeat}
+use Rattle.trio_turn.specs.inner.Gathered.{library_of}
 use Rattle.trio_turn.proofs.Ends.{closes}
 use Rattle.trio_turn.proofs.Lists.{prefix_trans}
 use Rattle.trio_turn.proofs.Parts.{both_begin, left_longer, right_longer, lie_in_line}

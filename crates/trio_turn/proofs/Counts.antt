@@ -1,20 +1,10 @@
 -- Setting the count keeps the rule.
-use Rattle.std.proofs.Common.{◌≡◌, ◌≢◌, inr, ℕ, zero, suc, ◌+◌, ◌≤◌, ◌==◌, cond, List, ◌∷◌, length, set, Option, Some, refl, ap, sym, ◌∙◌, subst, arith, eq-eqb}
+use Rattle.trio_turn.proofs.Words.{◌+◌, ◌==◌, ◌∙◌, ◌∷◌, ◌≡◌, ◌≢◌, ◌≤◌, Allows, Entry, Idle, IfLive, InTurn, IsQueued, Library, LibraryAgrees, List, Mark, Me, Option, Origin, Some, Spent, Stage, State, TicketRule, View, ViewAgrees, Waiting, ap, arith, cond, counted_at, eq-eqb, has_ticket, inr, keeps, length, made_by, refl, set, step, subst, suc, sym, tickets, times, zero, ℕ}
 use mathlib.Core.List.{IsPrefix}
 use mathlib.Core.Option.{some, none, some-injective, some-ne-none}
 use mathlib.Core.Option as maybe
 use lib.ListN.{get_elem?}
-use Rattle.atomic_table.specs.Table.{State, Me, step, keeps, Allows}
-use Rattle.trio_nodes.specs.declared.entry.Entry.{Entry}
-use Rattle.trio_turn.specs.Origins.{Origin}
-use Rattle.trio_turn.specs.Marks.{Mark}
-use Rattle.trio_turn.specs.declared.view.Library.{Library}
-use Rattle.trio_turn.specs.declared.view.View.{View}
-use Rattle.trio_turn.specs.declared.view.Stage.{Stage}
-use Rattle.trio_turn.specs.declared.view.Stage.TheVariants.{Idle, Waiting, InTurn, Spent}
-use Rattle.trio_turn.specs.Rule.{times, tickets, has_ticket, IfLive, LibraryAgrees, ViewAgrees, IsQueued, TicketRule}
-use Rattle.trio_turn.specs.Logs.{made_by}
-use Rattle.trio_turn.specs.inner.Steps.{counted, counted_at, counted_libraries}
+use Rattle.trio_turn.specs.inner.Steps.{counted, counted_libraries}
 use Rattle.trio_turn.proofs.Lists.{set_at, prefix_self, prefix_trans, total_set, total_at, total_two, each_set}
 use Rattle.trio_turn.proofs.Keeps.{mine_in_turn, only_one}
 

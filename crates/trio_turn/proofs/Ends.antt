@@ -1,21 +1,12 @@
 -- The rule at the start, and what it says at the end.
-use Rattle.std.proofs.Common.{◌≡◌, ◌≢◌, inl, inr, ℕ, zero, suc, ◌+◌, ◌<◌, ◌≤◌, ◌==◌, cond, List, [], ◌∷◌, ◌++◌, length, All, Option, Some, refl, ap, sym, ◌∙◌, subst, arith, eq-eqb, ne_eqb}
-use Rattle.std.proofs.lemmas.List.Elements.{filter-append}
+use Rattle.trio_turn.proofs.Words.{◌++◌, ◌+◌, ◌<◌, ◌==◌, ◌∙◌, ◌∷◌, ◌≡◌, ◌≢◌, ◌≤◌, Entry, Final, GrewBy, Idle, IsPlaced, IsQueued, Library, LibraryAgrees, List, Mark, Option, Origin, Seen, Some, State, TicketRule, View, ViewAgrees, [], ap, arith, cond, eq-eqb, filter-append, held, inl, inr, length, made_by, maker, ne_eqb, refl, subst, suc, sym, tickets, times, zero, ℕ}
+use Rattle.std.proofs.Common.{All}
 use mathlib.Core.Logic.{dite}
 use mathlib.Core.List.{IsPrefix, append-nil}
 use mathlib.Core.Option.{some, some-injective, some-ne-none}
 use native.Mathlib.Decide.{ℕ_discrete}
 use lib.ListN.{get_elem?}
-use Rattle.atomic_table.specs.Table.{State, opening, Final, Seen}
-use Rattle.trio_nodes.specs.declared.entry.Entry.{Entry}
-use Rattle.trio_turn.specs.Origins.{Origin}
-use Rattle.trio_turn.specs.Marks.{Mark}
-use Rattle.trio_turn.specs.declared.view.Library.{Library}
-use Rattle.trio_turn.specs.declared.view.View.{View}
-use Rattle.trio_turn.specs.declared.view.Stage.TheVariants.{Idle}
-use Rattle.trio_turn.specs.Rule.{times, tickets, IsQueued, LibraryAgrees, ViewAgrees, IsPlaced, TicketRule}
-use Rattle.trio_turn.specs.Logs.{maker, made_by, GrewBy}
-use Rattle.trio_turn.specs.Views.{held}
+use Rattle.atomic_table.specs.Table.{opening}
 use Rattle.trio_turn.specs.inner.Steps.{lined_up, starting}
 use Rattle.trio_turn.proofs.Lists.{total_two}
 use Rattle.trio_turn.proofs.Keeps.{not_in_turn}

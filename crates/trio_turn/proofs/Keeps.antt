@@ -1,5 +1,6 @@
 -- Drawing a ticket, reading which is served, and passing the turn on keep the rule.
-use Rattle.std.proofs.Common.{◌≡◌, ◌≢◌, inl, inr, ⊎_elim, ℕ, ◌+◌, ◌<◌, ◌≤◌, eqb, cond, List, [], ◌∷◌, length, get_or, set, Option, Some, None, refl, ap, sym, ◌∙◌, subst, arith, eq-eqb, ne_eqb}
+use Rattle.trio_turn.proofs.Words.{◌+◌, ◌<◌, ◌∙◌, ◌∷◌, ◌≡◌, ◌≢◌, ◌≤◌, Allows, DoesNotWait, Entry, Idle, IfLive, InTurn, IsPlaced, IsQueued, Learns, List, LooksAt, Mark, Me, None, Option, Origin, ReadAt, Some, Spent, Stage, State, TicketRule, View, ViewAgrees, Waiting, [], ap, arith, cond, eq-eqb, has_ticket, held, inl, inr, keeps, length, ne_eqb, refl, set, set_else, staged, step, subst, sym, tickets, times, total, ℕ, ⊎_elim}
+use Rattle.std.proofs.Common.{eqb, get_or}
 use mathlib.Core.Logic.{dite}
 use mathlib.Core.Option.{some, none, some-injective, some-ne-none}
 use mathlib.Core.Option as maybe
@@ -7,17 +8,9 @@ use native.Mathlib.Decide.{ℕ_discrete}
 use lib.ListN.{get_elem?}
 use lib.Seq.{set-get_or}
 use prog.Atomic.{either}
-use Rattle.atomic_table.specs.Table.{State, Me, step, keeps, takes, gives, stepped, Allows}
-use Rattle.atomic_table.proofs.Lists.{set_again, set_else}
-use Rattle.trio_nodes.specs.declared.entry.Entry.{Entry}
-use Rattle.trio_turn.specs.Origins.{Origin}
-use Rattle.trio_turn.specs.Marks.{Mark}
-use Rattle.trio_turn.specs.declared.view.View.{View}
-use Rattle.trio_turn.specs.declared.view.Stage.{Stage}
-use Rattle.trio_turn.specs.declared.view.Stage.TheVariants.{Idle, Waiting, InTurn, Spent}
-use Rattle.trio_turn.specs.Rule.{total, times, tickets, has_ticket, IfLive, ViewAgrees, IsQueued, IsPlaced, TicketRule}
-use Rattle.trio_turn.specs.Views.{held}
-use Rattle.trio_turn.specs.inner.Steps.{staged, drew, passed, Learns, LooksAt, ReadAt, DoesNotWait, read}
+use Rattle.atomic_table.specs.Table.{takes, gives, stepped}
+use Rattle.atomic_table.proofs.Lists.{set_again}
+use Rattle.trio_turn.specs.inner.Steps.{drew, passed, read}
 use Rattle.trio_turn.proofs.Lists.{set_at, made_between, total_set, total_two, total_none, each_set}
 
 module _ {T : Type 0} where

@@ -1,13 +1,10 @@
 -- Beginnings of one list, entries of a library, and sums over the views.
-use Rattle.std.proofs.Common.{◌≡◌, ◌≢◌, ⊎_elim, ℕ, zero, suc, ◌+◌, ◌≤◌, ◌==◌, List, [], ◌∷◌, ◌++◌, length, set, refl, ap, sym, ◌∙◌, subst, arith, append_assoc, length-append}
-use Rattle.std.proofs.lemmas.List.Elements.{filter-append}
+use Rattle.trio_turn.proofs.Words.{◌++◌, ◌+◌, ◌==◌, ◌∙◌, ◌∷◌, ◌≡◌, ◌≢◌, ◌≤◌, Entry, List, [], ap, append_assoc, arith, filter-append, length, made_by, maker, refl, set, subst, suc, sym, total, zero, ℕ, ⊎_elim}
+use Rattle.std.proofs.Common.{length-append}
 use mathlib.Core.List.{IsPrefix}
 use mathlib.Core.Option.{some, some-injective, some-ne-none}
 use lib.ListN.{get_elem?}
 use Rattle.atomic_table.proofs.Lists.{at_set}
-use Rattle.trio_turn.specs.Rule.{total}
-use Rattle.trio_turn.specs.Logs.{maker, made_by}
-use Rattle.trio_nodes.specs.declared.entry.Entry.{Entry}
 
 -- each list begins with itself
 pub prefix_self : {A : Type 0} (xs : List A) → IsPrefix xs xs

@@ -1,24 +1,14 @@
 -- Splitting a seat and joining two keep the rule.
-use Rattle.std.proofs.Common.{◌≡◌, ◌≢◌, ◌⊎◌, inl, inr, ⊎_elim, ℕ, zero, suc, ◌+◌, ◌<◌, nat_le, ◌==◌, cond, Bool, true, false, List, [], ◌∷◌, ◌++◌, map, length, set, Option, refl, ap, sym, ◌∙◌, subst, arith}
-use Rattle.std.proofs.lemmas.Bool.Decides.{nat_tests}
+use Rattle.trio_turn.proofs.Words.{◌++◌, ◌+◌, ◌<◌, ◌==◌, ◌∙◌, ◌∷◌, ◌≡◌, ◌≢◌, ◌⊎◌, Entry, Idle, IfLive, InTurn, IsInLine, IsQueued, Library, LibraryAgrees, List, Mark, Option, Origin, Spent, Stage, State, TicketRule, View, ViewAgrees, Waiting, [], ap, arith, at_longer, cond, copied, has_ticket, held, inl, inr, left_with, length, map, met, nat_tests, refl, seated, set, set_else, subst, suc, sym, tickets, times, true, unseated, view, zero, ℕ, ⊎_elim}
+use Rattle.std.proofs.Common.{nat_le, Bool, false}
 use mathlib.Core.List.{IsPrefix}
 use mathlib.Core.Option.{some, some-injective, some-ne-none}
 use mathlib.Core.Logic.{dite}
 use native.Mathlib.Decide.{ℕ_discrete}
 use lib.ListN.{get_elem?}
-use Rattle.atomic_table.specs.Table.{State, Splits, Joins}
-use Rattle.atomic_table.proofs.Lists.{at_snoc, at_longer, set_else}
-use Rattle.trio_nodes.specs.declared.entry.Entry.{Entry}
-use Rattle.trio_turn.specs.Origins.{Origin}
-use Rattle.trio_turn.specs.Marks.{Mark}
-use Rattle.trio_turn.specs.declared.view.Library.{Library}
-use Rattle.trio_turn.specs.declared.view.View.{View}
-use Rattle.trio_turn.specs.declared.view.Stage.{Stage}
-use Rattle.trio_turn.specs.declared.view.Stage.TheVariants.{Idle, Waiting, InTurn, Spent}
-use Rattle.trio_turn.specs.Rule.{times, tickets, has_ticket, IfLive, LibraryAgrees, ViewAgrees, IsQueued, TicketRule}
-use Rattle.trio_turn.specs.Views.{held, view}
-use Rattle.trio_turn.specs.inner.Steps.{first_of, rest_of, unseated, seated, copied, left_with, longer, shorter, met, spent}
-use Rattle.trio_turn.specs.Logs.{IsInLine}
+use Rattle.atomic_table.specs.Table.{Splits, Joins}
+use Rattle.atomic_table.proofs.Lists.{at_snoc}
+use Rattle.trio_turn.specs.inner.Steps.{first_of, rest_of, longer, shorter, spent}
 use Rattle.trio_turn.proofs.Lists.{set_at, prefix_self, prefix_trans, prefix_shorter, made_between, total_set, total_append, each_set}
 use Rattle.trio_turn.proofs.Keeps.{live_of, not_in_turn}
 

@@ -1,19 +1,7 @@
 -- What the calls of a seat owe, over plain views.
-use Rattle.std.proofs.Common.{◌≡◌, ◌≢◌, ℕ, ◌<◌, true, List, [], ◌∷◌, length, Option, Some, None, IsSome, IfSome, refl, ap, sym, ◌∙◌, subst, arith}
-use Rattle.std.proofs.lemmas.Bool.Decides.{nat_tests}
+use Rattle.trio_turn.proofs.Words.{◌<◌, ◌∙◌, ◌∷◌, ◌≡◌, ◌≢◌, Entry, GrewBy, Idle, InTurn, Learns, Library, List, Mark, None, Option, Origin, Some, Spent, Stage, View, Waiting, [], ap, arith, carries, counted_at, held, is_resting, length, made_by, nat_tests, own_begun, own_number, refl, rest, staged, subst, sym, true, ℕ}
+use Rattle.std.proofs.Common.{IsSome, IfSome}
 use lib.ListN.{get_elem?}
-use Rattle.atomic_table.specs.Table.{rest}
-use Rattle.trio_nodes.specs.declared.entry.Entry.{Entry}
-use Rattle.trio_turn.specs.Origins.{Origin}
-use Rattle.trio_turn.specs.Marks.{Mark}
-use Rattle.trio_turn.specs.declared.view.Library.{Library}
-use Rattle.trio_turn.specs.declared.view.View.{View}
-use Rattle.trio_turn.specs.declared.view.Stage.{Stage}
-use Rattle.trio_turn.specs.declared.view.Stage.TheVariants.{Idle, Waiting, InTurn, Spent}
-use Rattle.trio_turn.specs.Logs.{made_by, GrewBy}
-use Rattle.trio_turn.specs.Views.{held, own_number, own_begun}
-use Rattle.trio_turn.specs.inner.Steps.{staged, counted_at, Learns}
-use Rattle.trio_turn.specs.inner.Resting.{is_resting, carries}
 
 -- an option that has a value has this one
 pub some_of : {A : Type 0} (o : Option A) → IsSome o → (x : A) × (o ≡ Some x)

@@ -1,22 +1,9 @@
 -- In one tree walks need one kind of grant on each directory.
-use Rattle.std.proofs.Common.{◌≡◌, ℕ, Bool, true, false, cond, eqb, List, [], ◌∷◌, ◌++◌, Option, Some, None, Result, Ok, Err, sym, refl, ap, ◌∙◌, subst, inl, inr, arith, append_assoc}
-use Rattle.std.specs.Prelude.{not, ◌||◌}
-use Rattle.std.specs.List.{list_any}
+use Rattle.trio_walk.proofs.Words.{◌++◌, ◌||◌, ◌∙◌, ◌∷◌, ◌≡◌, Bool, Creds, Denied, Err, Exists, In, In-cases, IntoItself, IsDir, IsTree, List, Need, Needed, NoInodes, NoSpace, Node, Nodes, None, NotDir, NotEmpty, NotFound, Ok, Option, Path, Result, Some, TooLarge, [], and_then, ap, append-nil, append_assoc, arith, asked_beside, cond, enter, enter_node, entered_needs, eqb, false, find_named, find_named-Child, found_needs, inl, inr, into_needs, is_directory, kind_for, lacks, list_any, need_at, needs_from, node_at, not, reached_by, refl, serves_need, some_one, subst, sym, true, walk, walk_from, walk_needs, ℕ}
 use Rattle.std.specs.Option.{ok_or}
-use Rattle.std.proofs.lemmas.List.{append-nil}
-use Rattle.trio_rights.specs.declared.rights.Creds.{Creds}
-use Rattle.trio_rights.specs.declared.rights.Need.{Need}
-use Rattle.trio_lists.specs.Lists.{In}
-use Rattle.trio_lists.proofs.Filters.{some_one}
-use Rattle.trio_lists.proofs.Members.{In-cases}
-use Rattle.trio_nodes.specs.declared.node.Node.{Node}
 use Rattle.trio_nodes.specs.declared.call.Reply.{Reply}
-use Rattle.trio_nodes.specs.declared.call.Reply.TheVariants.{Ok as Replied, NotFound, Exists, NotDir, IsDir, NotEmpty, Denied, IntoItself, NoSpace, NoInodes, TooLarge}
-use Rattle.trio_nodes.specs.Nodes.{Nodes, node_at, find_named}
-use Rattle.trio_nodes.specs.Tree.{IsTree}
-use Rattle.trio_nodes.specs.Walk.{Path, and_then, enter, enter_node, is_directory, lacks, need_at, walk, walk_from}
-use Rattle.trio_onetree.proofs.Children.{find_named-Child}
-use Rattle.trio_walk.specs.Needs.{Needed, asked_beside, entered_needs, found_needs, into_needs, kind_for, needs_from, needs_if, reached_by, serves_need, walk_needs}
+use Rattle.trio_nodes.specs.declared.call.Reply.TheVariants.{Ok as Replied}
+use Rattle.trio_walk.specs.Needs.{needs_if}
 
 abbrev Reached : Type 0
 Reached = Result ℕ Reply

@@ -1,36 +1,14 @@
 -- Who is denied a grant, and what stays of rights and places in the nodes that are shown.
-use Rattle.std.proofs.Common.{◌≡◌, ℕ, zero, suc, ◌/◌, ◌%◌, ◌<◌, arith, Bool, true, false, cond, eqb, List, [], ◌∷◌, ◌++◌, length, Option, Some, None, sym, refl, ap, ◌∙◌, inl, inr, ◌⊎◌}
-use Rattle.std.specs.Prelude.{bit_and, is_some, not}
-use Rattle.std.specs.List.{find}
-use Rattle.std.specs.Option.{option_map, option_or}
+use Rattle.trio_walk.proofs.Words.{◌%◌, ◌++◌, ◌/◌, ◌<◌, ◌∙◌, ◌∷◌, ◌≡◌, ◌⊎◌, AboveIsOpen, Bool, Case, Creds, Directory, In, IsAmong, IsTree, Kind, List, Mode, Naming, Need, Node, Nodes, None, Option, Row, Shows, Some, ToRead, ToWrite, [], ancestors, ap, arith, cond, eq-eqb, eqb, false, false≢true, find, find-append, inl, inr, is_some, lacks, length, naming_of, ne_eqb, node_at, not, option_map, option_or, permits, refl, rights_of, rights_rows, row_in, row_permits, some_one, suc, sym, true, was_there, zero, ℕ}
+use Rattle.std.specs.Prelude.{bit_and}
 use Rattle.std.proofs.Math.ListN.{get_or-map}
-use Rattle.std.proofs.lemmas.Bool.{eq-eqb, false≢true, ne_eqb, or_cases, or_left, or_right}
+use Rattle.std.proofs.lemmas.Bool.{or_cases, or_left, or_right}
 use Rattle.std.proofs.lemmas.Bool.Decides.{eqb_tells}
-use Rattle.std.proofs.lemmas.List.Folds.{find-append}
-use Rattle.trio_rights.specs.Row.{Row, row_in}
-use Rattle.trio_rights.specs.Rights.{class_bits_of, permits}
-use Rattle.trio_rights.specs.May.{ancestors, row_permits}
-use Rattle.trio_rights.specs.declared.kind.Kind.{Kind}
-use Rattle.trio_rights.specs.declared.kind.Kind.TheVariants.{Directory}
-use Rattle.trio_rights.specs.declared.rights.Creds.{Creds}
-use Rattle.trio_rights.specs.declared.rights.Mode.{Mode}
-use Rattle.trio_rights.specs.declared.rights.Need.{Need}
-use Rattle.trio_rights.specs.declared.rights.Need.TheVariants.{Read as ToRead, Write as ToWrite}
-use Rattle.trio_lists.specs.Lists.{In}
-use Rattle.trio_lists.proofs.Filters.{some_one}
-use Rattle.trio_layout.specs.Case.{Case}
+use Rattle.trio_rights.specs.Rights.{class_bits_of}
 use Rattle.trio_layout.specs.Listing.{is_kept}
 use Rattle.trio_surveys.proofs.OwnFiles.{place_parts}
-use Rattle.trio_nodes.specs.declared.node.Node.{Node}
-use Rattle.trio_nodes.specs.Nodes.{Nodes, node_at}
-use Rattle.trio_nodes.specs.Tree.{IsTree}
-use Rattle.trio_nodes.specs.Walk.{lacks}
-use Rattle.trio_nodes.specs.Legal.{HasRightsOf, rights_row, rights_rows}
-use Rattle.trio_desk.specs.Among.{IsAmong}
-use Rattle.trio_desk.specs.Contents.{rights_of}
-use Rattle.trio_desk.specs.Shows.{Naming, Shows, naming_of}
-use Rattle.trio_laws.specs.session.Sees.{AboveIsOpen}
-use Rattle.trio_laws.proofs.session.Edges.{listed_now, new_dead, node_row, own, row_node, was_there}
+use Rattle.trio_nodes.specs.Legal.{HasRightsOf, rights_row}
+use Rattle.trio_laws.proofs.session.Edges.{listed_now, new_dead, node_row, own, row_node}
 use Rattle.trio_laws.proofs.session.Namings.{met_of, naming_is}
 
 -- ---- who is denied

@@ -1,46 +1,8 @@
 -- How a directory is entered.
-use Rattle.std.proofs.Common.{◌≡◌, ℕ, Bool, true, false, cond, List, [], ◌∷◌, ◌++◌, Option, Some, None, Result, Ok, Err, sym, refl, ap, ◌∙◌, subst, inl, inr}
-use Rattle.std.specs.Prelude.{is_some, map, not, ◌&&◌, ◌≢◌}
-use Rattle.std.specs.Option.{option_map, option_map_or}
-use Rattle.std.proofs.Math.Bool.{or-false}
-use Rattle.std.proofs.lemmas.Bool.{false≢true}
-use Rattle.std.proofs.lemmas.List.{append-nil}
-use Rattle.trio_rights.specs.Row.{Row}
-use Rattle.trio_rights.specs.Rights.{permits}
-use Rattle.trio_rights.specs.declared.kind.Kind.TheVariants.{Directory, Regular}
-use Rattle.trio_rights.specs.declared.rights.Creds.{Creds}
-use Rattle.trio_rights.specs.declared.rights.Need.{Need}
-use Rattle.trio_rights.specs.declared.rights.Need.TheVariants.{Read as ToRead, Write as ToWrite}
-use Rattle.trio_lists.specs.Lists.{In}
-use Rattle.trio_lists.proofs.Filters.{some_one}
-use Rattle.trio_lists.proofs.Members.{In-left, In-map}
-use Rattle.trio_lease.specs.declared.lease.Lease.{Lease}
-use Rattle.trio_lease.specs.declared.lease.Lease.TheVariants.{Write as WriteLease, Read as ReadLease, Hold as HoldLease}
-use Rattle.trio_nodes.specs.declared.node.Node.{Node}
-use Rattle.trio_nodes.specs.declared.grant.GrantKind.{GrantKind}
-use Rattle.trio_nodes.specs.declared.grant.GrantKind.TheVariants.{Read, Write, Hold}
-use Rattle.trio_nodes.specs.declared.grant.Holder.{Holder}
-use Rattle.trio_nodes.specs.declared.answers.GrantFault.TheVariants.{Busy as BusyGrant, Denied as DeniedGrant, NoMemory as NoGrantMemory}
+use Rattle.trio_walk.proofs.Words.{◌++◌, ◌∙◌, ◌∷◌, ◌≡◌, ◌≢◌, ArePossible, Ask, At, Bool, Busy, BusyGrant, Call, Creds, Denied, DeniedGrant, DeskSeen, Directory, EndsBy, Entered, Enters, Err, Grant, GrantKind, HasCause, HasMet, Hold, HoldLease, Holder, In, In-left, In-map, IsMet, IsMetIn, Lease, List, MayTake, MayWalk, Met, Need, Needed, NoGrantMemory, NoMemory, Node, Nodes, None, NotDir, NotLent, Ok, Option, Read, ReadLease, Regular, Reply, Result, Rights, Row, SessionSeen, Some, TakenAs, ToRead, ToWrite, Told, Took, WalkEnd, Way, Write, WriteLease, [], ap, append-nil, asked, batch_nodes, body_refuses, cond, denies, enter, enter_node, entered_needs, false, false≢true, gives_met, here, inl, inr, is_directory, is_some, kind_for, kind_lent, kind_shown, lacks, map, need_of, node_at, not, one_need, option_map, option_map_or, or-false, permits, refl, rights_of, served_by, serves, some_one, subst, sym, true, with_lease, with_leases, ℕ}
+use Rattle.std.specs.Prelude.{◌&&◌}
 use Rattle.trio_nodes.specs.declared.call.Reply as reply
-use Rattle.trio_nodes.specs.declared.call.Reply.TheVariants.{NotDir, Denied}
-use Rattle.trio_nodes.specs.Nodes.{Nodes, node_at}
-use Rattle.trio_nodes.specs.Walk.{enter, enter_node, is_directory, lacks}
-use Rattle.trio_nodes.specs.After.{batch_nodes}
-use Rattle.trio_desk.specs.Call.{Ask, DeskSeen, Grant, NotLent, Told}
-use Rattle.trio_desk.specs.Calls.{Call}
-use Rattle.trio_desk.specs.Contents.{Rights, rights_of}
-use Rattle.trio_desk.specs.Out.{kind_lent}
-use Rattle.trio_desk.specs.Ready.{ArePossible}
-use Rattle.trio_desk.specs.Refusals.{HasCause}
-use Rattle.trio_session.specs.Asked.{with_lease}
-use Rattle.trio_session.specs.Seen.{SessionSeen, kind_shown, serves}
-use Rattle.trio_walk.specs.declared.met.Met.{Met}
 use Rattle.trio_walk.specs.declared.met.Rights as shown_rights
-use Rattle.trio_walk.specs.declared.walks.WalkEnd.{WalkEnd}
-use Rattle.trio_walk.specs.declared.walks.WalkEnd.TheVariants.{At, Reply, Busy, NoMemory}
-use Rattle.trio_walk.specs.Needs.{Needed, asked, entered_needs, kind_for}
-use Rattle.trio_walk.specs.Walks.{EndsBy, HasMet, IsMet, IsMetIn, MayTake, MayWalk, TakenAs, Took, Way, denies, gives_met, need_of, one_need, served_by, with_leases}
-use Rattle.trio_walk.specs.inner.Steps.{Entered, Enters, body_refuses, here}
 use Rattle.trio_walk.proofs.Denials.{reads_too}
 use Rattle.trio_walk.proofs.Looking.{rights_now, tree_now}
 use Rattle.trio_walk.proofs.Meeting.{body_lacks, lacks_known, met_still}

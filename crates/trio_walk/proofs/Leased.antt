@@ -1,32 +1,6 @@
 -- A session that takes a lease may walk on.
-use Rattle.std.proofs.Common.{◌≡◌, ℕ, ◌<◌, eqb, List, [], ◌∷◌, ◌++◌, length, Option, Some, None, sym, refl, ap, ◌∙◌, subst, inl, inr, arith}
-use Rattle.std.specs.Prelude.{map, slice_get, slice_index_or}
-use Rattle.std.specs.List.{find, flat_map}
-use Rattle.std.specs.Option.{option_map, option_map_or, option_or}
-use Rattle.std.proofs.lemmas.Option.{slice_get-get_or}
-use Rattle.trio_rights.specs.declared.kind.Kind.{Kind}
-use Rattle.trio_rights.specs.declared.kind.Kind.TheVariants.{Directory}
-use Rattle.trio_rights.specs.declared.rights.Creds.{Creds}
-use Rattle.trio_rights.specs.declared.rights.LibNo.{LibNo}
-use Rattle.trio_lists.specs.Lists.{In}
-use Rattle.trio_lists.proofs.Members.{In-flat, In-left, In-map, In-right, map-In}
-use Rattle.trio_lists.proofs.Filters.{find-In}
-use Rattle.trio_layout.specs.Chain.{Chain}
-use Rattle.trio_layout.specs.Entries.{body_in_slot}
-use Rattle.trio_lease.specs.Shown.{LentFile, Shown}
-use Rattle.trio_lease.specs.declared.parts.HoldParts.{HoldParts}
-use Rattle.trio_nodes.specs.Nodes.{Nodes}
-use Rattle.trio_auxdir.specs.Slots.{slots_of}
-use Rattle.trio_desk.specs.Call.{Ask, DeskSeen, SeenAfter, Told}
-use Rattle.trio_desk.specs.Contents.{Rights, Sizes}
-use Rattle.trio_desk.specs.Out.{file_numbers, files_out, hold_numbers, ino_numbers}
-use Rattle.trio_desk.specs.Ready.{lent_files}
-use Rattle.trio_laws.specs.session.Takes.{pages_in_hand}
-use Rattle.trio_session.specs.Layout.{page_in}
-use Rattle.trio_session.specs.Seen.{MadeFile, SessionSeen, body_in, chain_in, every_number, in_hand, made_body, made_file, no_chain, open_kind, place_in, place_of, written_file}
+use Rattle.trio_walk.proofs.Words.{◌++◌, ◌<◌, ◌∙◌, ◌∷◌, ◌≡◌, Ask, Chain, Creds, DeskSeen, Directory, HoldParts, In, In-flat, In-left, In-map, In-right, Kind, LentFile, LibNo, List, MadeFile, MayWalk, Nodes, None, Option, Rights, SeenAfter, SeesOpen, SessionSeen, Shown, Sizes, Some, Told, [], ap, arith, body_in, body_in_slot, chain_in, eqb, every_number, file_numbers, files_out, find, find-In, flat_map, hold_numbers, in_hand, inl, ino_numbers, inr, length, lent_files, made_body, made_file, map, map-In, no_chain, open_kind, option_map, option_map_or, option_or, page_in, pages_in_hand, pages_looked, place_in, place_of, refl, slice_get, slice_get-In, slice_get-get_or, slice_index_or, slots_of, subst, sym, written_file, ℕ}
 use Rattle.trio_session.proofs.Found.{find-none, find-position}
-use Rattle.trio_session.proofs.Lists.{slice_get-In}
-use Rattle.trio_walk.specs.Walks.{MayWalk, SeesOpen, pages_looked}
 use Rattle.trio_walk.proofs.Opened.{open_seen, sees_same}
 
 -- a desk after a call is the one before it, but for what is out

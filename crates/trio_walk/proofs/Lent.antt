@@ -1,52 +1,24 @@
 -- A session that was lent a file may walk on.
-use Rattle.std.proofs.Common.{◌≡◌, ℕ, ◌+◌, ◌<◌, Bool, true, false, cond, eqb, List, [], ◌∷◌, ◌++◌, length, Option, Some, None, sym, refl, ap, ◌∙◌, subst, inl, inr, ◌⊎◌}
-use Rattle.std.specs.Prelude.{is_some, map, slice_index_or}
-use Rattle.std.specs.List.{find, flat_map}
-use Rattle.std.specs.Option.{option_map, option_map_or, option_or}
-use Rattle.std.proofs.lemmas.Bool.{eq-eqb, eqb-true}
+use Rattle.trio_walk.proofs.Words.{◌++◌, ◌+◌, ◌<◌, ◌∙◌, ◌∷◌, ◌≡◌, ◌⊎◌, AboveIsOpen, ArePossible, Bool, Chain, DeskSeen, Directory, EntryPart, HasFile, HoldLease, HoldParts, In, In-cases, In-flat, In-left, In-map, In-right, IsFreshLease, IsLeaseIn, IsOn, IsView, Kind, LentFile, LentPage, LibOut, List, Lists, MadeFile, MayWalk, Node, Nodes, None, Option, Place, ReadLease, Rights, Row, SeesOpen, SessionSeen, Sheet, Shown, Some, WriteLease, Written, [], ap, batch_nodes, block_shown, body_in, case_as_stands, chain_in, cond, dir_pages, entries_shown, entry_node, entry_shown, eq-eqb, eqb, eqb-true, false, file_numbers, files_out, find, find-append, flat_map, hold_numbers, in_hand, inl, ino_numbers, inr, is_some, length, length-append, lent_files, lent_sheet, made_body, made_file, map, map-In, map-append, naming_of, no_chain, node_at, numbers_of_file, open_kind, option_map, option_map_or, option_or, pages_in_hand, pages_looked, pages_out, place_in, refl, rights_in, rights_of, sheets_of, slice_index_or, subst, sym, tree_stays_through, true, with_lease, written_file, written_in, ℕ}
 use Rattle.std.proofs.lemmas.Grind.{flat_map-append}
-use Rattle.std.proofs.lemmas.List.{get_or_append_left, length-append, map-append}
-use Rattle.std.proofs.lemmas.List.Folds.{find-append}
+use Rattle.std.proofs.lemmas.List.{get_or_append_left}
 use Rattle.std.proofs.Math.Seq.{get_or-append_seam}
-use Rattle.trio_rights.specs.Row.{Row}
-use Rattle.trio_rights.specs.Bundle.{Bundle, Written, bundle_sheets}
-use Rattle.trio_rights.specs.Sheets.{Sheet, sheet_numbers}
-use Rattle.trio_rights.specs.declared.kind.Kind.{Kind}
-use Rattle.trio_rights.specs.declared.kind.Kind.TheVariants.{Directory}
-use Rattle.trio_lists.specs.Lists.{In}
-use Rattle.trio_lists.proofs.Members.{In-cases, In-flat, In-left, In-map, In-right, flat_map-In, map-In}
-use Rattle.trio_layout.specs.Chain.{Chain}
-use Rattle.trio_layout.specs.declared.slot.EntryPart.{EntryPart}
-use Rattle.trio_lease.specs.Shown.{LentFile, Shown}
-use Rattle.trio_lease.specs.Views.{fresh_sheet, lent_sheet, written_in}
-use Rattle.trio_lease.specs.declared.lease.Lease.TheVariants.{Write as WriteLease, Read as ReadLease, Hold as HoldLease}
-use Rattle.trio_lease.specs.declared.parts.HoldParts.{HoldParts}
-use Rattle.trio_lease.specs.declared.parts.LentPage.{LentPage}
-use Rattle.trio_nodes.specs.declared.node.Node.{Node}
-use Rattle.trio_nodes.specs.Nodes.{Nodes, node_at}
-use Rattle.trio_nodes.specs.After.{batch_nodes}
-use Rattle.trio_onetree.proofs.TreeStays.{tree_stays_through}
-use Rattle.trio_desk.specs.Agrees.{HasFile}
-use Rattle.trio_desk.specs.Call.{DeskSeen}
-use Rattle.trio_desk.specs.Contents.{Rights, entries_shown, rights_in, rights_of}
+use Rattle.trio_rights.specs.Bundle.{Bundle, bundle_sheets}
+use Rattle.trio_rights.specs.Sheets.{sheet_numbers}
+use Rattle.trio_lists.proofs.Members.{flat_map-In}
+use Rattle.trio_lease.specs.Views.{fresh_sheet}
 use Rattle.trio_desk.specs.Edits.{InHand, MayShow}
-use Rattle.trio_desk.specs.Out.{IsFreshLease, LibOut, file_numbers, files_out, hold_numbers, ino_numbers, lent_numbers, numbers_of_file, pages_out}
-use Rattle.trio_desk.specs.Ready.{ArePossible, lent_files}
-use Rattle.trio_laws.specs.session.Sees.{AboveIsOpen, IsLeaseIn, IsLeftAlone, IsView, Lists}
-use Rattle.trio_desk.specs.Shows.{naming_of}
-use Rattle.trio_laws.specs.session.Takes.{IsInOrder, IsUntouched, case_as_stands, Takes, pages_in_hand}
+use Rattle.trio_desk.specs.Out.{lent_numbers}
+use Rattle.trio_laws.specs.session.Sees.{IsLeftAlone}
+use Rattle.trio_laws.specs.session.Takes.{IsInOrder, IsUntouched, Takes}
 use Rattle.trio_laws.proofs.session.LentFiles.{lent_sheet_numbers, lent_sheets}
-use Rattle.trio_laws.proofs.session.LentNodes.{entry_node}
 use Rattle.trio_laws.proofs.session.Sees as sees
 use Rattle.trio_laws.proofs.session.TakenMore as more
 use Rattle.trio_laws.proofs.session.TakenHold as hold
 use Rattle.trio_laws.proofs.session.TakenWrite as write
 use Rattle.trio_session.specs.Layout.{page_in}
-use Rattle.trio_auxdir.specs.declared.place.Place.{Place}
-use Rattle.trio_session.specs.Seen.{MadeFile, SessionSeen, IsOn, block_shown, body_in, chain_in, dir_pages, entry_shown, has_out, in_hand, made_body, made_file, no_chain, open_kind, place_in, written_file}
-use Rattle.trio_session.specs.Asked.{lent_chain, with_lease}
-use Rattle.trio_session.proofs.Pages.{sheets_of}
-use Rattle.trio_walk.specs.Walks.{MayWalk, SeesOpen, pages_looked}
+use Rattle.trio_session.specs.Seen.{has_out}
+use Rattle.trio_session.specs.Asked.{lent_chain}
 use Rattle.trio_walk.proofs.Leased.{ByLease, ByMade, IsMore, IsOpened, held_out, opened, read_out, sees_still, written_out}
 use Rattle.trio_walk.proofs.Listing.{SeesIn, block_of_entry, lease_sees, shown_listed}
 use Rattle.trio_walk.proofs.Opened.{IsSeenBy, open_seen, page_in-lent, page_in-more, position-append, position-last}

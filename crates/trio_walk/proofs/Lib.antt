@@ -15,3 +15,4 @@ pub mod Stepping
 pub mod Agreeing
 pub mod Walking
 pub mod Retrying
+mod Words

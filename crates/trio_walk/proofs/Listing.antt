@@ -1,29 +1,9 @@
 -- What a session sees in a directory that a lease shows.
-use Rattle.std.proofs.Common.{◌≡◌, ℕ, ◌/◌, ◌%◌, ◌<◌, List, Option, Some, None, Ok, sym, refl, ap, ◌∙◌}
-use Rattle.std.specs.Option.{option_map, option_map_or, option_and_then}
-use Rattle.trio_rights.specs.declared.kind.Kind.TheVariants.{Directory}
-use Rattle.trio_lists.specs.Lists.{In, gathered}
-use Rattle.trio_layout.specs.Slot.{slot_of}
-use Rattle.trio_layout.specs.Entries.{Listed, body_in_slot, entries_on, slot_bytes}
+use Rattle.trio_walk.proofs.Words.{◌%◌, ◌/◌, ◌<◌, ◌∙◌, ◌≡◌, Bad, Directory, Empty, Entry, EntryPart, HasRights, In, IsTree, IsWellLent, LentPage, List, Listed, Lists, Node, Nodes, None, Ok, Option, Place, SessionSeen, Shown, Sizes, SlotRead, Some, ap, block_shown, body_in_slot, dir_pages, entries_shown, entry_in, entry_shown, every_number, find_named, find_named-Child, gathered, node_at, number_shown, option_and_then, option_map, option_map_or, place_at, place_shown, refl, rights_in, rights_of, slot_bytes, slot_of, slot_with, slots_of, sym, ℕ}
+use Rattle.trio_layout.specs.Entries.{entries_on}
 use Rattle.trio_layout.specs.Survey as survey
-use Rattle.trio_layout.specs.declared.slot.EntryPart.{EntryPart}
-use Rattle.trio_layout.specs.declared.slot.SlotRead.{SlotRead}
-use Rattle.trio_layout.specs.declared.slot.SlotRead.TheVariants.{Empty, Entry, Bad}
-use Rattle.trio_lease.specs.Shown.{Shown}
-use Rattle.trio_lease.specs.declared.parts.LentPage.{LentPage}
-use Rattle.trio_nodes.specs.declared.node.Node.{Node}
-use Rattle.trio_nodes.specs.Nodes.{Nodes, node_at, find_named}
-use Rattle.trio_nodes.specs.Tree.{IsTree}
-use Rattle.trio_onetree.proofs.Children.{Child, Child-find_named, find_named-Child}
-use Rattle.trio_desk.specs.Agrees.{HasRights}
-use Rattle.trio_desk.specs.Contents.{Sizes, entries_shown, rights_in, rights_of}
-use Rattle.trio_desk.specs.Out.{IsWellLent}
-use Rattle.trio_laws.specs.session.Sees.{Lists}
+use Rattle.trio_onetree.proofs.Children.{Child, Child-find_named}
 use Rattle.trio_laws.proofs.session.LentFiles.{lent_gathers}
-use Rattle.trio_auxdir.specs.Places.{place_at}
-use Rattle.trio_auxdir.specs.Slots.{slot_with, slots_of}
-use Rattle.trio_auxdir.specs.declared.place.Place.{Place}
-use Rattle.trio_session.specs.Seen.{SessionSeen, block_shown, dir_pages, entry_in, entry_shown, every_number, number_shown, place_shown}
 use Rattle.trio_walk.proofs.Opened.{IsSeenBy}
 use Rattle.trio_walk.proofs.Slots.{name_missed, name_there, slot_listed}
 

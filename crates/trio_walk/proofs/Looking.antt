@@ -1,52 +1,12 @@
 -- What a look-up finds.
-use Rattle.std.proofs.Common.{◌≡◌, ℕ, ◌<◌, ◌/◌, ◌%◌, get_or, Bool, true, false, cond, eqb, List, [], Option, Some, None, Result, Ok, Err, sym, refl, ap, ◌∙◌, subst, inl, inr, ◌⊎◌, arith}
-use Rattle.std.specs.Prelude.{IsSome, is_some, not, ◌||◌}
-use Rattle.std.specs.Option.{option_map, option_map_or, option_or, option_and_then}
-use Rattle.std.proofs.Math.Bool.{or-true}
-use Rattle.std.proofs.lemmas.Option.{slice_get-get_or}
-use Rattle.std.proofs.lemmas.Bool.{eqb-true, false≢true, ne_eqb}
-use Rattle.trio_rights.specs.Row.{Row}
-use Rattle.trio_rights.specs.Rights.{permits}
-use Rattle.trio_rights.specs.declared.kind.Kind.{Kind}
-use Rattle.trio_rights.specs.declared.kind.Kind.TheVariants.{Directory, Regular}
-use Rattle.trio_rights.specs.declared.rights.Creds.{Creds}
-use Rattle.trio_rights.specs.declared.rights.Need.{Need}
-use Rattle.trio_rights.specs.declared.rights.Need.TheVariants.{Read as ToRead}
-use Rattle.trio_lists.specs.Lists.{In}
-use Rattle.trio_lists.proofs.Filters.{find-In, some_one}
-use Rattle.trio_lists.proofs.Members.{In-right, map-In, option_and_then-Some}
-use Rattle.trio_layout.specs.Case.{Case}
-use Rattle.trio_layout.specs.Entries.{body_in_slot, slot_bytes}
-use Rattle.trio_layout.specs.Slot.{slot_of}
-use Rattle.trio_layout.specs.declared.slot.EntryPart.{EntryPart}
-use Rattle.trio_lease.specs.Shown.{Shown}
-use Rattle.trio_lease.specs.declared.parts.HoldParts.{HoldParts}
-use Rattle.trio_nodes.specs.declared.node.Node.{Node}
+use Rattle.trio_walk.proofs.Words.{◌%◌, ◌/◌, ◌<◌, ◌||◌, ◌∙◌, ◌≡◌, ◌⊎◌, AboveIsOpen, ArePossible, Bool, Case, Creds, Denied, DeskSeen, Directory, EntryPart, Err, HoldParts, In, In-right, IsAmong, IsDirectory, IsLeaseIn, IsLive, IsMet, IsTree, IsView, IsWellLent, Kind, List, Lists, LooksUp, MadeFile, MayLookIn, MayWalk, Met, Need, Node, Nodes, None, NotDir, NotFound, Ok, Option, Place, Regular, Result, Rights, Room, Row, SessionSeen, Shown, Shows, Some, ToRead, [], ap, arith, batch_nodes, block_shown, body_in_slot, cond, dir_pages, enter, enter_node, entries_shown, entry_in, entry_node, entry_shown, eqb, eqb-true, every_number, false, false≢true, find-In, find_named, find_named-Child, get_or, in_hand, inl, ino_numbers, inr, is_directory, is_some, kind_shown, lacks, lent_files, made_file, map-In, mapped, met_of, ne_eqb, node_at, not, number_shown, open_kind, option_and_then, option_map, option_map_or, option_or, or-true, parcel_case, permits, place_at, place_of, place_shown, read_file, refl, rights_at, rights_in, rights_of, slice_get-get_or, slot_bytes, slot_of, slot_with, slots_of, slots_shown, some_one, subst, sym, tree_stays_through, true, ℕ}
+use Rattle.std.specs.Prelude.{IsSome}
+use Rattle.trio_lists.proofs.Members.{option_and_then-Some}
 use Rattle.trio_nodes.specs.declared.call.Reply.{Reply}
-use Rattle.trio_nodes.specs.declared.call.Reply.TheVariants.{NotFound, NotDir, Denied}
-use Rattle.trio_nodes.specs.Nodes.{Nodes, node_at, find_named}
-use Rattle.trio_nodes.specs.Tree.{IsDirectory, IsTree}
-use Rattle.trio_nodes.specs.Walk.{enter, enter_node, is_directory, lacks}
-use Rattle.trio_nodes.specs.After.{batch_nodes}
-use Rattle.trio_onetree.proofs.Children.{find_named-Child}
-use Rattle.trio_onetree.proofs.TreeStays.{tree_stays_through}
-use Rattle.trio_auxdir.specs.Places.{place_at}
-use Rattle.trio_auxdir.specs.Slots.{slot_with, slots_of}
-use Rattle.trio_auxdir.specs.declared.place.Place.{Place}
-use Rattle.trio_desk.specs.Among.{IsAmong}
-use Rattle.trio_desk.specs.Contents.{Rights, entries_shown, rights_in, rights_of}
-use Rattle.trio_desk.specs.Call.{DeskSeen}
-use Rattle.trio_desk.specs.Out.{IsWellLent, ino_numbers}
-use Rattle.trio_desk.specs.Ready.{ArePossible, lent_files, parcel_case}
-use Rattle.trio_desk.specs.Shows.{Shows}
-use Rattle.trio_laws.specs.session.Sees.{AboveIsOpen, IsLeaseIn, IsView, Lists}
-use Rattle.trio_laws.proofs.session.LentNodes.{entry_node, mapped}
 use Rattle.trio_laws.proofs.session.Sees as sees
 use Rattle.trio_laws.proofs.session.Spares.{shown_spares}
-use Rattle.trio_session.specs.Seen.{MadeFile, Room, SessionSeen, block_shown, dir_pages, entry_in, entry_shown, every_number, in_hand, kind_shown, made_file, number_shown, open_kind, place_of, place_shown, read_file, slots_shown}
-use Rattle.trio_walk.specs.declared.met.Met.{Met}
-use Rattle.trio_walk.specs.Walks.{FindsEntry, IsLive, IsMet, LooksUp, MayLookIn, MayWalk}
-use Rattle.trio_walk.specs.inner.Steps.{met_in, met_of, rights_at}
+use Rattle.trio_walk.specs.Walks.{FindsEntry}
+use Rattle.trio_walk.specs.inner.Steps.{met_in}
 use Rattle.trio_walk.proofs.Denials.{above_child, new_number, placed_same, rights_kept}
 use Rattle.trio_walk.proofs.Listing.{SeesIn, block_of_entry, entry_of_block, lease_sees, shown_listed}
 use Rattle.trio_walk.proofs.Opened.{IsSeenBy, dir_seen, read_seen}

@@ -1,43 +1,8 @@
 -- What a session shows of a file that was met, and that it is met still after leases.
-use Rattle.std.proofs.Common.{◌≡◌, ℕ, zero, suc, Bool, true, false, cond, eqb, List, [], ◌∷◌, ◌++◌, Option, Some, None, Ok, sym, refl, ap, ◌∙◌, subst, inl, inr}
-use Rattle.std.specs.Prelude.{is_some, not, ◌||◌}
-use Rattle.std.specs.List.{find}
-use Rattle.std.specs.Option.{option_map, option_map_or, option_or}
-use Rattle.std.proofs.lemmas.Bool.{eqb-true, false≢true}
-use Rattle.std.proofs.lemmas.List.Folds.{find-append}
-use Rattle.trio_rights.specs.Row.{Row, row_in}
-use Rattle.trio_rights.specs.May.{ancestors, row_permits}
-use Rattle.trio_rights.specs.Rights.{permits}
-use Rattle.trio_rights.specs.declared.kind.Kind.{Kind}
-use Rattle.trio_rights.specs.declared.kind.Kind.TheVariants.{Directory}
-use Rattle.trio_rights.specs.declared.rights.Creds.{Creds}
-use Rattle.trio_rights.specs.declared.rights.Mode.{Mode}
-use Rattle.trio_rights.specs.declared.rights.Need.{Need}
-use Rattle.trio_rights.specs.declared.rights.Need.TheVariants.{Read as ToRead}
-use Rattle.trio_lists.proofs.Filters.{find-In}
-use Rattle.trio_lists.proofs.Members.{In-right}
-use Rattle.trio_lease.specs.Shown.{LentFile, Shown}
-use Rattle.trio_lease.specs.declared.lease.Lease.{Lease}
-use Rattle.trio_lease.specs.declared.lease.Lease.TheVariants.{Write as WriteLease, Read as ReadLease, Hold as HoldLease}
-use Rattle.trio_lease.specs.declared.parts.HoldParts.{HoldParts}
-use Rattle.trio_nodes.specs.declared.call.Done.{Done}
-use Rattle.trio_nodes.specs.declared.grant.GrantKind.TheVariants.{Write}
-use Rattle.trio_nodes.specs.declared.node.Node.{Node}
-use Rattle.trio_nodes.specs.Nodes.{Nodes, node_at}
-use Rattle.trio_nodes.specs.Walk.{enter, lacks}
-use Rattle.trio_nodes.specs.After.{batch_nodes}
-use Rattle.trio_nodes.specs.Legal.{rights_rows}
-use Rattle.trio_desk.specs.Call.{DeskSeen}
-use Rattle.trio_desk.specs.Contents.{Rights, rights_in, rights_of}
-use Rattle.trio_desk.specs.Ready.{ArePossible, lent_files}
-use Rattle.trio_laws.specs.session.Sees.{AboveIsOpen}
-use Rattle.trio_laws.proofs.session.LentNodes.{mapped}
-use Rattle.trio_session.specs.Seen.{MadeFile, SessionSeen, body_in, body_shown, held_file, kind_shown, made_file, open_kind, read_file, written_file}
-use Rattle.trio_session.specs.Asked.{with_lease}
-use Rattle.trio_walk.specs.declared.met.Met.{Met}
+use Rattle.trio_walk.proofs.Words.{◌++◌, ◌||◌, ◌∙◌, ◌∷◌, ◌≡◌, AboveIsOpen, ArePossible, Bool, Creds, DeskSeen, Directory, Done, HoldLease, HoldParts, In-right, IsMet, IsMetIn, Kind, Lease, LentFile, List, MadeFile, MayLookIn, MayWalk, Met, Mode, Need, Node, Nodes, None, Ok, Option, ReadLease, Rights, RightsAre, Row, SessionSeen, Shown, Some, ToRead, TookLeases, Write, WriteLease, [], ancestors, ap, batch_nodes, body_in, body_refuses, body_shown, cond, enter, eqb, eqb-true, false, false≢true, find, find-In, find-append, gives_met, held_file, inl, inr, is_some, kind_shown, lacks, lent_files, made_file, mapped, node_at, not, open_kind, option_map, option_map_or, option_or, permits, read_file, refl, rights_at, rights_in, rights_of, rights_rows, root_met, row_in, row_permits, subst, suc, sym, true, with_lease, with_leases, written_file, zero, ℕ}
 use Rattle.trio_walk.specs.declared.met.Rights as shown_rights
-use Rattle.trio_walk.specs.Walks.{IsHad, IsMet, IsMetIn, MayLookIn, MayWalk, RightsAre, TookLeases, gives_met, with_leases}
-use Rattle.trio_walk.specs.inner.Steps.{body_refuses, refuses, rights_at, root_met}
+use Rattle.trio_walk.specs.Walks.{IsHad}
+use Rattle.trio_walk.specs.inner.Steps.{refuses}
 use Rattle.trio_walk.proofs.Denials.{row_is}
 use Rattle.trio_walk.proofs.Leased.{ByLease, ByMade, IsOpened, opened}
 use Rattle.trio_walk.proofs.Looking.{rights_now, tree_now}

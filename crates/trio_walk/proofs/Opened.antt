@@ -1,34 +1,14 @@
 -- What a session sees in its open files, and that more leases leave it so.
-use Rattle.std.proofs.Common.{◌≡◌, ℕ, zero, suc, ◌+◌, ◌<◌, Bool, true, false, cond, eqb, ltb, not, List, [], ◌∷◌, ◌++◌, length, Option, Some, None, sym, refl, ap, ◌∙◌, subst, inl, inr, arith}
-use Rattle.std.specs.Prelude.{is_some, map, slice_get}
-use Rattle.std.specs.List.{find, position, prefix_len}
-use Rattle.std.specs.Option.{option_map, option_map_or, option_or, option_and_then}
+use Rattle.trio_walk.proofs.Words.{◌++◌, ◌+◌, ◌<◌, ◌∙◌, ◌∷◌, ◌≡◌, Bool, Directory, EntryPart, HasRights, In, In-map, Kind, LentPage, List, MadeFile, Nodes, None, Option, Parcel, Place, SeesOpen, SessionSeen, Sheet, Shown, Some, [], ap, arith, block_shown, body_in, bundle_of, chain_in, cond, dir_pages, entry_in, entry_shown, eqb, every_number, false, find, inl, ino_numbers, inr, is_some, kind_shown, length, length-append, lent_sheet, map, node_at, number_shown, open_kind, option_and_then, option_map, option_map_or, option_or, page_in, place_of, place_shown, read_file, refl, rights_in, sheets_of, slice_get, slot_bytes, slot_of, slots_of, slots_shown, subst, suc, sym, true, zero, ℕ}
+use Rattle.std.proofs.Common.{ltb, not}
+use Rattle.std.specs.List.{position, prefix_len}
 use Rattle.std.proofs.lemmas.Bool.{cases_Bool, ltb-true, lt-ltb}
-use Rattle.std.proofs.lemmas.List.{length-append}
-use Rattle.trio_rights.specs.declared.kind.Kind.{Kind}
-use Rattle.trio_rights.specs.declared.kind.Kind.TheVariants.{Directory}
 use Rattle.trio_rights.specs.Bundle.{bundle_pages}
-use Rattle.trio_rights.specs.Sheets.{Sheet}
-use Rattle.trio_lists.specs.Lists.{In, are_new}
-use Rattle.trio_lists.proofs.Members.{In-map}
+use Rattle.trio_lists.specs.Lists.{are_new}
 use Rattle.trio_lists.proofs.Gathered.{one_keyed}
-use Rattle.trio_layout.specs.Entries.{slot_bytes}
-use Rattle.trio_layout.specs.Slot.{slot_of}
-use Rattle.trio_layout.specs.declared.slot.EntryPart.{EntryPart}
-use Rattle.trio_lease.specs.Shown.{Shown, page_at}
-use Rattle.trio_lease.specs.Views.{lent_sheet}
-use Rattle.trio_lease.specs.declared.parts.LentPage.{LentPage}
-use Rattle.trio_nodes.specs.Nodes.{Nodes, node_at}
-use Rattle.trio_desk.specs.Agrees.{HasRights}
-use Rattle.trio_desk.specs.Contents.{rights_in}
-use Rattle.trio_desk.specs.Out.{Parcel, ino_numbers}
-use Rattle.trio_desk.specs.Ready.{bundle_of}
-use Rattle.trio_auxdir.specs.declared.place.Place.{Place}
-use Rattle.trio_auxdir.specs.Slots.{slots_of}
-use Rattle.trio_session.specs.Layout.{page_in}
-use Rattle.trio_session.specs.Seen.{MadeFile, SessionSeen, block_shown, body_in, chain_in, dir_pages, entry_in, entry_shown, every_number, kind_shown, number_shown, open_kind, pages_shown, place_of, place_shown, read_file, slots_shown}
-use Rattle.trio_session.proofs.Pages.{sheet_at, sheets_of}
-use Rattle.trio_walk.specs.Walks.{SeesOpen}
+use Rattle.trio_lease.specs.Shown.{page_at}
+use Rattle.trio_session.specs.Seen.{pages_shown}
+use Rattle.trio_session.proofs.Pages.{sheet_at}
 
 -- ---- pages
 

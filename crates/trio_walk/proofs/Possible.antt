@@ -1,36 +1,9 @@
 -- What stays true as a session takes more leases, and its desk goes on.
-use Rattle.std.proofs.Common.{◌≡◌, ℕ, false, List, [], ◌∷◌, ◌++◌, Option, Some, sym, refl, ap, ◌∙◌, subst, inl, inr, append_assoc}
-use Rattle.std.proofs.lemmas.List.{map-append}
-use Rattle.std.specs.Prelude.{map}
-use Rattle.std.specs.List.{flat_map}
-use Rattle.std.specs.Option.{option_map}
-use Rattle.trio_rights.specs.Row.{Row}
-use Rattle.trio_rights.specs.declared.rights.LibNo.{LibNo}
-use Rattle.trio_lists.specs.Lists.{In}
-use Rattle.trio_lists.proofs.Members.{In-cases, In-left, In-right}
-use Rattle.trio_lease.specs.Shown.{Shown, LentFile}
-use Rattle.trio_lease.specs.declared.lease.Lease.{Lease}
-use Rattle.trio_lease.specs.declared.lease.Lease.TheVariants.{Write as WriteLease, Read as ReadLease, Hold as HoldLease}
-use Rattle.trio_lease.specs.declared.parts.HoldParts.{HoldParts}
-use Rattle.trio_nodes.specs.declared.grant.GrantKind.{GrantKind}
-use Rattle.trio_nodes.specs.declared.grant.GrantKind.TheVariants.{Hold, Read, Write}
-use Rattle.trio_nodes.specs.declared.node.Node.{Node}
-use Rattle.trio_nodes.specs.After.{batch_nodes}
-use Rattle.trio_nodes.specs.declared.grant.Holder.{Holder}
-use Rattle.trio_nodes.specs.declared.answers.GrantFault.TheVariants.{Busy as BusyGrant}
-use Rattle.trio_nodes.specs.Nodes.{Nodes, node_at}
-use Rattle.trio_desk.specs.Agrees.{HasFile, HasRights}
-use Rattle.trio_desk.specs.Contents.{Sizes, entries_shown}
-use Rattle.trio_desk.specs.Out.{IsFreshLease, IsLeaseFor, LibOut, OutAlike, Parcel, files_out, hold_numbers, kind_lent, numbers_of_file, pages_out, with_lease as out_with}
-use Rattle.trio_laws.specs.session.Sees.{AboveIsOpen}
-use Rattle.trio_desk.specs.Call.{Ask, DeskSeen, Grant, NotLent, Told}
-use Rattle.trio_desk.specs.Calls.{Call, Calls}
-use Rattle.trio_desk.specs.Ready.{ArePossible, lent_files}
+use Rattle.trio_walk.proofs.Words.{◌++◌, ◌∙◌, ◌∷◌, ◌≡◌, AboveIsOpen, ArePossible, Ask, BusyGrant, Call, Calls, DeskSeen, Grant, GrantKind, HasFile, HasRights, Hold, HoldLease, HoldParts, Holder, In, In-cases, In-left, In-right, IsFreshLease, IsLeaseFor, IsLentNow, IsOn, IsOwnBusy, Lease, LentFile, LibNo, LibOut, List, Node, Nodes, NotLent, Option, Parcel, Read, ReadLease, Room, Row, SameBut, SameSeen, SessionSeen, Shown, Sizes, Some, Told, TookLeases, Way, Write, WriteLease, [], ap, append_assoc, batch_nodes, entries_shown, false, file_of, files_out, flat_map, hold_numbers, inl, inr, kind_lent, lent_call, lent_files, map, map-append, node_at, numbers_of_file, option_map, pages_out, refl, serves, subst, sym, with_lease, with_leases, ℕ}
+use Rattle.trio_desk.specs.Out.{OutAlike, with_lease as out_with}
 use Rattle.trio_desk.specs.Refusals.{HasMoment}
 use Rattle.trio_laws.proofs.session.Again.{possible_with_less}
-use Rattle.trio_session.specs.Seen.{Room, SessionSeen, IsOn, serves}
-use Rattle.trio_session.specs.Asked.{SameBut, with_lease}
-use Rattle.trio_walk.specs.Walks.{IsLentNow, IsOwnBusy, Lends, SameSeen, TookLeases, Way, file_of, lent_call, with_leases}
+use Rattle.trio_walk.specs.Walks.{Lends}
 
 -- ---- what is possible
 

@@ -1,16 +1,13 @@
 -- A call is tried, and settled, and tried once more.
-use Rattle.std.proofs.Common.{◌≡◌, ℕ, Result, Ok, Err, sym, ap, ◌∙◌, subst}
+use Rattle.trio_walk.proofs.Words.{◌∙◌, ◌≡◌, Ask, DeskSeen, Err, Gives, Holder, IsOn, Leaves, Made, NotMade, Ok, OneCall, Outcome, Result, SeenAfter, SessionSeen, Told, ap, subst, sym, ℕ}
 use Rattle.std.specs.Prelude.{IsErr, length}
-use Rattle.trio_nodes.specs.declared.grant.Holder.{Holder}
-use Rattle.trio_desk.specs.Call.{Ask, DeskSeen, Settle, Told, Settled, NotSettled, SeenAfter}
-use Rattle.trio_desk.specs.Calls.{OneCall, Made, NotMade}
+use Rattle.trio_desk.specs.Call.{Settle, Settled, NotSettled}
 use Rattle.trio_session.specs.Asked.{AfterSettle}
-use Rattle.trio_session.specs.Seen.{SessionSeen, IsOn, emptied}
-use Rattle.trio_walk.specs.declared.outcome.Outcome.{Outcome}
+use Rattle.trio_session.specs.Seen.{emptied}
 use Rattle.trio_walk.specs.declared.outcome.Outcome.TheVariants.{Busy, NoMemory}
 use Rattle.trio_walk.specs.Asks.{Again, Called, GivesUp, IsNotBusy, IsUnsettled, LeftOut, Once, Settles, Unsettled}
 use Rattle.trio_walk.specs.Tries.{HasNothing, IsSettledAt, IsUnsettledAt, OthersHold}
-use Rattle.trio_walk.specs.inner.Settling.{Ends, Gives, Leaves, TriesOnce}
+use Rattle.trio_walk.specs.inner.Settling.{Ends, TriesOnce}
 
 -- ---- settles
 

@@ -1,16 +1,14 @@
 -- What stands at the places of a slot's fields.
-use Rattle.std.proofs.Common.{◌≡◌, ℕ, ◌+◌, ◌-◌, IsSome, Bool, true, false, ◌&&◌, cond, List, [], ◌∷◌, ◌++◌, take, get_or, length, Option, Some, None, sym, refl, ap, ◌∙◌, eqb, arith}
-use Rattle.std.specs.Int.{w32, to_le_bytes}
+use Rattle.trio_walk.proofs.Words.{◌&&◌, ◌++◌, ◌+◌, ◌∙◌, ◌∷◌, ◌≡◌, Bad, Bool, Empty, Entry, EntryPart, IsSome, List, None, Option, Some, [], ap, arith, cond, entry_in, eqb, false, get_or, length, number_at, refl, sym, take, true, w32, ℕ}
+use Rattle.std.proofs.Common.{◌-◌}
+use Rattle.std.specs.Int.{to_le_bytes}
 use Rattle.std.specs.Str.{bytes_eq}
 use Rattle.std.proofs.lemmas.List.{get_or-take, get_or-append_right}
 use Rattle.trio_layout.proofs.Reading.{bytes_eq-true}
-use Rattle.trio_page.specs.Field.{number_at, zeros as zero_bytes}
+use Rattle.trio_page.specs.Field.{zeros as zero_bytes}
 use Rattle.trio_page.proofs.Fields.{length-to_le_bytes}
 use Rattle.trio_rights.specs.Kind.{kind_byte}
-use Rattle.trio_layout.specs.declared.slot.EntryPart.{EntryPart}
-use Rattle.trio_layout.specs.declared.slot.SlotRead.TheVariants.{Empty, Entry, Bad}
 use Rattle.trio_layout.specs.Slot.{entry_at, entry_bytes, entry_fits, slot_of}
-use Rattle.trio_session.specs.Seen.{entry_in}
 
 -- the fifth byte of an entry's spelling
 spelled_kind : (bytes : List ℕ) (e : EntryPart) → take 192 bytes ≡ entry_bytes e → get_or bytes 4 0 ≡ kind_byte e.kind

@@ -1,26 +1,17 @@
 -- What the slots of a directory's pages say of its entries.
-use Rattle.std.proofs.Common.{◌≡◌, ℕ, zero, suc, ◌+◌, ◌/◌, ◌%◌, ◌<◌, List, [], ◌∷◌, length, take, get_or, Option, Some, None, Ok, Err, sym, refl, ap, ◌∙◌, subst, inl, inr, arith}
-use Rattle.std.specs.Prelude.{map, slice_get}
+use Rattle.trio_walk.proofs.Words.{◌%◌, ◌+◌, ◌/◌, ◌<◌, ◌∙◌, ◌∷◌, ◌≡◌, Bad, Empty, Entry, EntryPart, Err, In, In-flat, In-left, In-map, In-right, LentPage, List, Listed, None, Ok, Option, SlotRead, Some, [], ap, arith, body_in_slot, every_number, false≢true, gathered, get_or, inl, inr, length, map, map-In, refl, slice_get, slice_get-In, slice_get-get_or, slot_bytes, slot_of, slot_with, slots_of, subst, suc, sym, take, zero, ℕ}
 use Rattle.std.proofs.lemmas.List.{length-take-le}
 use Rattle.std.proofs.lemmas.List.Concat.{get_or-flat_map}
-use Rattle.std.proofs.lemmas.Option.{get_or_from_slice_get, slice_get-get_or, slice_get_within}
-use Rattle.std.proofs.lemmas.Bool.{cases_eq, false≢true}
-use Rattle.trio_lists.specs.Lists.{In, gathered, tabulated}
-use Rattle.trio_lists.proofs.Members.{In-left, In-right, In-flat, In-map, map-In}
+use Rattle.std.proofs.lemmas.Option.{get_or_from_slice_get, slice_get_within}
+use Rattle.std.proofs.lemmas.Bool.{cases_eq}
+use Rattle.trio_lists.specs.Lists.{tabulated}
 use Rattle.trio_lists.proofs.Tabulated.{tabulated-get}
 use Rattle.trio_layout.specs.Core.{Location}
-use Rattle.trio_layout.specs.Slot.{slot_of}
-use Rattle.trio_layout.specs.Entries.{Listed, body_in_slot, entries_on, listed_at, slot_bytes, slot_entries}
-use Rattle.trio_layout.specs.declared.slot.EntryPart.{EntryPart}
-use Rattle.trio_layout.specs.declared.slot.SlotRead.{SlotRead}
-use Rattle.trio_layout.specs.declared.slot.SlotRead.TheVariants.{Empty, Entry, Bad}
-use Rattle.trio_lease.specs.declared.parts.LentPage.{LentPage}
+use Rattle.trio_layout.specs.Entries.{entries_on, listed_at, slot_entries}
 use Rattle.trio_surveys.proofs.Places.{below_from, below_has, gathered_from, gathered_has}
-use Rattle.trio_auxdir.specs.Slots.{has_name, name_in, slot_on, slot_with, slots_of, slots_on}
+use Rattle.trio_auxdir.specs.Slots.{has_name, name_in, slot_on, slots_on}
 use Rattle.trio_auxdir.proofs.PageSlots.{length-slots_of, length-slots_on}
 use Rattle.trio_auxdir.proofs.SlotLists.{absent, name_same, slot_there}
-use Rattle.trio_session.specs.Seen.{every_number}
-use Rattle.trio_session.proofs.Lists.{slice_get-In}
 use Rattle.trio_session.proofs.Slots.{slot_wider}
 
 -- ---- one slot, in images of more or fewer numbers

@@ -1,29 +1,11 @@
 -- One step of a walk: what it comes to, and what it asks.
-use Rattle.std.proofs.Common.{◌≡◌, ℕ, suc, ◌+◌, ◌<◌, Bool, true, false, cond, eqb, ◌&&◌, List, [], ◌∷◌, ◌++◌, length, take, drop, get_or, Option, Some, None, Result, Ok, Err, sym, refl, ap, ◌∙◌, inl, inr, ◌⊎◌, add-one}
-use Rattle.std.specs.Prelude.{is_some, map, not, ◌||◌}
-use Rattle.std.specs.List.{find, list_any}
-use Rattle.std.specs.Option.{option_map, option_or}
-use Rattle.std.proofs.Math.Bool.{and-true, or-false, or_assoc}
-use Rattle.std.proofs.Math.Seq.{drop-cons, take-suc}
-use Rattle.std.proofs.lemmas.List.{append-nil}
-use Rattle.std.proofs.lemmas.List.Folds.{find-append}
-use Rattle.trio_rights.specs.declared.rights.Creds.{Creds}
-use Rattle.trio_lists.specs.Lists.{In}
+use Rattle.trio_walk.proofs.Words.{◌&&◌, ◌++◌, ◌+◌, ◌<◌, ◌||◌, ◌∙◌, ◌∷◌, ◌≡◌, ◌⊎◌, Bool, Creds, Denied, Err, Exists, GrantKind, Hold, HoldLease, HoldParts, In, IntoItself, IsDir, Lease, LentFile, List, MadeFile, Needed, NoInodes, NoSpace, Nodes, None, NotDir, NotEmpty, NotFound, Ok, Option, Path, Read, ReadLease, Result, SessionSeen, Shown, Some, TooLarge, TookLeases, Write, WriteLease, [], ap, append-nil, asked, asked_beside, cond, drop, enter, entered_needs, eqb, false, find, find-append, find_named, found_needs, get_or, held_file, inl, inr, is_some, kind_for, length, list_any, made_file, map, need_at, need_of, needs_from, not, open_kind, option_map, option_or, or-false, read_file, refl, served_by, serves, serves_need, suc, sym, take, take-suc, true, walk_from, with_lease, with_leases, written_file, ℕ}
+use Rattle.std.proofs.Common.{add-one}
+use Rattle.std.proofs.Math.Bool.{and-true, or_assoc}
+use Rattle.std.proofs.Math.Seq.{drop-cons}
 use Rattle.trio_lists.proofs.Marked.{and-false}
-use Rattle.trio_lease.specs.Shown.{LentFile, Shown}
-use Rattle.trio_lease.specs.declared.lease.Lease.{Lease}
-use Rattle.trio_lease.specs.declared.lease.Lease.TheVariants.{Write as WriteLease, Read as ReadLease, Hold as HoldLease}
-use Rattle.trio_lease.specs.declared.parts.HoldParts.{HoldParts}
-use Rattle.trio_nodes.specs.declared.grant.GrantKind.{GrantKind}
-use Rattle.trio_nodes.specs.declared.grant.GrantKind.TheVariants.{Read, Write, Hold}
 use Rattle.trio_nodes.specs.declared.call.Reply.{Reply}
-use Rattle.trio_nodes.specs.declared.call.Reply.TheVariants.{Ok as Replied, NotFound, Exists, NotDir, IsDir, NotEmpty, Denied, IntoItself, NoSpace, NoInodes, TooLarge}
-use Rattle.trio_nodes.specs.Nodes.{Nodes, find_named}
-use Rattle.trio_nodes.specs.Walk.{Path, enter, need_at, walk_from}
-use Rattle.trio_session.specs.Asked.{with_lease}
-use Rattle.trio_session.specs.Seen.{MadeFile, SessionSeen, held_file, made_file, open_kind, read_file, serves, written_file}
-use Rattle.trio_walk.specs.Needs.{Needed, asked, asked_beside, entered_needs, found_needs, kind_for, needs_from, serves_need}
-use Rattle.trio_walk.specs.Walks.{TookLeases, need_of, served_by, with_leases}
+use Rattle.trio_nodes.specs.declared.call.Reply.TheVariants.{Ok as Replied}
 
 abbrev Reached : Type 0
 Reached = Result ℕ Reply

@@ -1,62 +1,20 @@
 -- How the taking of a file ends, by what a session's `need` tells.
-use Rattle.std.proofs.Common.{◌≡◌, ℕ, Bool, true, false, cond, eqb, List, [], ◌∷◌, ◌++◌, Option, Some, None, Result, Ok, Err, sym, refl, ap, ◌∙◌, subst, inl, inr, ◌⊎◌}
-use Rattle.std.specs.Prelude.{IsOk, is_some, map, not, ◌≢◌, ◌||◌}
-use Rattle.std.specs.Option.{option_map, option_map_or, option_or}
-use Rattle.std.proofs.Math.Bool.{or-true}
-use Rattle.std.proofs.lemmas.Bool.{eq-eqb, eqb-true, false≢true}
-use Rattle.std.proofs.lemmas.List.{append-nil}
-use Rattle.trio_rights.specs.Row.{Row}
-use Rattle.trio_rights.specs.Rights.{permits}
-use Rattle.trio_rights.specs.Bundle.{Written}
-use Rattle.trio_rights.specs.declared.kind.Kind.{Kind}
-use Rattle.trio_rights.specs.declared.kind.Kind.TheVariants.{Directory}
-use Rattle.trio_rights.specs.declared.rights.Mode.{Mode}
-use Rattle.trio_rights.specs.declared.rights.Need.{Need}
-use Rattle.trio_rights.specs.declared.rights.Need.TheVariants.{Read as ToRead, Write as ToWrite}
-use Rattle.trio_lists.specs.Lists.{In, is_among}
-use Rattle.trio_lists.proofs.Filters.{In-find, find-In, some_one}
-use Rattle.trio_lists.proofs.Members.{In-cases, In-is_among, In-map, map-In}
-use Rattle.trio_layout.specs.Case.{Case}
+use Rattle.trio_walk.proofs.Words.{◌++◌, ◌||◌, ◌∙◌, ◌∷◌, ◌≡◌, ◌≢◌, ◌⊎◌, AboveIsOpen, ArePossible, Ask, Bool, Busy, BusyGrant, Call, Calls, Case, DeniedGrant, DeskSeen, Directory, Err, Grant, GrantFault, GrantKind, HasCause, HasMet, Hold, HoldLease, HoldParts, Holder, In, In-cases, In-is_among, In-map, IsDirectory, IsFreshLease, IsLeaseFor, IsLentNow, IsLive, IsOn, IsOwnBusy, Kind, Lease, LentFile, List, Made, MadeFile, MayTake, MayWalk, Met, Mode, Naming, Need, Needed, NoGrantMemory, NoMemory, Node, Nodes, None, NotLent, NotMade, Ok, OneCall, Option, Read, ReadLease, Result, Rights, RightsAre, Row, SameBut, SameSeen, SeenAfter, SessionSeen, Shown, Some, TakenAs, ToRead, ToWrite, Told, Took, WalkEnd, Way, Write, WriteLease, Written, [], ap, append-nil, batch_nodes, bundle_of, case_as_stands, cond, denies, eq-eqb, eqb, eqb-true, false, false≢true, file_numbers, file_of, files_out, find-In, gives_met, held_file, hold_numbers, in_hand, inl, inr, is_some, kind_lent, kind_shown, lacks, lent_files, made_file, map, map-In, mapped, naming_of, need_of, node_at, not, one_need, open_kind, option_map, option_map_or, option_or, or-true, parcel_case, permits, read_file, refl, rights_of, serves, some_one, subst, sym, true, was_there, with_lease, written_file, written_in, ℕ}
+use Rattle.std.specs.Prelude.{IsOk}
+use Rattle.trio_lists.specs.Lists.{is_among}
+use Rattle.trio_lists.proofs.Filters.{In-find}
 use Rattle.trio_layout.specs.Survey.{Met as SurveyMet, numbers}
 use Rattle.trio_layout.specs.JudgedFiles.{judged_files, written_files}
-use Rattle.trio_lease.specs.Shown.{LentFile, Shown}
-use Rattle.trio_lease.specs.Views.{written_in}
-use Rattle.trio_lease.specs.declared.lease.Lease.{Lease}
-use Rattle.trio_lease.specs.declared.lease.Lease.TheVariants.{Write as WriteLease, Read as ReadLease, Hold as HoldLease}
-use Rattle.trio_lease.specs.declared.parts.HoldParts.{HoldParts}
-use Rattle.trio_nodes.specs.declared.node.Node.{Node}
-use Rattle.trio_nodes.specs.declared.grant.Holder.{Holder}
-use Rattle.trio_nodes.specs.declared.grant.GrantKind.{GrantKind}
-use Rattle.trio_nodes.specs.declared.grant.GrantKind.TheVariants.{Read, Write, Hold}
-use Rattle.trio_nodes.specs.declared.answers.GrantFault.{GrantFault}
-use Rattle.trio_nodes.specs.declared.answers.GrantFault.TheVariants.{NotLive, Denied as DeniedGrant, NoParent, Busy as BusyGrant, NoMemory as NoGrantMemory}
-use Rattle.trio_nodes.specs.Nodes.{Nodes, node_at}
-use Rattle.trio_nodes.specs.Tree.{IsDirectory}
-use Rattle.trio_nodes.specs.Walk.{lacks}
-use Rattle.trio_nodes.specs.After.{batch_nodes}
+use Rattle.trio_nodes.specs.declared.answers.GrantFault.TheVariants.{NotLive, NoParent}
 use Rattle.trio_nodes.specs.Legal.{grant_denier}
-use Rattle.trio_desk.specs.Call.{Ask, DeskSeen, Grant, Lent, NotLent, SeenAfter, TellsHolder, Told}
-use Rattle.trio_desk.specs.Calls.{Call, Calls, OneCall, Made, NotMade}
-use Rattle.trio_desk.specs.Contents.{Rights, rights_of}
-use Rattle.trio_desk.specs.Out.{IsFreshLease, IsLeaseFor, file_numbers, files_out, hold_numbers, kind_lent}
-use Rattle.trio_desk.specs.Ready.{ArePossible, bundle_of, lent_files, parcel_case}
-use Rattle.trio_desk.specs.Refusals.{HasCause, HasKind, file_kind}
-use Rattle.trio_desk.specs.Shows.{Naming, naming_of}
-use Rattle.trio_laws.specs.session.Sees.{AboveIsOpen}
-use Rattle.trio_laws.specs.session.Takes.{case_as_stands}
-use Rattle.trio_laws.proofs.session.Edges.{was_there}
-use Rattle.trio_laws.proofs.session.LentNodes.{mapped}
+use Rattle.trio_desk.specs.Call.{Lent, TellsHolder}
+use Rattle.trio_desk.specs.Refusals.{HasKind, file_kind}
 use Rattle.trio_laws.proofs.session.Stands.{named_alike}
 use Rattle.trio_laws.proofs.session.Starts.{number_start, start_judged}
 use Rattle.trio_laws.proofs.session.TakenHold.{held_by}
-use Rattle.trio_session.specs.Asked.{AfterNeed, NoNeed, SameBut, TellsGrant, with_lease}
-use Rattle.trio_session.specs.Seen.{MadeFile, SessionSeen, IsOn, held_file, in_hand, kind_shown, made_file, open_kind, read_file, serves, written_file}
-use Rattle.trio_walk.specs.declared.met.Met.{Met}
+use Rattle.trio_session.specs.Asked.{AfterNeed, NoNeed, TellsGrant}
 use Rattle.trio_walk.specs.declared.met.Rights as shown_rights
-use Rattle.trio_walk.specs.declared.walks.WalkEnd.{WalkEnd}
-use Rattle.trio_walk.specs.declared.walks.WalkEnd.TheVariants.{Busy, NoMemory}
-use Rattle.trio_walk.specs.Needs.{Needed}
-use Rattle.trio_walk.specs.Walks.{HasMet, IsLentNow, IsLive, IsListed, IsOwnBusy, IsTaken, MayTake, MayWalk, RightsAre, SameSeen, TakenAs, Took, Way, denies, file_of, gives_met, need_of, one_need}
+use Rattle.trio_walk.specs.Walks.{IsListed, IsTaken}
 use Rattle.trio_walk.proofs.Denials.{denier_here, placed_same}
 use Rattle.trio_walk.proofs.Leased.{ByLease, ByMade, IsOpened, desk_after, opened}
 use Rattle.trio_walk.proofs.Lent.{may_hold, may_now, may_read, may_write}

@@ -1,25 +1,12 @@
 -- What is known of all nodes that are shown passes to later moments of a try, and what was asked and told before is put first.
-use Rattle.std.proofs.Common.{◌≡◌, ◌⊎◌, ℕ, List, [], ◌∷◌, ◌++◌, Option, sym, refl, ap, ◌∙◌, subst, inl, inr, append_assoc}
-use Rattle.std.specs.Prelude.{map}
-use Rattle.trio_rights.specs.Row.{Row}
-use Rattle.trio_rights.specs.declared.rights.Creds.{Creds}
-use Rattle.trio_lists.specs.Lists.{In}
-use Rattle.trio_lists.proofs.Members.{map-In}
-use Rattle.trio_lease.specs.declared.lease.Lease.{Lease}
-use Rattle.trio_nodes.specs.declared.call.Done.{Done}
-use Rattle.trio_nodes.specs.Nodes.{Nodes}
-use Rattle.trio_nodes.specs.After.{batch_nodes}
+use Rattle.trio_walk.proofs.Words.{◌++◌, ◌∙◌, ◌∷◌, ◌≡◌, ◌⊎◌, ArePossible, Ask, Call, Calls, Creds, DeskSeen, Done, In, Lease, List, Nodes, Option, Outcome, Replied, Row, SessionSeen, Told, [], ap, append_assoc, batch_nodes, in_hand, inl, inr, lent_call, map, map-In, need_of, refl, subst, sym, with_lease, with_leases, ℕ}
 use Rattle.trio_nodes.specs.declared.answers.AllotFault.TheVariants.{NoMemory as NoAllotMemory}
-use Rattle.trio_desk.specs.Call.{Allot, Ask, DeskSeen, NotGiven, Told}
-use Rattle.trio_desk.specs.Calls.{Call, Calls}
+use Rattle.trio_desk.specs.Call.{Allot, NotGiven}
 use Rattle.trio_desk.specs.Edits.{TakesMore}
-use Rattle.trio_desk.specs.Ready.{ArePossible}
-use Rattle.trio_session.specs.Asked.{IsGiven, SameDesk, took, with_lease}
-use Rattle.trio_session.specs.Seen.{SessionSeen, in_hand}
+use Rattle.trio_session.specs.Asked.{IsGiven, SameDesk, took}
 use Rattle.trio_walk.specs.Asks.{AskedBy, TryEnds, grant_ask}
-use Rattle.trio_walk.specs.Walks.{InBoth, lent_call, need_of, with_leases}
-use Rattle.trio_walk.specs.declared.outcome.Outcome.{Outcome}
-use Rattle.trio_walk.specs.declared.outcome.Outcome.TheVariants.{Replied, Busy, NoMemory}
+use Rattle.trio_walk.specs.Walks.{InBoth}
+use Rattle.trio_walk.specs.declared.outcome.Outcome.TheVariants.{Busy, NoMemory}
 use Rattle.trio_walk.proofs.Possible.{possible_desk}
 
 -- ---- another moment of the desk

@@ -1,41 +1,10 @@
 -- A walk, name by name.
-use Rattle.std.proofs.Common.{◌≡◌, ℕ, suc, ◌+◌, ◌<◌, ◌≤◌, Bool, List, [], ◌∷◌, ◌++◌, length, take, drop, get_or, Option, Some, None, Result, Ok, Err, sym, refl, ap, ◌∙◌, subst, inl, inr, ◌⊎◌, append_assoc, arith}
-use Rattle.std.specs.Prelude.{is_some, map, ◌≢◌, ◌||◌}
-use Rattle.std.specs.List.{list_any}
+use Rattle.trio_walk.proofs.Words.{◌++◌, ◌+◌, ◌<◌, ◌||◌, ◌∙◌, ◌∷◌, ◌≡◌, ◌≢◌, ◌⊎◌, ArePossible, Ask, At, Bool, Busy, BusyGrant, Call, Creds, DeskSeen, EndsBy, Entered, Enters, Err, Grant, GrantKind, Hold, HoldLease, HoldParts, Holder, In, In-cases, In-left, In-map, IsMetIn, IsOwnBusy, Lease, List, LooksUp, MayWalk, Met, Need, Needed, NoMemory, Nodes, None, NotFound, NotLent, Ok, Option, Path, ReadLease, Reply, Result, Row, SessionSeen, Shown, Some, Told, TookLeases, WalkEnd, Walked, Walks, Way, WriteLease, [], and_then, ap, append-nil, append_assoc, arith, asked, asked_beside, batch_nodes, body_shown, drop, enter, entered_needs, file_of, find_named, get_or, here, hold_numbers, inl, inr, into_needs, is_some, kind_for, kind_lent, length, list_any, map, map-append, need_at, need_of, needs_from, reached_by, refl, root_met, served_by, serves, serves_need, subst, suc, sym, take, take-suc, walk, walk_from, walk_needs, with_lease, with_leases, ℕ}
+use Rattle.std.proofs.Common.{◌≤◌}
 use Rattle.std.proofs.Math.ListN.{drop_of_length-le}
-use Rattle.std.proofs.Math.Seq.{take-suc}
-use Rattle.std.proofs.lemmas.List.{append-nil, map-append}
-use Rattle.trio_rights.specs.Row.{Row}
-use Rattle.trio_rights.specs.declared.rights.Creds.{Creds}
-use Rattle.trio_rights.specs.declared.rights.Need.{Need}
-use Rattle.trio_lists.specs.Lists.{In}
-use Rattle.trio_lists.proofs.Members.{In-cases, In-left, In-map}
-use Rattle.trio_lease.specs.Shown.{Shown}
-use Rattle.trio_lease.specs.declared.lease.Lease.{Lease}
-use Rattle.trio_lease.specs.declared.lease.Lease.TheVariants.{Write as WriteLease, Read as ReadLease, Hold as HoldLease}
-use Rattle.trio_lease.specs.declared.parts.HoldParts.{HoldParts}
 use Rattle.trio_nodes.specs.declared.call.Reply as reply
-use Rattle.trio_nodes.specs.declared.call.Reply.TheVariants.{NotFound}
-use Rattle.trio_nodes.specs.declared.grant.Holder.{Holder}
-use Rattle.trio_nodes.specs.declared.grant.GrantKind.{GrantKind}
-use Rattle.trio_nodes.specs.declared.grant.GrantKind.TheVariants.{Hold}
-use Rattle.trio_nodes.specs.declared.answers.GrantFault.TheVariants.{Busy as BusyGrant}
-use Rattle.trio_nodes.specs.Nodes.{Nodes, find_named}
-use Rattle.trio_nodes.specs.Walk.{Path, and_then, enter, need_at, walk, walk_from}
-use Rattle.trio_nodes.specs.After.{batch_nodes}
-use Rattle.trio_desk.specs.Call.{Ask, DeskSeen, Grant, NotLent, Told}
-use Rattle.trio_desk.specs.Calls.{Call}
-use Rattle.trio_desk.specs.Out.{hold_numbers}
-use Rattle.trio_desk.specs.Ready.{ArePossible}
-use Rattle.trio_session.specs.Asked.{with_lease}
-use Rattle.trio_session.specs.Seen.{SessionSeen, body_shown, serves}
-use Rattle.trio_walk.specs.declared.met.Met.{Met}
-use Rattle.trio_walk.specs.declared.walks.WalkEnd.{WalkEnd}
-use Rattle.trio_walk.specs.declared.walks.WalkEnd.TheVariants.{At, Reply, Busy, NoMemory}
-use Rattle.trio_walk.specs.Needs.{Needed, asked, asked_beside, entered_needs, into_needs, kind_for, needs_from, reached_by, serves_need, walk_needs}
-use Rattle.trio_walk.specs.Walks.{EndsBy, InAllShown, IsMetIn, IsOwnBusy, IsStopped, LooksUp, MayWalk, TookLeases, Walked, Walks, WalksInto, Way, file_of, need_of, served_by, with_leases}
-use Rattle.trio_desk.specs.Out.{kind_lent}
-use Rattle.trio_walk.specs.inner.Steps.{Entered, EnteringEnds, Enters, here, root_met}
+use Rattle.trio_walk.specs.Walks.{InAllShown, IsStopped, WalksInto}
+use Rattle.trio_walk.specs.inner.Steps.{EnteringEnds}
 use Rattle.trio_walk.proofs.Agreeing.{IsAt, IsNeedAt, asked_beside-In, asked_beside-append, in_order, need_one, walk_at, walk_need}
 use Rattle.trio_walk.proofs.Entering.{never_hold}
 use Rattle.trio_walk.proofs.Looking.{may_but, tree_now}

@@ -1,4 +1,5 @@
-use Rattle.std.proofs.Common.{◌≡◌, ◌++◌, drop}
+use Rattle.trio_app.proofs.Words.{◌++◌, ◌≡◌}
+use Rattle.std.proofs.Common.{drop}
 use Rattle.std.specs.Vec.Iter.{into_iter_items}
 use Rattle.trio_app.proofs.without_name.Given as goal
 

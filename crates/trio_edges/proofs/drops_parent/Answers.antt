@@ -1,7 +1,5 @@
-use Rattle.std.proofs.Common.{◌∙◌, ap, sym}
+use Rattle.trio_edges.proofs.Words.{◌∙◌, ap, is_among, is_listed, sym}
 use Rattle.std.specs.Option.{is_some}
-use Rattle.trio_lists.specs.Lists.{is_among}
-use Rattle.trio_layout.specs.Edges.{is_listed}
 use Rattle.trio_edges.proofs.EdgeLemmas.{listed_dir, none_listed}
 use Rattle.trio_edges.proofs.drops_parent.Goals as goal
 

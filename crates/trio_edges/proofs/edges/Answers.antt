@@ -1,11 +1,6 @@
-use Rattle.std.proofs.Common.{◌∙◌, map, get_or, inr, sym, refl, ap, arith}
-use Rattle.std.specs.List.{list_all}
+use Rattle.trio_edges.proofs.Words.{◌∙◌, In, In-map, ap, arith, comes_to_root, entry_seen, get_or, inr, list_all, map, refl, sym}
 use Rattle.std.proofs.lemmas.List.{take_all}
-use Rattle.trio_lists.specs.Lists.{In}
-use Rattle.trio_lists.proofs.Members.{In-map}
 use Rattle.trio_lists.proofs.Filters.{get_or-In}
-use Rattle.trio_layout.specs.Edges.{comes_to_root}
-use Rattle.trio_case.specs.Listed.{entry_seen}
 use Rattle.trio_edges.proofs.EdgeLemmas.{clear_keeps, clear_leaves, meets_all, breaks_not, lost_breaks}
 use Rattle.trio_edges.proofs.edges.Goals as goal
 

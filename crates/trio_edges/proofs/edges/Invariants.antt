@@ -1,7 +1,5 @@
-use Rattle.std.proofs.Common.{◌≡◌, map, take, true}
-use Rattle.std.specs.List.{list_all}
-use Rattle.trio_layout.specs.Edges.{comes_to_root}
-use Rattle.trio_case.specs.Listed.{entry_seen}
+use Rattle.trio_edges.proofs.Words.{◌≡◌, comes_to_root, entry_seen, list_all, map, true}
+use Rattle.std.proofs.Common.{take}
 use Rattle.trio_edges.proofs.edges.Given as goal
 
 abbrev pub invariant-loop-entry : goal.invariant-loop-entry

@@ -1,9 +1,5 @@
-use Rattle.std.proofs.Common.{◌≡◌, ◌∙◌, true, map, [], length, sym, ap, arith}
-use Rattle.std.specs.List.{list_all}
+use Rattle.trio_edges.proofs.Words.{◌∙◌, ◌≡◌, ListedFile, [], ap, arith, is_regular, length, list_all, map, nat_tests, sym, true}
 use Rattle.std.proofs.lemmas.List.{nil_from_length}
-use Rattle.std.proofs.lemmas.Bool.Decides.{nat_tests}
-use Rattle.trio_layout.specs.Listing.{ListedFile}
-use Rattle.trio_edges.specs.inner.Steps.{is_regular}
 use Rattle.trio_edges.proofs.EdgeLemmas.{plain_clear, regular-seen}
 use Rattle.trio_edges.proofs.lost.Goals as goal
 

@@ -1,12 +1,5 @@
-use Rattle.std.proofs.Common.{◌≡◌, ◌∙◌, not, true, false, Some, inr, ap, sym}
-use Rattle.std.specs.Option.{option_map}
-use Rattle.std.proofs.lemmas.Bool.{and_parts}
-use Rattle.trio_rights.specs.Row.{row_in}
-use Rattle.trio_tables.specs.Row.{as_row}
-use Rattle.trio_lists.specs.Lists.{is_among}
+use Rattle.trio_edges.proofs.Words.{◌∙◌, ◌≡◌, Some, and_parts, ap, as_row, false, inr, is_among, is_clear, is_listed, not, option_map, row_in, stays_listed, sym, true}
 use Rattle.trio_lists.proofs.Members.{is_among-In}
-use Rattle.trio_layout.specs.Edges.{is_listed, stays_listed}
-use Rattle.trio_edges.specs.inner.Steps.{is_clear}
 use Rattle.trio_edges.proofs.EdgeLemmas.{clear_more, clear_row, clear_none, stays_so, leaves_child, not_not}
 use Rattle.trio_edges.proofs.lost_child.Goals as goal
 use Rattle.trio_edges.proofs.lost_child.Goals.{in-Some+else-is_lost+else-drops_parent, in_default}

@@ -1,5 +1,4 @@
-use Rattle.std.proofs.Common.{◌≡◌, ◌<◌, ℕ, true}
-use Rattle.trio_edges.specs.inner.Steps.{is_clear}
+use Rattle.trio_edges.proofs.Words.{◌<◌, ◌≡◌, is_clear, true, ℕ}
 use Rattle.trio_edges.proofs.lost_child.Given as goal
 
 abbrev pub invariant-loop-ino : goal.invariant-loop-ino

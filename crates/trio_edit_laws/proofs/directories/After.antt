@@ -1,31 +1,6 @@
 -- What is judged after slots were written: the files that the session made, and the rights that the entries show.
-use Rattle.std.proofs.Common.{◌≡◌, ℕ, true, List, Option, Some, Ok, sym, ap, ◌∙◌, subst, inl, inr, arith}
-use Rattle.std.specs.Prelude.{is_some, map}
-use Rattle.std.proofs.lemmas.Bool.{cases_eq}
-use Rattle.trio_rights.specs.Row.{Row}
-use Rattle.trio_lists.specs.Lists.{In}
-use Rattle.trio_lists.proofs.Members.{map-In}
-use Rattle.trio_layout.specs.Case.{Case, file_in}
-use Rattle.trio_layout.specs.Entries.{Listed}
-use Rattle.trio_layout.specs.JudgedFiles.{judged_files}
-use Rattle.trio_layout.specs.Survey.{FileRead, Met}
-use Rattle.trio_lease.specs.declared.parts.InoParts.{InoParts}
-use Rattle.trio_nodes.specs.Nodes.{Nodes, node_at}
-use Rattle.trio_surveys.proofs.Images.{same_met}
-use Rattle.trio_surveys.proofs.Sheets.{among_cases}
-use Rattle.trio_desk.specs.Agrees.{HasRights}
-use Rattle.trio_desk.specs.Call.{DeskSeen}
-use Rattle.trio_desk.specs.Contents.{rights_in}
-use Rattle.trio_desk.specs.Out.{ino_numbers}
-use Rattle.trio_desk.specs.Ready.{ArePossible}
-use Rattle.trio_desk.specs.Shows.{Naming}
-use Rattle.trio_laws.specs.session.Sees.{IsView}
-use Rattle.trio_laws.specs.session.SlotEdits.{AreSlotWrites, IsAfter, IsMadeBy, SlotWrite}
-use Rattle.trio_laws.specs.session.Takes.{case_as_stands}
-use Rattle.trio_laws.proofs.session.Again.{hand_files_once}
-use Rattle.trio_laws.proofs.session.Starts.{judged_once}
-use Rattle.trio_session.specs.Seen.{MadeFile, SessionSeen, in_hand, made_body, made_file}
-use Rattle.trio_edit_laws.specs.Written.{IsJudgedMade, MayEdit, made_met}
+use Rattle.trio_edit_laws.proofs.Words.{◌∙◌, ◌≡◌, ArePossible, AreSlotWrites, Case, DeskSeen, FileRead, HasRights, In, InoParts, IsJudgedMade, IsView, List, Listed, MadeFile, MayEdit, Met, Naming, Nodes, Ok, Option, Row, SessionSeen, SlotWrite, Some, among_cases, ap, arith, case_as_stands, cases_eq, file_in, hand_files_once, in_hand, inl, ino_numbers, inr, is_some, judged_files, judged_once, made_body, made_file, made_met, map, map-In, node_at, rights_in, same_met, subst, sym, true, ℕ}
+use Rattle.trio_laws.specs.session.SlotEdits.{IsAfter, IsMadeBy}
 use Rattle.trio_edit_laws.proofs.HandStays.{takes_more}
 use Rattle.trio_edit_laws.proofs.Whole.{judged_reads, view_then}
 use Rattle.trio_edit_laws.proofs.directories.Stays.{KeepsJudged, WritesDirs, hand_stays}

@@ -1,16 +1,5 @@
 -- An edit of slots of directories changes the nodes that are shown, and the session may go on.
-use Rattle.std.proofs.Common.{ℕ, List, Option}
-use Rattle.trio_rights.specs.Row.{Row}
-use Rattle.trio_nodes.specs.Nodes.{Nodes}
-use Rattle.trio_desk.specs.Call.{DeskSeen}
-use Rattle.trio_desk.specs.Edits.{MayShow}
-use Rattle.trio_desk.specs.Ready.{parcel_case}
-use Rattle.trio_desk.specs.Shows.{Shows}
-use Rattle.trio_laws.specs.session.Sees.{IsView}
-use Rattle.trio_laws.specs.session.Takes.{Becomes}
-use Rattle.trio_session.specs.Seen.{SessionSeen, in_hand}
-use Rattle.trio_edit_laws.specs.DirLaws.{Changes, StaysTree}
-use Rattle.trio_edit_laws.specs.Written.{MayEdit}
+use Rattle.trio_edit_laws.proofs.Words.{Becomes, Changes, DeskSeen, IsView, List, MayEdit, MayShow, Nodes, Option, Row, SessionSeen, Shows, StaysTree, in_hand, parcel_case, ℕ}
 use Rattle.trio_edit_laws.proofs.HandStays.{in_order, takes_more}
 use Rattle.trio_edit_laws.proofs.directories.After.{OthersStay, Rewrites, keeps_judged}
 use Rattle.trio_edit_laws.proofs.directories.Stays.{EditsDirs, hand_stays, may_then}

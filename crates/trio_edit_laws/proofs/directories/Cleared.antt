@@ -1,42 +1,10 @@
 -- The slot of a name is cleared.
-use Rattle.std.proofs.Common.{◌≡◌, ◌≢◌, ℕ, ◌*◌, ◌<◌, ◌≤◌, true, eqb, not, List, [], ◌∷◌, ◌++◌, append_assoc, length, Option, Some, None, sym, refl, ap, ◌∙◌, subst, inl, inr, ◌⊎◌, arith}
-use Rattle.std.specs.Prelude.{is_some, map}
-use Rattle.std.specs.List.{filter, find, flat_map}
-use Rattle.std.specs.Option.{option_map_or, option_or}
-use Rattle.std.proofs.lemmas.Bool.{cases_eq, eqb-true}
-use Rattle.std.proofs.lemmas.List.{append-nil, map-append}
-use Rattle.std.proofs.lemmas.List.Concat.{flat_map-append}
-use Rattle.std.proofs.lemmas.List.Folds.{find-append}
-use Rattle.trio_page.specs.Field.{with_part, zeros}
-use Rattle.trio_page.proofs.Cursor.{length-zeros}
-use Rattle.trio_rights.specs.Row.{Row}
-use Rattle.trio_rights.specs.declared.kind.Kind.{Kind}
-use Rattle.trio_rights.specs.declared.kind.Kind.TheVariants.{Directory}
-use Rattle.trio_lists.specs.Lists.{In, are_new}
-use Rattle.trio_lists.proofs.Filters.{filter-In, find-In}
-use Rattle.trio_lists.proofs.Members.{In-cases, In-left, In-map, In-right}
-use Rattle.trio_layout.specs.declared.slot.EntryPart.{EntryPart}
-use Rattle.trio_layout.specs.declared.slot.SlotRead.TheVariants.{Empty, Entry}
-use Rattle.trio_layout.specs.Chain.{Chain}
-use Rattle.trio_layout.specs.Entries.{slot_bytes}
-use Rattle.trio_layout.specs.Slot.{slot_of}
-use Rattle.trio_layout.proofs.SlotLemmas.{empty_value}
-use Rattle.trio_auxdir.specs.declared.place.Place.{Place}
-use Rattle.trio_auxdir.specs.Slots.{slots_of}
-use Rattle.trio_lease.specs.declared.parts.HoldParts.{HoldParts}
-use Rattle.trio_nodes.specs.Nodes.{Nodes, with_node}
-use Rattle.trio_desk.specs.Call.{DeskSeen}
-use Rattle.trio_desk.specs.Out.{hold_numbers, ino_numbers}
-use Rattle.trio_laws.specs.session.Sees.{IsView}
-use Rattle.trio_laws.specs.session.SlotEdits.{AreSlotWrites, IsClear, IsHeldIn, IsMade, SlotWrite}
+use Rattle.trio_edit_laws.proofs.Words.{◌*◌, ◌++◌, ◌<◌, ◌∙◌, ◌∷◌, ◌≡◌, ◌≢◌, ◌≤◌, ◌⊎◌, AreSlotWrites, Chain, Changes, DeskSeen, Directory, Empty, Entry, EntryPart, HasSlot, HoldParts, In, In-cases, In-left, In-map, In-right, IsInSlot, IsUnlent, IsView, Kind, LeavesFiles, List, MadeFile, MayEdit, Nodes, None, Option, Place, Row, SessionSeen, SlotWrite, Some, StaysTree, [], ap, append-nil, append_assoc, are_new, arith, block_number, body-else, cases_eq, chain_in, chained, cleared_file, cleared_slot, empty_value, entry_count, entry_in, entry_on-cleared, entry_shown, eqb, eqb-true, every_number, filter, filter-In, find, find-In, find-append, flat_map, flat_map-append, grant_in, held_file, hold_numbers, in_hand, inl, ino_numbers, inr, is_some, length, length-zeros, made_body, made_file, map, map-append, not, number-cleared, number_shown, only, open_kind, option_map_or, option_or, page_in, place_shown, refl, slot_bytes, slot_bytes-else, slot_of, slots_of, slots_shown, subst, sym, true, with_node, with_part, zeros, ℕ}
+use Rattle.trio_laws.specs.session.SlotEdits.{IsClear, IsHeldIn, IsMade}
 use Rattle.trio_laws.proofs.session.FilesRemoved.{after_clear, clear_shows as law}
-use Rattle.trio_laws.proofs.session.SlotCases.{none_not, only}
-use Rattle.trio_session.specs.Layout.{cleared as cleared_slot, page_in}
-use Rattle.trio_session.specs.Seen.{MadeFile, SessionSeen, block_number, chain_in, children_shown, clear, cleared_file, entry_count, entry_in, entry_shown, every_number, grant_in, held_file, in_hand, made_body, made_file, number_shown, open_kind, place_shown, slots_shown, without_made}
-use Rattle.trio_session.proofs.SlotBytes.{number-cleared}
-use Rattle.trio_session.proofs.SlotEdits.{body-else, entry_on-cleared, slot_bytes-else}
-use Rattle.trio_edit_laws.specs.DirLaws.{Changes, ClearLeaves, ClearShows, HasSlot, LeavesCleared, LeavesFiles, StaysTree}
-use Rattle.trio_edit_laws.specs.Written.{IsUnlent, IsInSlot, MayEdit, chained}
+use Rattle.trio_laws.proofs.session.SlotCases.{none_not}
+use Rattle.trio_session.specs.Seen.{children_shown, clear, without_made}
+use Rattle.trio_edit_laws.specs.DirLaws.{ClearLeaves, ClearShows, LeavesCleared}
 use Rattle.trio_edit_laws.proofs.Chained.{apart_from}
 use Rattle.trio_edit_laws.proofs.Keeps.{made_at, made_once}
 use Rattle.trio_edit_laws.proofs.Opens.{pages_of_chain}

@@ -1,56 +1,15 @@
 -- A new file is put into the first empty slot of a directory.
-use Rattle.std.proofs.Common.{◌≡◌, ℕ, ◌*◌, ◌<◌, ◌≤◌, Bool, true, false, cond, eqb, ltb, leb, not, ◌&&◌, List, [], ◌∷◌, ◌++◌, append_assoc, length, Option, Some, None, sym, refl, ap, ◌∙◌, subst, inl, inr, ◌⊎◌, arith, length-append}
-use Rattle.std.specs.Prelude.{is_some, map, if◌then◌else◌}
-use Rattle.std.specs.List.{filter}
-use Rattle.std.specs.Option.{option_map_or}
-use Rattle.std.proofs.lemmas.Bool.{and_from, and_parts, cases_eq, eq-eqb, eqb-true, false≢true, le-leb, lt-ltb, ne_eqb}
-use Rattle.std.proofs.lemmas.List.{append-nil, map-append}
-use Rattle.std.proofs.lemmas.List.Concat.{flat_map-append}
-use Rattle.trio_names.specs.Name.{is_name}
-use Rattle.trio_page.specs.Field.{with_part}
-use Rattle.trio_page.proofs.Fields.{length-with_part}
-use Rattle.trio_rights.specs.Row.{Row}
-use Rattle.trio_rights.specs.declared.kind.Kind.{Kind}
-use Rattle.trio_rights.specs.declared.kind.Kind.TheVariants.{Directory}
-use Rattle.trio_lists.specs.Lists.{In, are_new, is_among}
-use Rattle.trio_lists.proofs.Filters.{filter-In, filter-filter, filter-same}
-use Rattle.trio_lists.proofs.New.{is_among-not}
-use Rattle.trio_lists.proofs.Members.{In-cases, In-is_among, In-left, In-map, In-right}
-use Rattle.trio_layout.specs.declared.body.Body.{Body}
-use Rattle.trio_layout.specs.declared.range.CoreRange.{CoreRange}
-use Rattle.trio_layout.specs.declared.slot.EntryPart.{EntryPart}
-use Rattle.trio_layout.specs.declared.slot.SlotRead.{SlotRead}
-use Rattle.trio_layout.specs.declared.slot.SlotRead.TheVariants.{Empty, Entry, Bad}
+use Rattle.trio_edit_laws.proofs.Words.{if◌then◌else◌, ◌&&◌, ◌*◌, ◌++◌, ◌<◌, ◌∙◌, ◌∷◌, ◌≡◌, ◌≤◌, ◌⊎◌, AreSlotWrites, AreWithinLimits, Bad, Body, Bool, Chain, Changes, CoreRange, DeskSeen, Directory, EditsSlotIn, Empty, Entry, EntryPart, HasSlot, In, In-cases, In-is_among, In-left, In-map, In-right, InHand, InoParts, IsEntry, IsInSlot, IsOpenDir, IsTree, IsUnlent, IsView, IsWhole, Kind, LeavesFiles, List, MadeFile, MayEdit, Met, Naming, Nodes, None, Option, Place, Row, SessionSeen, Shows, SlotRead, SlotWrite, Some, StaysTree, [], and_from, and_parts, ap, append-nil, append_assoc, are_new, arith, block_number, body-else, body-filled, body_in_slot, body_in_slot-filled, body_sized, body_stands, case_as_stands, cases_eq, chain_in, chained, cleared_file, cond, edits_filled, empty_shown, entry-filled, entry_bytes, entry_fits, entry_in, entry_on, entry_value, eq-eqb, eqb, eqb-true, every_number, false, false≢true, filled, filter, filter-In, filter-same, flat_map-append, grant_in, held_file, in_hand, inl, ino_numbers, inr, is_allotted, is_among, is_among-not, is_name, is_some, le-leb, leb, length, length-entry_bytes, length-with_part, lt-ltb, ltb, made_body, made_file, made_is_judged, made_met, map, map-append, met_in, named_so, naming_after, naming_of, ne_eqb, no_chain, not, only, open_kind, option_map_or, page_in, page_in-with_page_same, parcel_case, place_shown, plain, read_file, refl, slot_bytes, slot_bytes-else, slot_of, spare_numbers, subst, sym, true, used_numbers, with_node, with_part, written_file, ℕ}
+use Rattle.std.proofs.Common.{length-append}
+use Rattle.trio_lists.proofs.Filters.{filter-filter}
 use Rattle.trio_layout.specs.Body.{body_of}
-use Rattle.trio_layout.specs.Chain.{Chain}
-use Rattle.trio_layout.specs.Entries.{body_in_slot, slot_bytes}
-use Rattle.trio_layout.specs.Slot.{IsEntry, entry_bytes, entry_fits, slot_of}
-use Rattle.trio_layout.specs.Survey.{Met, met_in, plain}
-use Rattle.trio_layout.proofs.SlotLemmas.{entry_value}
-use Rattle.trio_surveys.proofs.Owned.{body_sized}
-use Rattle.trio_auxdir.specs.declared.place.Place.{Place}
-use Rattle.trio_lease.specs.declared.parts.InoParts.{InoParts}
-use Rattle.trio_nodes.specs.Nodes.{Nodes, with_node}
-use Rattle.trio_nodes.specs.Tree.{IsTree}
-use Rattle.trio_desk.specs.Call.{DeskSeen}
-use Rattle.trio_desk.specs.Contents.{AreWithinLimits}
-use Rattle.trio_desk.specs.Edits.{InHand}
-use Rattle.trio_desk.specs.Out.{ino_numbers}
-use Rattle.trio_desk.specs.Shows.{Naming, made_by, naming_of, Shows}
-use Rattle.trio_laws.specs.session.Sees.{IsView}
-use Rattle.trio_laws.specs.session.SlotEdits.{AreSlotWrites, IsFill, SlotWrite, filled as nodes_filled, naming_after}
-use Rattle.trio_laws.specs.session.Takes.{case_as_stands}
-use Rattle.trio_laws.proofs.session.FileEdits.{body_stands}
+use Rattle.trio_desk.specs.Shows.{made_by}
+use Rattle.trio_laws.specs.session.SlotEdits.{IsFill, filled as nodes_filled}
 use Rattle.trio_laws.proofs.session.FilesMade.{after_fill, fill_shows as law}
-use Rattle.trio_laws.proofs.session.Named.{made_is_judged, named_is_read}
-use Rattle.trio_laws.proofs.session.SlotCases.{named_so, only}
-use Rattle.trio_session.specs.Layout.{filled, page_in}
-use Rattle.trio_session.specs.Seen.{IsOpenDir, MadeFile, SessionSeen, block_number, chain_in, cleared_file, empty_shown, entry_in, every_number, fill, grant_in, held_file, in_hand, is_allotted, made_body, made_file, no_chain, open_kind, place_shown, placed_made, read_file, spare_numbers, used_numbers, written_file}
-use Rattle.trio_session.proofs.Pages.{page_in-with_page_same}
-use Rattle.trio_session.proofs.SlotBytes.{body_in_slot-filled, entry-filled, entry_fits-every, length-entry_bytes}
-use Rattle.trio_session.proofs.SlotEdits.{EditsSlotIn, IsWhole, body-else, body-filled, edits_filled, entry_on, slot_bytes-else}
-use Rattle.trio_edit_laws.specs.DirLaws.{Changes, FillLeaves, FillShows, HasSlot, IsEmptyBody, LeavesFiles, LeavesFilled, StaysTree, node_made}
-use Rattle.trio_edit_laws.specs.Written.{IsUnlent, IsInSlot, MayEdit, chained, made_met}
+use Rattle.trio_laws.proofs.session.Named.{named_is_read}
+use Rattle.trio_session.specs.Seen.{fill, placed_made}
+use Rattle.trio_session.proofs.SlotBytes.{entry_fits-every}
+use Rattle.trio_edit_laws.specs.DirLaws.{FillLeaves, FillShows, IsEmptyBody, LeavesFilled, node_made}
 use Rattle.trio_edit_laws.proofs.Anew.{body-made}
 use Rattle.trio_edit_laws.proofs.Keeps.{made_at}
 use Rattle.trio_edit_laws.proofs.Opens.{chain-made}
@@ -63,7 +22,6 @@ use Rattle.trio_edit_laws.proofs.directories.Places.{IsEmptyPlace, empty_place, 
 use Rattle.trio_edit_laws.proofs.directories.Sees.{r, slot_good, slot_wide}
 use Rattle.trio_edit_laws.proofs.directories.Stays.{EditsDirs, IsAsBefore, IsDirBlock, IsNewFile, WritesDirs, body_else, chain_else, no_grant, open_else, unlent_still}
 use Rattle.trio_edit_laws.proofs.directories.Writes.{WritesSlot, block_whole, body-written_slot, length-slot_with_part, slot_bytes-written, slot_with_part, with_part-slot, write_of, slot_writes}
-use Rattle.trio_desk.specs.Ready.{parcel_case}
 
 -- a slot without an entry is empty
 pub empty_from : (x : SlotRead) → entry_in x ≡ None → (x ≡ Bad → ⊥) → x ≡ Empty

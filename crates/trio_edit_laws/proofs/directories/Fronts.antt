@@ -1,31 +1,8 @@
 -- The front of one slot of an open directory is written: a slot is cleared, or its entry gets another name.
-use Rattle.std.proofs.Common.{◌≡◌, ◌≢◌, ℕ, ◌*◌, ◌<◌, ◌≤◌, Bool, true, cond, eqb, ◌&&◌, List, [], ◌∷◌, length, take, Option, Some, sym, refl, ap, ◌∙◌, subst, inl, inr, ◌⊎◌, arith}
-use Rattle.std.specs.Str.{bytes_eq}
-use Rattle.std.proofs.lemmas.Bool.{cases_eq}
-use Rattle.trio_page.specs.Field.{with_part}
-use Rattle.trio_page.proofs.Fields.{length-with_part}
-use Rattle.trio_rights.specs.Row.{Row}
-use Rattle.trio_rights.specs.declared.kind.Kind.TheVariants.{Directory}
-use Rattle.trio_lists.specs.Lists.{In}
-use Rattle.trio_lists.proofs.Filters.{some_one}
-use Rattle.trio_layout.specs.declared.slot.EntryPart.{EntryPart}
-use Rattle.trio_layout.specs.declared.slot.SlotRead.TheVariants.{Empty, Entry, Bad}
-use Rattle.trio_layout.specs.Entries.{Listed, body_in_slot, slot_bytes}
-use Rattle.trio_layout.specs.Slot.{entry_at, entry_bytes, entry_fits, slot_of}
-use Rattle.trio_layout.specs.Survey.{met_in, plain}
-use Rattle.trio_nodes.specs.Nodes.{Nodes}
-use Rattle.trio_desk.specs.Call.{DeskSeen}
-use Rattle.trio_desk.specs.Edits.{InHand}
-use Rattle.trio_desk.specs.Shows.{Naming, naming_of}
-use Rattle.trio_laws.specs.session.Sees.{IsView}
-use Rattle.trio_laws.specs.session.Takes.{case_as_stands}
-use Rattle.trio_laws.proofs.session.Named.{entry_names, made_is_judged}
-use Rattle.trio_session.specs.Layout.{page_in, with_part_in}
-use Rattle.trio_session.specs.Seen.{MadeFile, SessionSeen, chain_in, every_number, in_hand, open_kind}
-use Rattle.trio_session.proofs.Pages.{page_in-with_page_same}
+use Rattle.trio_edit_laws.proofs.Words.{◌&&◌, ◌*◌, ◌<◌, ◌∙◌, ◌∷◌, ◌≡◌, ◌≢◌, ◌≤◌, ◌⊎◌, Bad, Bool, DeskSeen, Directory, EditsSlotIn, Empty, Entry, EntryPart, In, InHand, IsView, IsWhole, List, Listed, MadeFile, MayEdit, Naming, Nodes, Option, Row, SessionSeen, Some, [], ap, arith, body_in_slot, bytes_eq, case_as_stands, cases_eq, chain_in, cond, entry_bytes, entry_fits, entry_names, eqb, every_number, in_hand, inl, inr, length, length-with_part, made_is_judged, made_met, met_in, naming_of, open_kind, page_in, page_in-with_page_same, plain, refl, slot_bytes, some_one, subst, sym, take, true, with_part, with_part_in, ℕ}
+use Rattle.trio_layout.specs.Slot.{entry_at, slot_of}
 use Rattle.trio_session.proofs.SlotBytes.{IsInSlot}
-use Rattle.trio_session.proofs.SlotEdits.{EditsSlotIn, IsWhole, edits_with_part}
-use Rattle.trio_edit_laws.specs.Written.{MayEdit, made_met}
+use Rattle.trio_session.proofs.SlotEdits.{edits_with_part}
 use Rattle.trio_edit_laws.proofs.Touches.{touches_page}
 use Rattle.trio_edit_laws.proofs.directories.Sees.{listed, listed_on, r}
 use Rattle.trio_edit_laws.proofs.directories.Stays.{IsDirBlock, WritesDirs}

@@ -1,30 +1,8 @@
 -- What an edit of slots of directories leaves of all other files, and of the slots of the directories themselves.
-use Rattle.std.proofs.Common.{◌≡◌, ◌≢◌, ℕ, ◌+◌, ◌*◌, eqb, not, List, [], ◌∷◌, Option, Some, None, sym, refl, ap, ◌∙◌, subst, inl, inr, arith}
-use Rattle.std.specs.Prelude.{map, drop, slice_set}
-use Rattle.std.specs.List.{filter, find}
-use Rattle.std.specs.Option.{option_and_then, option_map_or}
-use Rattle.trio_rights.specs.declared.kind.Kind.{Kind}
-use Rattle.trio_rights.specs.declared.kind.Kind.TheVariants.{Directory}
-use Rattle.trio_lists.specs.Lists.{In, is_among}
-use Rattle.trio_lists.proofs.Filters.{filter-same}
-use Rattle.trio_lists.proofs.Members.{In-right}
-use Rattle.trio_layout.specs.Chain.{Chain}
-use Rattle.trio_layout.specs.Entries.{slot_bytes}
-use Rattle.trio_layout.specs.Slot.{slot_of}
-use Rattle.trio_layout.specs.declared.slot.EntryPart.{EntryPart}
-use Rattle.trio_auxdir.specs.declared.place.Place.{Place}
-use Rattle.trio_auxdir.specs.Slots.{slots_of}
-use Rattle.trio_lease.specs.Shown.{Shown}
-use Rattle.trio_lease.specs.declared.parts.InoParts.{InoParts}
-use Rattle.trio_desk.specs.Call.{DeskSeen}
-use Rattle.trio_desk.specs.Out.{Parcel, ino_numbers, page_numbers}
+use Rattle.trio_edit_laws.proofs.Words.{◌*◌, ◌+◌, ◌∙◌, ◌∷◌, ◌≡◌, ◌≢◌, Chain, DeskSeen, Directory, EditsSlotIn, EntryPart, HasSlot, In, In-right, InoParts, Kind, LeavesFiles, List, MadeFile, MayEdit, None, Option, Parcel, Place, SessionSeen, Shown, Some, [], ap, arith, block_shown, block_shown-open, block_shown-read, chain_in, dir_pages, entry_in, entry_on, entry_shown, eqb, every_number, filter, filter-same, find, inl, ino_numbers, inr, is_among, kind_shown, made_body, made_file, map, not, open_kind, option_and_then, option_map_or, page_in, page_numbers, pages_shown, pages_shown-open, pages_shown-read, place_of, refl, slice_get-In, slice_set, slot_bytes, slot_of, slots_of, slots_shown, spare_numbers, subst, sym, used_numbers, ℕ}
+use Rattle.std.specs.Prelude.{drop}
 use Rattle.trio_laws.proofs.session.Starts.{among_alike}
-use Rattle.trio_session.specs.Layout.{page_in}
-use Rattle.trio_session.specs.Seen.{MadeFile, SessionSeen, block_shown, chain_in, dir_pages, entry_in, entry_shown, every_number, kind_shown, made_body, made_file, open_kind, pages_shown, place_of, slots_shown, spare_numbers, used_numbers}
-use Rattle.trio_session.proofs.Lists.{slice_get-In}
-use Rattle.trio_session.proofs.SlotEdits.{EditsSlotIn, IsBlockAt, entry_of, entry_of-block, entry_of-else, entry_on, slots_of-edited}
-use Rattle.trio_edit_laws.specs.DirLaws.{HasSlot, LeavesFiles}
-use Rattle.trio_edit_laws.specs.Written.{MayEdit}
+use Rattle.trio_session.proofs.SlotEdits.{IsBlockAt, entry_of, entry_of-block, entry_of-else, slots_of-edited}
 use Rattle.trio_edit_laws.proofs.Chained.{apart_from}
 use Rattle.trio_edit_laws.proofs.Keeps.{made_at, place_of_open}
 use Rattle.trio_edit_laws.proofs.Opens.{open_apart, open_once}
@@ -32,7 +10,6 @@ use Rattle.trio_edit_laws.proofs.directories.Places.{IsPlace}
 use Rattle.trio_edit_laws.proofs.directories.Sees.{block_open, pages_open}
 use Rattle.trio_edit_laws.proofs.directories.Slotted.{name_in-entry_in, name_of_part}
 use Rattle.trio_edit_laws.proofs.directories.Stays.{WritesDirs, body_else, chain_else, open_else, reads_same}
-use Rattle.trio_session.proofs.Shows.{block_shown-open, block_shown-read, pages_shown-open, pages_shown-read}
 
 -- the blocks of open files that differ have no page in common
 pub blocks_differ : (desk : DeskSeen) (s : SessionSeen) (a b : ℕ) (k l : Kind) (n : ℕ) → MayEdit desk s → open_kind s a ≡ Some k → open_kind s b ≡ Some l → (a ≡ b → ⊥)

@@ -1,18 +1,7 @@
 -- Lists of files that were made, where one is added or taken out.
-use Rattle.std.proofs.Common.{◌≡◌, ℕ, Bool, true, false, cond, eqb, not, List, [], ◌∷◌, ◌++◌, Option, Some, None, sym, refl, ap, ◌∙◌, subst, inl, inr, ◌⊎◌, arith}
-use Rattle.std.specs.Prelude.{map}
-use Rattle.std.specs.List.{filter, find}
-use Rattle.std.specs.Option.{option_or}
-use Rattle.std.proofs.lemmas.Bool.{cases_eq, eq-eqb, eqb-true, false≢true, ne_eqb}
-use Rattle.std.proofs.lemmas.List.Folds.{find-append}
-use Rattle.trio_lists.specs.Lists.{In, are_new}
-use Rattle.trio_lists.proofs.Filters.{In-filter, In-find, filter-In, filter-none, find-In}
-use Rattle.trio_lists.proofs.Members.{In-cases, In-left, In-map, In-right, map-In}
-use Rattle.trio_lists.proofs.New.{are_new-first}
-use Rattle.trio_laws.proofs.session.Again.{new_between}
-use Rattle.trio_session.specs.Seen.{MadeFile}
+use Rattle.trio_edit_laws.proofs.Words.{◌++◌, ◌∙◌, ◌∷◌, ◌≡◌, ◌⊎◌, Bool, In, In-cases, In-find, In-left, In-map, In-right, List, MadeFile, None, Option, Some, [], ap, are_new, are_new-first, arith, cases_eq, cond, eq-eqb, eqb, eqb-true, false, false≢true, filter, filter-In, filter-all, find, find-In, find-append, inl, inr, map, map-In, ne_eqb, new_between, not, option_or, refl, subst, sym, true, ℕ}
+use Rattle.trio_lists.proofs.Filters.{In-filter, filter-none}
 use Rattle.trio_edit_laws.proofs.Chained.{apart_from, apart_to}
-use Rattle.trio_session.proofs.Numbers.{filter-all}
 
 abbrev pub number_of : MadeFile → ℕ
 number_of x = x.ino

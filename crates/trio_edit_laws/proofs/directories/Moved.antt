@@ -1,28 +1,7 @@
 -- An entry goes from the slot of its name to the first empty slot of another directory.
-use Rattle.std.proofs.Common.{◌≡◌, ◌≢◌, ℕ, ◌*◌, ◌≤◌, true, ltb, leb, ◌&&◌, List, [], ◌∷◌, ◌++◌, length, Some, None, sym, refl, ap, ◌∙◌, subst, inl, inr, arith, length-append}
-use Rattle.std.proofs.lemmas.Bool.{and_from, and_parts}
-use Rattle.trio_names.specs.Name.{is_name}
-use Rattle.trio_page.specs.Field.{with_part, zeros}
-use Rattle.trio_page.proofs.Cursor.{length-zeros}
-use Rattle.trio_page.proofs.Fields.{length-with_part}
-use Rattle.trio_rights.specs.declared.kind.Kind.{Kind}
-use Rattle.trio_rights.specs.declared.kind.Kind.TheVariants.{Directory}
-use Rattle.trio_lists.specs.Lists.{In}
-use Rattle.trio_lists.proofs.Members.{In-right}
-use Rattle.trio_layout.specs.declared.slot.EntryPart.{EntryPart}
-use Rattle.trio_layout.specs.declared.slot.SlotRead.TheVariants.{Empty, Entry}
-use Rattle.trio_layout.specs.Entries.{body_in_slot, slot_bytes}
-use Rattle.trio_layout.specs.Slot.{IsEntry, entry_bytes, entry_fits, slot_of}
-use Rattle.trio_layout.proofs.SlotLemmas.{empty_value, entry_value}
-use Rattle.trio_auxdir.specs.declared.place.Place.{Place}
-use Rattle.trio_desk.specs.Call.{DeskSeen}
-use Rattle.trio_desk.specs.Out.{Parcel}
-use Rattle.trio_session.specs.Layout.{cleared as cleared_slot, filled, page_in}
-use Rattle.trio_session.specs.Seen.{MadeFile, SessionSeen, chain_in, empty_shown, entry_in, every_number, open_kind, place_shown}
-use Rattle.trio_session.proofs.Pages.{page_in-with_page_same}
-use Rattle.trio_session.proofs.SlotBytes.{body_in_slot-filled, entry-filled, length-entry_bytes, number-cleared}
-use Rattle.trio_session.proofs.SlotEdits.{EditsSlotIn, IsWhole, body-else, body-filled, edits_cleared, edits_filled, entry_on, entry_on-cleared, slot_bytes-else, whole-edited}
-use Rattle.trio_edit_laws.specs.Written.{MayEdit}
+use Rattle.trio_edit_laws.proofs.Words.{◌&&◌, ◌*◌, ◌++◌, ◌∙◌, ◌∷◌, ◌≡◌, ◌≢◌, ◌≤◌, DeskSeen, Directory, EditsSlotIn, Empty, Entry, EntryPart, In, In-right, IsEntry, IsWhole, Kind, List, MadeFile, MayEdit, None, Parcel, Place, SessionSeen, Some, [], and_from, and_parts, ap, arith, body-else, body-filled, body_in_slot, body_in_slot-filled, chain_in, cleared_slot, edits_filled, empty_shown, empty_value, entry-filled, entry_bytes, entry_fits, entry_in, entry_on, entry_on-cleared, entry_value, every_number, filled, inl, inr, is_name, leb, length, length-entry_bytes, length-with_part, length-zeros, ltb, number-cleared, open_kind, page_in, page_in-with_page_same, place_shown, refl, slot_bytes, slot_bytes-else, slot_of, subst, sym, true, with_part, zeros, ℕ}
+use Rattle.std.proofs.Common.{length-append}
+use Rattle.trio_session.proofs.SlotEdits.{edits_cleared, whole-edited}
 use Rattle.trio_edit_laws.proofs.Keeps.{place_of_open}
 use Rattle.trio_edit_laws.proofs.Opens.{open_apart}
 use Rattle.trio_edit_laws.proofs.Touches.{Touches, touches_page, touches_then}

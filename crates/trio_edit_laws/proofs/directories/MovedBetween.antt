@@ -1,20 +1,5 @@
 -- An entry that moves: the session after its slot was cleared, and after the other was filled.
-use Rattle.std.proofs.Common.{◌≡◌, ℕ, Bool, eqb, not, List, ◌++◌, Some, sym, ap, ◌∙◌}
-use Rattle.std.specs.Prelude.{map, slice_index_or}
-use Rattle.std.specs.List.{filter}
-use Rattle.trio_rights.specs.declared.kind.Kind.{Kind}
-use Rattle.trio_rights.specs.declared.kind.Kind.TheVariants.{Directory}
-use Rattle.trio_lists.specs.Lists.{is_among}
-use Rattle.trio_layout.specs.declared.slot.EntryPart.{EntryPart}
-use Rattle.trio_layout.specs.Chain.{Chain}
-use Rattle.trio_auxdir.specs.declared.place.Place.{Place}
-use Rattle.trio_auxdir.specs.Places.{first_empty}
-use Rattle.trio_auxdir.specs.Slots.{slots_of}
-use Rattle.trio_lease.specs.declared.parts.InoParts.{InoParts}
-use Rattle.trio_desk.specs.Call.{DeskSeen}
-use Rattle.trio_desk.specs.Out.{ino_numbers}
-use Rattle.trio_session.specs.Layout.{cleared as cleared_slot, page_in}
-use Rattle.trio_session.specs.Seen.{MadeFile, SessionSeen, chain_in, clear, every_number, fill, is_allotted, made_file, open_kind, slots_shown}
+use Rattle.trio_edit_laws.proofs.Words.{◌++◌, ◌∙◌, ◌≡◌, Bool, Chain, DeskSeen, Directory, EntryPart, InoParts, Kind, List, MadeFile, Place, SessionSeen, Some, ap, chain_in, clear, cleared_slot, eqb, every_number, fill, filter, first_empty, ino_numbers, is_allotted, is_among, made_file, map, not, open_kind, page_in, slice_index_or, slots_of, slots_shown, sym, ℕ}
 use Rattle.trio_session.proofs.SlotEdits.{map-page_in_else}
 use Rattle.trio_edit_laws.proofs.directories.Cleared.{clear_is, writes as clear_writes}
 use Rattle.trio_edit_laws.proofs.directories.Filled.{fill_at, filled_session}

@@ -1,33 +1,5 @@
 -- An entry of a file that is held goes to another directory.
-use Rattle.std.proofs.Common.{◌≡◌, ℕ, false, eqb, List, [], ◌∷◌, ◌++◌, Option, Some, None, sym, refl, ap, ◌∙◌, subst, inl, inr, arith}
-use Rattle.std.specs.Prelude.{map}
-use Rattle.std.specs.List.{filter}
-use Rattle.std.proofs.lemmas.Bool.{eqb-true}
-use Rattle.std.proofs.lemmas.List.{append-nil}
-use Rattle.trio_rights.specs.Row.{Row}
-use Rattle.trio_rights.specs.declared.kind.Kind.{Kind}
-use Rattle.trio_lists.specs.Lists.{In}
-use Rattle.trio_lists.proofs.Filters.{find-In, some_one}
-use Rattle.trio_lists.proofs.Members.{In-map}
-use Rattle.trio_lists.proofs.New.{is_among-not}
-use Rattle.trio_layout.specs.declared.slot.EntryPart.{EntryPart}
-use Rattle.trio_layout.specs.Chain.{Chain}
-use Rattle.trio_layout.specs.Entries.{body_in_slot}
-use Rattle.trio_layout.specs.Slot.{slot_of}
-use Rattle.trio_auxdir.specs.declared.place.Place.{Place}
-use Rattle.trio_lease.specs.declared.parts.HoldParts.{HoldParts}
-use Rattle.trio_nodes.specs.Nodes.{Nodes, node_at}
-use Rattle.trio_desk.specs.Agrees.{HasRights}
-use Rattle.trio_desk.specs.Call.{DeskSeen}
-use Rattle.trio_desk.specs.Contents.{rights_in}
-use Rattle.trio_desk.specs.Out.{ino_numbers}
-use Rattle.trio_laws.specs.session.Sees.{IsView}
-use Rattle.trio_laws.specs.session.SlotEdits.{moved, naming_after, with_changed}
-use Rattle.trio_laws.proofs.session.SlotCases.{named_so}
-use Rattle.trio_session.specs.Layout.{page_in}
-use Rattle.trio_session.specs.Seen.{MadeFile, SessionSeen, clear, every_number, fill, held_file, in_hand, made_file}
-use Rattle.trio_edit_laws.specs.DirLaws.{Changes, LeavesMoved, StaysTree}
-use Rattle.trio_edit_laws.specs.Written.{IsInSlot, MayEdit}
+use Rattle.trio_edit_laws.proofs.Words.{◌++◌, ◌∙◌, ◌∷◌, ◌≡◌, Chain, Changes, DeskSeen, EntryPart, HasRights, HoldParts, In, In-map, IsInSlot, IsView, Kind, LeavesMoved, List, MadeFile, MayEdit, Nodes, None, Option, Place, Row, SessionSeen, Some, StaysTree, [], ap, append-nil, arith, body_in_slot, clear, eqb, eqb-true, every_number, false, fill, filter, find-In, held_file, in_hand, inl, ino_numbers, inr, is_among-not, made_file, map, moved, named_so, naming_after, node_at, page_in, refl, rights_in, slot_of, some_one, subst, sym, with_changed, ℕ}
 use Rattle.trio_edit_laws.proofs.Keeps.{made_at}
 use Rattle.trio_edit_laws.proofs.directories.After.{OthersStay}
 use Rattle.trio_edit_laws.proofs.directories.Changes.{changes_by}

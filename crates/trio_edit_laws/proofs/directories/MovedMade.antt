@@ -1,33 +1,5 @@
 -- An entry of a file that was made goes to another directory.
-use Rattle.std.proofs.Common.{◌≡◌, ℕ, true, cond, eqb, not, List, [], ◌∷◌, ◌++◌, append_assoc, Option, Some, None, sym, refl, ap, ◌∙◌, subst, inl, inr, ◌⊎◌, arith}
-use Rattle.std.specs.Prelude.{is_some, map}
-use Rattle.std.specs.List.{filter, find, flat_map}
-use Rattle.std.specs.Option.{option_map_or}
-use Rattle.std.proofs.lemmas.Bool.{cases_eq, eq-eqb, eqb-true}
-use Rattle.std.proofs.lemmas.List.{append-nil, map-append}
-use Rattle.std.proofs.lemmas.List.Concat.{flat_map-append}
-use Rattle.std.proofs.lemmas.List.Folds.{find-append}
-use Rattle.std.proofs.lemmas.List.Elements.{filter-append}
-use Rattle.trio_rights.specs.Row.{Row}
-use Rattle.trio_rights.specs.declared.kind.Kind.{Kind}
-use Rattle.trio_rights.specs.declared.kind.Kind.TheVariants.{Directory}
-use Rattle.trio_lists.specs.Lists.{In, are_new}
-use Rattle.trio_lists.proofs.Filters.{filter-In}
-use Rattle.trio_lists.proofs.Members.{In-cases, In-is_among, In-left, In-map, In-right, map-In}
-use Rattle.trio_layout.specs.declared.slot.EntryPart.{EntryPart}
-use Rattle.trio_layout.specs.Chain.{Chain}
-use Rattle.trio_layout.specs.Slot.{slot_of}
-use Rattle.trio_layout.specs.Survey.{Met, met_in, plain}
-use Rattle.trio_auxdir.specs.declared.place.Place.{Place}
-use Rattle.trio_nodes.specs.Nodes.{Nodes}
-use Rattle.trio_desk.specs.Call.{DeskSeen}
-use Rattle.trio_desk.specs.Out.{ino_numbers}
-use Rattle.trio_laws.specs.session.Sees.{IsView}
-use Rattle.trio_laws.specs.session.SlotEdits.{moved, with_changed}
-use Rattle.trio_laws.proofs.session.SlotCases.{named_so}
-use Rattle.trio_session.specs.Seen.{MadeFile, SessionSeen, body_in, chain_in, clear, every_number, fill, in_hand, made_body, made_file, no_chain, open_kind}
-use Rattle.trio_edit_laws.specs.DirLaws.{Changes, LeavesMoved, StaysTree}
-use Rattle.trio_edit_laws.specs.Written.{IsUnlent, IsInSlot, MayEdit, chained, made_met}
+use Rattle.trio_edit_laws.proofs.Words.{◌++◌, ◌∙◌, ◌∷◌, ◌≡◌, ◌⊎◌, Chain, Changes, DeskSeen, Directory, EntryPart, In, In-cases, In-is_among, In-left, In-map, In-right, IsInSlot, IsUnlent, IsView, Kind, LeavesMoved, List, MadeFile, MayEdit, Met, Nodes, None, Option, Place, Row, SessionSeen, Some, StaysTree, [], ap, append-nil, append_assoc, are_new, arith, body_in, cases_eq, chain_in, chained, clear, cond, eq-eqb, eqb, eqb-true, every_number, fill, filter, filter-In, filter-append, find, find-append, flat_map, flat_map-append, in_hand, inl, ino_numbers, inr, is_some, made_body, made_file, made_met, map, map-In, map-append, met_in, moved, named_so, no_chain, not, open_kind, option_map_or, plain, refl, slot_of, subst, sym, true, with_changed, ℕ}
 use Rattle.trio_edit_laws.proofs.Anew.{body-made}
 use Rattle.trio_edit_laws.proofs.Chained.{apart_from}
 use Rattle.trio_edit_laws.proofs.Keeps.{made_at, made_once}

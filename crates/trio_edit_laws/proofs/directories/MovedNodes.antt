@@ -1,26 +1,8 @@
 -- What an entry that goes to another directory shows, whether its file was made or is held.
-use Rattle.std.proofs.Common.{◌≡◌, ℕ, true, List, [], ◌∷◌, Option, Some, sym, ap, ◌∙◌, subst, arith}
-use Rattle.trio_rights.specs.Row.{Row}
-use Rattle.trio_rights.specs.declared.kind.Kind.{Kind}
-use Rattle.trio_lists.specs.Lists.{are_new}
-use Rattle.trio_layout.specs.declared.slot.EntryPart.{EntryPart}
-use Rattle.trio_layout.specs.declared.slot.SlotRead.TheVariants.{Empty, Entry}
-use Rattle.trio_layout.specs.Entries.{slot_bytes}
-use Rattle.trio_layout.specs.Slot.{slot_of}
-use Rattle.trio_auxdir.specs.declared.place.Place.{Place}
-use Rattle.trio_nodes.specs.Nodes.{Nodes}
-use Rattle.trio_nodes.specs.Tree.{IsTree}
-use Rattle.trio_desk.specs.Call.{DeskSeen}
-use Rattle.trio_desk.specs.Ready.{parcel_case}
-use Rattle.trio_desk.specs.Shows.{Shows}
-use Rattle.trio_laws.specs.session.Sees.{IsView}
-use Rattle.trio_laws.specs.session.SlotEdits.{AreSlotWrites, IsMove, IsSlotWrite, SlotWrite, TakesBody, moved, naming_after, with_changed}
+use Rattle.trio_edit_laws.proofs.Words.{◌∙◌, ◌∷◌, ◌≡◌, AreSlotWrites, DeskSeen, Empty, Entry, EntryPart, IsSlotWrite, IsTree, IsView, Kind, List, MadeFile, MayEdit, Nodes, Option, Place, Row, SessionSeen, Shows, SlotWrite, Some, StaysTree, [], ap, are_new, arith, entry_in, in_hand, moved, naming_after, page_in, parcel_case, slot_bytes, slot_of, subst, sym, true, with_changed, ℕ}
+use Rattle.trio_laws.specs.session.SlotEdits.{IsMove, TakesBody}
 use Rattle.trio_laws.proofs.session.FilesMoved.{after_move, move_shows as law}
 use Rattle.trio_laws.proofs.session.SlotCases.{either}
-use Rattle.trio_session.specs.Layout.{page_in}
-use Rattle.trio_session.specs.Seen.{MadeFile, SessionSeen, entry_in, in_hand}
-use Rattle.trio_edit_laws.specs.DirLaws.{StaysTree}
-use Rattle.trio_edit_laws.specs.Written.{MayEdit}
 use Rattle.trio_edit_laws.proofs.directories.After.{IsListedThen}
 use Rattle.trio_edit_laws.proofs.directories.Changes.{Turns}
 use Rattle.trio_edit_laws.proofs.directories.Filled.{empty_from}

@@ -1,19 +1,6 @@
 -- An entry goes to another directory, of a file that was made or is held.
-use Rattle.std.proofs.Common.{◌≡◌, ◌≢◌, ℕ, true, eqb, List, length, None, Some, sym, ap, ◌∙◌, arith}
-use Rattle.std.specs.Option.{option_map, option_or}
-use Rattle.trio_names.specs.Name.{is_name}
-use Rattle.trio_lists.proofs.Filters.{find-In}
-use Rattle.trio_surveys.proofs.Owned.{body_sized}
-use Rattle.trio_rights.specs.declared.kind.Kind.{Kind}
-use Rattle.trio_layout.specs.declared.slot.EntryPart.{EntryPart}
-use Rattle.trio_layout.specs.Body.{body_at}
-use Rattle.trio_auxdir.specs.declared.place.Place.{Place}
-use Rattle.trio_lease.specs.Shown.{Shown}
-use Rattle.trio_lease.specs.declared.parts.HoldParts.{HoldParts}
-use Rattle.trio_desk.specs.Call.{DeskSeen}
-use Rattle.trio_session.specs.Seen.{IsOpenDir, MadeFile, SessionSeen, body_in, empty_shown, entry_shown, held_file, made_body, made_file, open_kind, place_shown, written_file}
+use Rattle.trio_edit_laws.proofs.Words.{◌∙◌, ◌≡◌, ◌≢◌, DeskSeen, EntryPart, HoldParts, IsOpenDir, Kind, List, MadeFile, MayEdit, None, Place, SessionSeen, Shown, Some, ap, arith, body_at, body_in, body_sized, empty_shown, entry_shown, eqb, find-In, held_file, is_name, length, made_body, made_file, open_kind, option_map, option_or, place_shown, sym, true, written_file, ℕ}
 use Rattle.trio_edit_laws.specs.DirLaws.{AsHeld, AsMade, IsMoved, MoveLeaves, MoveShows}
-use Rattle.trio_edit_laws.specs.Written.{MayEdit}
 use Rattle.trio_edit_laws.proofs.Anew.{body-made}
 use Rattle.trio_edit_laws.proofs.directories.Moved.{MoveNeeds}
 use Rattle.trio_edit_laws.proofs.directories.MovedHeld.{held_left, held_moves}

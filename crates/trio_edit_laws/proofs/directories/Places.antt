@@ -1,31 +1,6 @@
 -- Places of a directory that is open: of its first empty slot, and of the slot with a name.
-use Rattle.std.proofs.Common.{◌≡◌, ℕ, suc, ◌+◌, ◌*◌, ◌/◌, ◌%◌, ◌<◌, List, [], ◌∷◌, length, get_or, Option, Some, None, sym, refl, ap, ◌∙◌, subst, arith}
-use Rattle.std.specs.Prelude.{is_none, map, slice_get}
-use Rattle.std.specs.Option.{option_map}
-use Rattle.std.proofs.lemmas.List.{length-map}
-use Rattle.std.proofs.lemmas.Option.{get_or_from_slice_get, slice_get-get_or, slice_get-map, slice_get_within}
+use Rattle.trio_edit_laws.proofs.Words.{◌%◌, ◌*◌, ◌+◌, ◌/◌, ◌<◌, ◌∙◌, ◌∷◌, ◌≡◌, DeskSeen, Directory, Entry, EntryPart, In, In-find, In-map, InHand, IsView, List, Listed, MayEdit, Nodes, None, Option, Place, Row, SessionSeen, Some, [], ap, arith, block_number, chain_in, empty_shown, entry_in, entry_on, entry_shown, every_number, first_slot, get_or, get_or_from_slice_get, in_hand, is_none, length, length-map, map, open_kind, option_map, page_in, place_at, place_shown, refl, slice_get, slice_get-In, slice_get-get_or, slice_get-map, slice_get_within, slot_bytes, slot_of, slot_with, slots_of, slots_shown, some_one, subst, suc, sym, ℕ}
 use Rattle.std.proofs.lemmas.Slice.Eq.{bytes_eq-Decides}
-use Rattle.trio_rights.specs.Row.{Row}
-use Rattle.trio_rights.specs.declared.kind.Kind.TheVariants.{Directory}
-use Rattle.trio_lists.specs.Lists.{In}
-use Rattle.trio_lists.proofs.Filters.{In-find, some_one}
-use Rattle.trio_lists.proofs.Members.{In-map}
-use Rattle.trio_layout.specs.Entries.{Listed, slot_bytes}
-use Rattle.trio_layout.specs.Slot.{slot_of}
-use Rattle.trio_layout.specs.declared.slot.EntryPart.{EntryPart}
-use Rattle.trio_layout.specs.declared.slot.SlotRead.TheVariants.{Entry}
-use Rattle.trio_auxdir.specs.declared.place.Place.{Place}
-use Rattle.trio_auxdir.specs.Places.{place_at}
-use Rattle.trio_auxdir.specs.Slots.{first_slot, slot_with, slots_of}
-use Rattle.trio_nodes.specs.Nodes.{Nodes}
-use Rattle.trio_desk.specs.Call.{DeskSeen}
-use Rattle.trio_desk.specs.Edits.{InHand}
-use Rattle.trio_laws.specs.session.Sees.{IsView}
-use Rattle.trio_session.specs.Layout.{page_in}
-use Rattle.trio_session.specs.Seen.{SessionSeen, block_number, chain_in, empty_shown, entry_in, entry_shown, every_number, in_hand, open_kind, place_shown, slots_shown}
-use Rattle.trio_session.proofs.Lists.{slice_get-In}
-use Rattle.trio_session.proofs.SlotEdits.{entry_on}
-use Rattle.trio_edit_laws.specs.Written.{MayEdit}
 use Rattle.trio_edit_laws.proofs.directories.Sees.{pages_open, parts_read, place_open, r, shown_here}
 use Rattle.trio_edit_laws.proofs.directories.Slotted.{has_this_name, length-parts_of, name_of_part, no_spot, part_at, parts_of, present, slots_of-parts, spot}
 

@@ -1,35 +1,12 @@
 -- An entry of a directory gets another name.
-use Rattle.std.proofs.Common.{◌≡◌, ℕ, ◌*◌, ◌≤◌, true, ltb, leb, ◌&&◌, List, [], ◌∷◌, length, Option, Some, None, sym, refl, ap, ◌∙◌, subst, inl, inr, arith}
-use Rattle.std.specs.Prelude.{is_some}
-use Rattle.std.proofs.lemmas.Bool.{and_from, and_parts}
-use Rattle.trio_names.specs.Name.{is_name}
-use Rattle.trio_page.specs.Field.{with_part}
-use Rattle.trio_rights.specs.Row.{Row}
-use Rattle.trio_rights.specs.declared.kind.Kind.TheVariants.{Directory}
-use Rattle.trio_lists.specs.Lists.{In}
-use Rattle.trio_layout.specs.declared.slot.EntryPart.{EntryPart}
-use Rattle.trio_layout.specs.declared.slot.SlotRead.TheVariants.{Entry}
-use Rattle.trio_layout.specs.Chain.{Chain}
-use Rattle.trio_layout.specs.Entries.{body_in_slot, slot_bytes}
-use Rattle.trio_layout.specs.Slot.{IsEntry, entry_bytes, entry_fits, slot_of}
-use Rattle.trio_layout.specs.Survey.{Met}
-use Rattle.trio_layout.proofs.SlotLemmas.{entry_value}
-use Rattle.trio_auxdir.specs.declared.place.Place.{Place}
-use Rattle.trio_nodes.specs.Nodes.{Nodes, node_at}
-use Rattle.trio_desk.specs.Agrees.{HasRights}
-use Rattle.trio_desk.specs.Call.{DeskSeen}
-use Rattle.trio_desk.specs.Contents.{rights_in}
-use Rattle.trio_desk.specs.Out.{ino_numbers}
-use Rattle.trio_laws.specs.session.Sees.{IsView}
-use Rattle.trio_laws.specs.session.SlotEdits.{AreSlotWrites, IsRetitle, SlotWrite, naming_after, retitled as node_retitled, with_changed}
+use Rattle.trio_edit_laws.proofs.Words.{◌&&◌, ◌*◌, ◌∙◌, ◌∷◌, ◌≡◌, ◌≤◌, AreSlotWrites, Chain, Changes, DeskSeen, Directory, Entry, EntryPart, HasRights, HasSlot, In, IsEntry, IsInSlot, IsView, LeavesFiles, List, MadeFile, MayEdit, Met, Nodes, None, Option, Place, Row, SessionSeen, SlotWrite, Some, StaysTree, [], and_from, and_parts, ap, arith, body-else, body_in_slot, chain_in, entry_bytes, entry_fits, entry_in, entry_shown, entry_value, every_number, in_hand, inl, ino_numbers, inr, is_name, is_some, leb, length, length-entry_bytes, ltb, made_body, made_file, named_so, naming_after, node_at, open_kind, page_in, place_shown, refl, rights_in, slot_bytes, slot_bytes-else, slot_of, subst, sym, true, with_changed, with_part, ℕ}
+use Rattle.trio_laws.specs.session.SlotEdits.{IsRetitle, retitled as node_retitled}
 use Rattle.trio_laws.proofs.session.FilesRenamed.{after_retitle, retitle_shows as law}
-use Rattle.trio_laws.proofs.session.SlotCases.{named_so}
-use Rattle.trio_session.specs.Layout.{page_in, retitled}
-use Rattle.trio_session.specs.Seen.{MadeFile, SessionSeen, chain_in, entry_in, entry_shown, every_number, in_hand, made_body, made_file, open_kind, place_shown, retitle}
-use Rattle.trio_session.proofs.SlotBytes.{entry-retitled, length-entry_bytes}
-use Rattle.trio_session.proofs.SlotEdits.{body-else, body-retitled, slot_bytes-else}
-use Rattle.trio_edit_laws.specs.DirLaws.{Changes, HasSlot, LeavesFiles, LeavesRetitled, RetitleLeaves, RetitleShows, StaysTree}
-use Rattle.trio_edit_laws.specs.Written.{IsInSlot, MayEdit}
+use Rattle.trio_session.specs.Layout.{retitled}
+use Rattle.trio_session.specs.Seen.{retitle}
+use Rattle.trio_session.proofs.SlotBytes.{entry-retitled}
+use Rattle.trio_session.proofs.SlotEdits.{body-retitled}
+use Rattle.trio_edit_laws.specs.DirLaws.{LeavesRetitled, RetitleLeaves, RetitleShows}
 use Rattle.trio_edit_laws.proofs.Keeps.{made_at}
 use Rattle.trio_edit_laws.proofs.directories.After.{IsListedThen, OthersStay}
 use Rattle.trio_edit_laws.proofs.directories.Changes.{Turns, changes_by}

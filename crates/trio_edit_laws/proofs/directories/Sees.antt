@@ -1,57 +1,15 @@
 -- What a session sees of a directory that it has open, by the entries that this reads.
-use Rattle.std.proofs.Common.{◌≡◌, ℕ, ◌/◌, ◌%◌, ◌<◌, true, cond, List, [], length, get_or, Option, Some, None, Ok, sym, refl, ap, ◌∙◌, subst, inl, inr, arith}
-use Rattle.std.specs.Prelude.{is_some, map, slice_get}
-use Rattle.std.specs.List.{find}
-use Rattle.std.specs.Option.{option_and_then, option_map, option_map_or, option_or}
-use Rattle.std.specs.Str.{bytes_eq}
-use Rattle.std.proofs.lemmas.List.{length-map}
-use Rattle.std.proofs.lemmas.Option.{slice_get-get_or, slice_get-map}
-use Rattle.std.proofs.lemmas.Simd.{map-map}
-use Rattle.trio_rights.specs.Row.{Row}
-use Rattle.trio_rights.specs.declared.kind.Kind.{Kind}
+use Rattle.trio_edit_laws.proofs.Words.{◌%◌, ◌/◌, ◌<◌, ◌∙◌, ◌≡◌, Bad, Chain, Core, DeskSeen, Directory, Entry, EntryPart, HasRights, In, In-right, InHand, IsView, Kind, LentFile, List, Listed, MadeFile, MayEdit, Met, Node, Nodes, None, Ok, Option, Place, Rights, Row, SessionSeen, Shown, SlotRead, Some, [], among_cases, ap, arith, bare_file, block_shown, body_in, body_in_slot, bytes_eq, case_in_hand, chain_in, cond, core_in_hand, dir_pages, entries_where, entries_within, entry_count, entry_in, entry_names, entry_on, entry_shown, every_number, find, find_map, gathered, gathered_below, get_or, in_hand, inl, ino_numbers, inr, is_some, length, length-map, made_file, made_is_judged, map, map-map, met_in, node_at, number_shown, open_kind, option_and_then, option_map, option_map_or, option_or, page_at, page_in, page_of, pages_shown, place_at, place_of, place_shown, plain, read_file, refl, result_then-Ok, rights_in, rights_of, sees_judged, sees_made, sees_written, slice_get, slice_get-In, slice_get-get_or, slice_get-map, slot_bytes, slot_entries, slot_of, slot_wider, slot_with, slots_of, slots_shown, subst, sym, true, within_from, written_at, ℕ}
 use Rattle.trio_rights.specs.declared.rights.Mode.{Mode}
-use Rattle.trio_rights.specs.declared.kind.Kind.TheVariants.{Directory}
-use Rattle.trio_lists.specs.Lists.{In, gathered, gathered_below}
-use Rattle.trio_lists.proofs.Members.{In-right, result_then-Ok}
-use Rattle.trio_layout.specs.Chain.{Chain}
-use Rattle.trio_layout.specs.Core.{Core, page_of}
-use Rattle.trio_layout.specs.Entries.{Listed, body_in_slot, entries_on, slot_bytes, slot_entries, with_names_apart}
-use Rattle.trio_layout.specs.JudgedFiles.{written_at}
-use Rattle.trio_layout.specs.Slot.{slot_of}
-use Rattle.trio_layout.specs.Survey.{Met, met_in, plain}
-use Rattle.trio_layout.specs.Within.{entries_where, entries_within}
-use Rattle.trio_layout.specs.declared.slot.EntryPart.{EntryPart}
-use Rattle.trio_layout.specs.declared.slot.SlotRead.{SlotRead}
-use Rattle.trio_layout.specs.declared.slot.SlotRead.TheVariants.{Entry, Bad}
-use Rattle.trio_layout.proofs.WithinCore.{within_from}
-use Rattle.trio_auxdir.specs.declared.place.Place.{Place}
-use Rattle.trio_auxdir.specs.Places.{place_at, place_of as place_at_name}
-use Rattle.trio_auxdir.specs.Slots.{slot_with, slots_of}
-use Rattle.trio_lease.specs.Shown.{Shown, LentFile, page_at}
-use Rattle.trio_nodes.specs.declared.node.Node.{Node}
-use Rattle.trio_nodes.specs.Nodes.{Nodes, count_in, find_named, names_in, node_at}
-use Rattle.trio_surveys.proofs.Sheets.{among_cases}
+use Rattle.trio_layout.specs.Entries.{entries_on, with_names_apart}
+use Rattle.trio_auxdir.specs.Places.{place_of as place_at_name}
+use Rattle.trio_nodes.specs.Nodes.{count_in, find_named, names_in}
 use Rattle.trio_surveys.proofs.Places.{below_has, gathered_has}
-use Rattle.trio_desk.specs.Agrees.{HasRights}
-use Rattle.trio_desk.specs.Call.{DeskSeen}
-use Rattle.trio_desk.specs.Contents.{Rights, rights_in, rights_of}
-use Rattle.trio_desk.specs.Edits.{InHand}
-use Rattle.trio_desk.specs.Out.{ino_numbers}
-use Rattle.trio_laws.specs.session.FileEdits.{bare_file, core_in_hand}
-use Rattle.trio_laws.specs.session.Sees.{IsView, Lists}
-use Rattle.trio_laws.specs.session.Takes.{case_in_hand}
+use Rattle.trio_laws.specs.session.Sees.{Lists}
 use Rattle.trio_laws.proofs.session.DirNames.{names_in_order}
-use Rattle.trio_laws.proofs.session.Named.{entries_are_in_slots, entry_names, made_is_judged, written_is_judged}
-use Rattle.trio_laws.proofs.session.Namings.{find_map}
-use Rattle.trio_laws.proofs.session.Sees.{sees_judged, sees_made, sees_written}
+use Rattle.trio_laws.proofs.session.Named.{entries_are_in_slots, written_is_judged}
 use Rattle.trio_laws.proofs.session.Spares.{shown_spares}
-use Rattle.trio_session.specs.Layout.{page_in}
-use Rattle.trio_session.specs.Seen.{MadeFile, SessionSeen, block_shown, body_in, chain_in, dir_pages, entry_count, entry_in, entry_shown, every_number, in_hand, made_file, number_shown, open_kind, pages_shown, place_of, place_shown, read_file, slots_shown}
-use Rattle.trio_session.proofs.Lists.{slice_get-In}
-use Rattle.trio_session.proofs.SlotEdits.{entry_on}
-use Rattle.trio_session.proofs.Slots.{slot_wider}
 use Rattle.trio_edit_laws.specs.DirLaws.{SeesDirectory}
-use Rattle.trio_edit_laws.specs.Written.{MayEdit}
 use Rattle.trio_edit_laws.proofs.Anew.{body-made, body-written}
 use Rattle.trio_edit_laws.proofs.Hand.{hand_page}
 use Rattle.trio_edit_laws.proofs.Keeps.{place_of_open}

@@ -1,30 +1,15 @@
 -- The entries of a directory by its slots: those that it lists, and what a look-up finds among them.
-use Rattle.std.proofs.Common.{◌≡◌, ℕ, zero, suc, ◌+◌, ◌*◌, ◌/◌, ◌%◌, ◌<◌, Bool, true, false, cond, List, [], ◌∷◌, ◌++◌, length, get_or, take, Option, Some, None, Ok, sym, refl, ap, ◌∙◌, subst, inl, inr, arith, length-append}
-use Rattle.std.specs.Prelude.{is_some, map, slice_get}
-use Rattle.std.specs.List.{filter, filter_map, find, flat_map}
-use Rattle.std.specs.Option.{option_and_then, option_map}
-use Rattle.std.specs.Str.{bytes_eq}
-use Rattle.std.proofs.lemmas.Bool.{cases_eq}
-use Rattle.std.proofs.lemmas.List.{length-take-le, map-append}
+use Rattle.trio_edit_laws.proofs.Words.{◌%◌, ◌*◌, ◌++◌, ◌+◌, ◌/◌, ◌<◌, ◌∙◌, ◌∷◌, ◌≡◌, Bad, Bool, Core, Directory, EntryPart, In, In-flat, In-left, In-right, List, Listed, Location, None, Ok, Option, SlotRead, Some, [], ap, arith, body_in_slot, bytes_eq, cases_eq, cond, entries_where, entries_within, entry_in, entry_on, every_number, false, filter, find, flat_map, gathered, gathered_below, get_or, get_or_from_slice_get, inl, inr, is_some, length, length-take-le, listed_at, map, map-append, name_in, option_and_then, option_map, page_of, refl, result_then-Ok, slice_get, slice_get-map, slice_get_within, slot_bytes, slot_entries, slot_of, slot_on, slot_wider, slot_with, slots_of, subst, suc, sym, take, true, zero, ℕ}
+use Rattle.std.proofs.Common.{length-append}
+use Rattle.std.specs.List.{filter_map}
 use Rattle.std.proofs.lemmas.List.Concat.{get_or-flat_map}
 use Rattle.std.proofs.lemmas.List.Elements.{filter_map-append}
-use Rattle.std.proofs.lemmas.Option.{get_or_from_slice_get, slice_get-map, slice_get_within}
-use Rattle.trio_rights.specs.declared.kind.Kind.TheVariants.{Directory}
-use Rattle.trio_lists.specs.Lists.{In, gathered, gathered_below, tabulated}
-use Rattle.trio_lists.proofs.Members.{In-flat, In-left, In-right, both-Ok, result_then-Ok}
+use Rattle.trio_lists.specs.Lists.{tabulated}
+use Rattle.trio_lists.proofs.Members.{both-Ok}
 use Rattle.trio_lists.proofs.Tabulated.{tabulated-get, tabulated-length}
-use Rattle.trio_layout.specs.Core.{Core, Location, page_of}
-use Rattle.trio_layout.specs.Slot.{slot_of}
-use Rattle.trio_layout.specs.Entries.{Listed, body_in_slot, entries_on, listed_at, slot_bytes, slot_entries, unless_repeated}
-use Rattle.trio_layout.specs.Within.{entries_where, entries_within}
-use Rattle.trio_layout.specs.declared.slot.EntryPart.{EntryPart}
-use Rattle.trio_layout.specs.declared.slot.SlotRead.{SlotRead}
-use Rattle.trio_layout.specs.declared.slot.SlotRead.TheVariants.{Bad}
-use Rattle.trio_auxdir.specs.Slots.{name_in, slot_on, slot_with, slots_of, slots_on}
+use Rattle.trio_layout.specs.Entries.{entries_on, unless_repeated}
+use Rattle.trio_auxdir.specs.Slots.{slots_on}
 use Rattle.trio_auxdir.proofs.SlotLists.{slot_there}
-use Rattle.trio_session.specs.Seen.{entry_in, every_number}
-use Rattle.trio_session.proofs.Slots.{slot_wider}
-use Rattle.trio_session.proofs.SlotEdits.{entry_on}
 use Rattle.trio_session.specs.Deeds.{slots_of_page}
 
 -- the slots of a directory of these pages

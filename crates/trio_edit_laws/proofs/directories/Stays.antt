@@ -1,36 +1,5 @@
 -- An edit of slots in the pages of directories: what stays of all that is in hand, and of the files that are open.
-use Rattle.std.proofs.Common.{◌≡◌, ℕ, ◌≤◌, true, length, List, [], ◌++◌, get_or, Option, Some, None, sym, refl, ap, ◌∙◌, subst, inl, inr, ◌⊎◌, arith}
-use Rattle.std.specs.Prelude.{is_some, map, slice_index_or, if◌then◌else◌}
-use Rattle.std.specs.List.{find}
-use Rattle.std.specs.Option.{option_map, option_map_or}
-use Rattle.std.proofs.lemmas.Bool.{cases_eq}
-use Rattle.trio_rights.specs.Bundle.{Written}
-use Rattle.trio_rights.specs.Row.{Row}
-use Rattle.trio_rights.specs.declared.kind.Kind.{Kind}
-use Rattle.trio_rights.specs.declared.kind.Kind.TheVariants.{Directory}
-use Rattle.trio_lists.specs.Lists.{In, are_new}
-use Rattle.trio_lists.proofs.Filters.{get_or-In}
-use Rattle.trio_lists.proofs.Members.{In-left, In-right}
-use Rattle.trio_layout.specs.declared.body.Body.{Body}
-use Rattle.trio_layout.specs.Body.{body_of}
-use Rattle.trio_layout.specs.Chain.{Chain}
-use Rattle.trio_layout.specs.Core.{page_of}
-use Rattle.trio_layout.specs.JudgedFiles.{judged_files}
-use Rattle.trio_layout.specs.Survey.{Met}
-use Rattle.trio_lease.specs.Shown.{Shown, LentFile}
-use Rattle.trio_lease.specs.declared.parts.InoParts.{InoParts}
-use Rattle.trio_lease.specs.declared.parts.HoldParts.{HoldParts}
-use Rattle.trio_nodes.specs.declared.grant.GrantKind.TheVariants.{Read, Write, Hold}
-use Rattle.trio_nodes.specs.Nodes.{Nodes}
-use Rattle.trio_desk.specs.Call.{DeskSeen}
-use Rattle.trio_desk.specs.Out.{ino_numbers}
-use Rattle.trio_desk.specs.Ready.{ArePossible}
-use Rattle.trio_laws.specs.session.Chains.{IsNamed}
-use Rattle.trio_laws.specs.session.FileEdits.{core_in_hand}
-use Rattle.trio_laws.specs.session.Takes.{Becomes, case_as_stands}
-use Rattle.trio_laws.proofs.session.JudgedReads.{map-fixed}
-use Rattle.trio_session.specs.Seen.{MadeFile, SessionSeen, body_in, chain_in, grant_in, held_file, in_hand, made_body, made_file, no_chain, open_kind, place_in, read_file, written_file}
-use Rattle.trio_edit_laws.specs.Written.{IsUnlent, ChainsRead, EntriesHaveRights, IsInSlot, IsJudgedMade, MayEdit, ReadsBy, chained}
+use Rattle.trio_edit_laws.proofs.Words.{if◌then◌else◌, ◌++◌, ◌∙◌, ◌≡◌, ◌≤◌, ◌⊎◌, ArePossible, Becomes, Body, Chain, ChainsRead, DeskSeen, Directory, EntriesHaveRights, Hold, HoldParts, In, In-left, In-right, InoParts, IsInSlot, IsJudgedMade, IsNamed, IsUnlent, Kind, LentFile, List, MadeFile, MayEdit, Met, Nodes, None, Option, Read, ReadsBy, Row, SessionSeen, Shown, Some, Write, Written, [], ap, are_new, arith, body_in, body_of, case_as_stands, cases_eq, chain_in, chained, core_in_hand, find, get_or, get_or-In, grant_in, held_file, in_hand, inl, ino_numbers, inr, is_some, judged_files, length, made_body, made_file, map, map-fixed, no_chain, open_kind, option_map, option_map_or, page_of, place_in, read_file, refl, slice_index_or, subst, sym, true, written_file, ℕ}
 use Rattle.trio_edit_laws.proofs.Anew.{FilesAnew, bare_anew, bare_of, kind_anew, number_is, numbers_anew, place_anew}
 use Rattle.trio_edit_laws.proofs.Chained.{apart_from}
 use Rattle.trio_edit_laws.proofs.HandStays.{HandStays, chains_beside, hands_in_all, is_on, left_alone, page_same, takes_more, well_given, within_pages}

@@ -1,32 +1,16 @@
 -- A slot of an open directory that is written, as the laws of slots have it.
-use Rattle.std.proofs.Common.{◌≡◌, ℕ, ◌+◌, ◌-◌, ◌*◌, ◌<◌, ◌≤◌, List, ◌++◌, length, drop, take, Option, Some, sym, ap, ◌∙◌, subst, arith, length-append, append_assoc, ◌∷◌, [], refl}
-use Rattle.std.specs.Prelude.{slice_range}
-use Rattle.std.proofs.lemmas.List.{drop-append-le, drop-drop, length-drop, length-take-le, take-append-drop}
+use Rattle.trio_edit_laws.proofs.Words.{◌*◌, ◌++◌, ◌+◌, ◌-◌, ◌<◌, ◌∙◌, ◌∷◌, ◌≡◌, ◌≤◌, AreSlotWrites, Chain, DeskSeen, Directory, In, In-right, IsSlotWrite, IsView, IsWhole, List, MayEdit, Nodes, Option, Row, SessionSeen, SlotWrite, Some, [], ap, append_assoc, arith, body_in_slot, chain_in, drop, drop-append-le, drop-drop, in_hand, length, length-drop, length-take-le, length-with_part, only, open_kind, page_in, pages_in_hand, refl, slice_range, slot_bytes, subst, sym, take, ℕ}
+use Rattle.std.proofs.Common.{length-append}
+use Rattle.std.proofs.lemmas.List.{take-append-drop}
 use Rattle.trio_page.specs.Field.{with_part}
-use Rattle.trio_page.proofs.Fields.{length-with_part, slice-with_part_same}
-use Rattle.trio_rights.specs.Row.{Row}
-use Rattle.trio_rights.specs.declared.kind.Kind.TheVariants.{Directory}
-use Rattle.trio_lists.specs.Lists.{In}
-use Rattle.trio_layout.specs.Chain.{Chain}
-use Rattle.trio_layout.specs.Entries.{body_in_slot, slot_bytes}
-use Rattle.trio_nodes.specs.Nodes.{Nodes}
-use Rattle.trio_desk.specs.Call.{DeskSeen}
-use Rattle.trio_laws.specs.session.Sees.{IsView}
-use Rattle.trio_laws.specs.session.SlotEdits.{IsSlotWrite, SlotWrite, AreSlotWrites}
-use Rattle.trio_laws.specs.session.Takes.{pages_in_hand}
-use Rattle.trio_session.specs.Layout.{page_in}
-use Rattle.trio_session.specs.Seen.{SessionSeen, chain_in, in_hand, open_kind}
+use Rattle.trio_page.proofs.Fields.{slice-with_part_same}
 use Rattle.trio_session.proofs.SlotBytes.{slice-slot_bytes}
-use Rattle.trio_session.proofs.SlotEdits.{IsWhole}
-use Rattle.trio_edit_laws.specs.Written.{MayEdit}
 use Rattle.trio_edit_laws.proofs.HandStays.{page_then}
 use Rattle.trio_edit_laws.proofs.Keeps.{place_of_open}
 use Rattle.trio_edit_laws.proofs.Opens.{open_chained}
 use Rattle.trio_edit_laws.proofs.Pages.{length-page_in}
-use Rattle.trio_lists.proofs.Members.{In-right}
 use Rattle.trio_edit_laws.proofs.directories.Sees.{r, there}
 use Rattle.trio_edit_laws.proofs.directories.Stays.{WritesDirs, hand_stays, core_same, reads_same}
-use Rattle.trio_laws.proofs.session.SlotCases.{only}
 
 -- ---- bytes
 

@@ -1,11 +1,6 @@
 -- What is weighed of an awaited case is so of its bundle.
-use Rattle.std.proofs.Common.{◌≡◌, ℕ, Some, sym, ap, ◌∙◌}
-use Rattle.trio_rights.specs.Bundle.{Bundle}
-use Rattle.trio_layout.specs.Listing.{listing}
-use Rattle.trio_layout.specs.Rules.{meets_grammar, meets_owning, meets_rights}
-use Rattle.trio_state.specs.Moves.{Underway, outline_of, begun_by, IsFull, KeptUnderway}
+use Rattle.trio_laws.proofs.Words.{◌∙◌, ◌≡◌, Bundle, IsFull, IsJudgeable, KeptUnderway, Some, Underway, ap, begun_by, listing, meets_grammar, meets_owning, meets_rights, outline_of, sym, ℕ}
 use Rattle.trio_laws.specs.ActLaws.{AwaitedStands}
-use Rattle.trio_laws.specs.RuleLaws.{IsJudgeable}
 use Rattle.trio_laws.proofs.judgement.CopiedRows.{copied_rows_suffice}
 
 pub judgeable : (u : Underway) (lib : ℕ) (b : Bundle) → KeptUnderway u → begun_by u lib ≡ Some (outline_of b) → IsFull b → IsJudgeable u.state lib b

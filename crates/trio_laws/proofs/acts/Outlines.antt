@@ -1,17 +1,6 @@
 -- What was given goes by a bundle's outline, and so does whether it is closed.
-use Rattle.std.proofs.Common.{◌≡◌, ℕ, Bool, true, false, cond, ◌&&◌, not, eqb, List, [], ◌∷◌, Option, Some, None, sym, refl, ap, ◌∙◌, subst}
-use Rattle.std.specs.Prelude.{map, is_some}
-use Rattle.std.specs.List.{find}
-use Rattle.trio_rights.specs.Row.{Row}
-use Rattle.trio_rights.specs.Bundle.{Written, Bundle, is_written}
-use Rattle.trio_lists.specs.Lists.{In, are_new, is_among}
-use Rattle.trio_layout.specs.Image.{row_at}
-use Rattle.trio_nodes.specs.GrantKinds.{is_hold}
-use Rattle.trio_state.specs.Bundles.{is_parent_written, parted_hold}
-use Rattle.trio_state.specs.Given.{GivenTo}
-use Rattle.trio_state.specs.Moves.{FileOutline, Outline, file_outline, outline_of, IsFull}
-use Rattle.trio_state.specs.State.{State}
-use Rattle.trio_lists.proofs.Members.{In-map, map-In}
+use Rattle.trio_laws.proofs.Words.{◌&&◌, ◌∙◌, ◌∷◌, ◌≡◌, Bool, Bundle, GivenTo, In, In-map, IsFull, List, None, Option, Outline, Row, Some, State, Written, [], ap, are_new, cond, eqb, false, find, is_among, is_hold, is_parent_written, is_some, is_written, map, map-In, not, outline_of, parted_hold, refl, row_at, subst, sym, true, ℕ}
+use Rattle.trio_state.specs.Moves.{FileOutline, file_outline}
 use Rattle.trio_laws.proofs.Bundles.{unparted_at, unparted_from}
 
 -- a file of the bundle is found as its outline is

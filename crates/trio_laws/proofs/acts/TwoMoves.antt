@@ -1,11 +1,7 @@
 -- A release in one call is its two moves in a row, and no act is stuck.
-use Rattle.std.proofs.Common.{◌≡◌, ◌≢◌, ℕ, zero, suc, ◌-◌, ◌≤◌, List, [], ◌∷◌, length, Option, Some, None, sym, refl, ap, ◌∙◌, subst, inl, inr, arith}
-use Rattle.std.specs.Prelude.{slice_index_or, slice_set}
-use Rattle.trio_rights.specs.Bundle.{Bundle}
-use Rattle.trio_state.specs.Bundles.{parted_hold}
-use Rattle.trio_state.specs.Moves.{Underway, Outline, outline_of, begun_by, with_begun, Begin, End, One, ActAnswer, HasBegun, Answered, GivenAct, Beginning, IsTaken, ComesBack, HasNoRoom, Acts}
-use Rattle.trio_state.specs.State.{State}
-use Rattle.trio_state.specs.Step.{Release, CtlAnswer, NotClosed, NoMemory, Step, ReleaseEnd, Parted, IsAccepted, IsRefused}
+use Rattle.trio_laws.proofs.Words.{◌-◌, ◌∙◌, ◌∷◌, ◌≡◌, ◌≢◌, ◌≤◌, ActAnswer, Begin, Beginning, Bundle, ComesBack, CtlAnswer, End, HasNoRoom, IsAccepted, IsRefused, IsTaken, List, NoMemory, None, NotClosed, One, Option, Outline, Parted, Release, ReleaseEnd, Some, State, Step, Underway, [], ap, arith, begun_by, inl, inr, length, outline_of, parted_hold, refl, slice_index_or, subst, suc, sym, with_begun, zero, ℕ}
+use Rattle.std.specs.Prelude.{slice_set}
+use Rattle.trio_state.specs.Moves.{HasBegun, Answered, GivenAct, Acts}
 use Rattle.trio_laws.proofs.StateLaws.{never_stuck}
 use Rattle.trio_laws.specs.ActLaws.{ActsNeverStuck, InTwoMoves, AtOnce, InARow, ReleaseIsTwoMoves}
 use Rattle.trio_laws.proofs.acts.Underways.{begun_here}

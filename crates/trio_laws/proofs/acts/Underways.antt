@@ -1,15 +1,7 @@
 -- Every act keeps what holds between the moves of releases.
-use Rattle.std.proofs.Common.{◌≡◌, ◌≢◌, ℕ, zero, suc, ◌<◌, ◌≤◌, ◌-◌, List, [], ◌∷◌, length, length-set, Option, Some, None, sym, refl, ap, ◌∙◌, subst, inl, inr, arith}
-use Rattle.std.specs.Prelude.{slice_index_or}
-use Rattle.std.proofs.lemmas.List.{get_or-set_other}
+use Rattle.trio_laws.proofs.Words.{◌-◌, ◌<◌, ◌∙◌, ◌∷◌, ◌≡◌, ◌≢◌, ◌≤◌, ActAnswer, Begin, Beginning, Bundle, ComesBack, CtlAnswer, End, Event, GivenEvent, GivenTo, HasNoRoom, IsLibrary, IsTaken, KeptUnderway, List, None, One, Option, Outline, Release, Some, Step, Underway, [], ap, arith, begun_by, cases_eq, get_or-set_other, inl, inr, length, length-set, outline_of, parted_hold, refl, slice_index_or, subst, suc, sym, with_begun, zero, ℕ}
 use Rattle.std.proofs.lemmas.Grind.{get_or-set_at}
-use Rattle.std.proofs.lemmas.Bool.{cases_eq}
-use Rattle.trio_rights.specs.Bundle.{Bundle}
-use Rattle.trio_state.specs.Bundles.{parted_hold}
-use Rattle.trio_state.specs.Given.{GivenTo, GivenEvent}
-use Rattle.trio_state.specs.Moves.{Underway, Outline, outline_of, begun_by, with_begun, Begin, End, One, ActAnswer, Beginning, IsTaken, ComesBack, HasNoRoom, KeptUnderway}
-use Rattle.trio_state.specs.Step.{Event, Release, library_of, CtlAnswer, Step}
-use Rattle.trio_state.specs.State.{IsLibrary}
+use Rattle.trio_state.specs.Step.{library_of}
 use Rattle.trio_laws.proofs.OtherSteps.{given_through, closed_through}
 use Rattle.trio_laws.proofs.Runs.{step_kept}
 use Rattle.trio_laws.proofs.history.Grows.{step_creds}

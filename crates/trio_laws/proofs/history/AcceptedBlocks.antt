@@ -1,39 +1,9 @@
 -- The blocks that an accepted release tells, by the images before and after, are those that the bundle, its listing and the notes tell.
-use Rattle.std.proofs.Common.{◌≡◌, ℕ, ◌+◌, true, false, eqb, List, [], ◌++◌, Option, Some, None, Ok, slice_get, sym, refl, ap, ◌∙◌, subst, inl, inr, ◌⊎◌, arith, find}
-use Rattle.std.specs.Option.{option_map_or}
-use Rattle.std.specs.Prelude.{map}
-use Rattle.std.proofs.lemmas.Bool.{eq-eqb, eqb-true}
-use Rattle.trio_lists.specs.Lists.{In}
-use Rattle.trio_lists.proofs.Filters.{In-find, find-In}
-use Rattle.trio_lists.proofs.Members.{In-right, flat_map-same}
-use Rattle.trio_rights.specs.declared.kind.Kind.{Kind}
-use Rattle.trio_rights.specs.declared.kind.Kind.TheVariants.{Regular}
-use Rattle.trio_rights.specs.Row.{Row}
-use Rattle.trio_rights.specs.Bundle.{Written, Bundle, is_written}
-use Rattle.trio_rights.specs.Sheets.{sheet_numbers}
-use Rattle.trio_layout.specs.Accept.{is_accepted, next}
-use Rattle.trio_layout.specs.Case.{Case, bundle_core, case_of}
-use Rattle.trio_layout.specs.Core.{Core, page_of}
-use Rattle.trio_layout.specs.Image.{Image, row_at}
-use Rattle.trio_layout.specs.JudgedFiles.{judged_files}
-use Rattle.trio_layout.specs.Listing.{ListedFile, Listing, listing}
-use Rattle.trio_layout.specs.Pages.{settled_chain}
-use Rattle.trio_layout.specs.Proposed.{proposed, proposed_pick}
-use Rattle.trio_layout.specs.Survey.{FileRead, Met, Pick, file_of, pages_of, row_by}
-use Rattle.trio_surveys.specs.Reading.{picked_entry}
-use Rattle.trio_surveys.proofs.BundlePages.{there_same}
-use Rattle.trio_surveys.proofs.Cores.{listed_is_core}
-use Rattle.trio_surveys.proofs.Owned.{pages_are}
+use Rattle.trio_laws.proofs.Words.{◌++◌, ◌+◌, ◌∙◌, ◌≡◌, ◌⊎◌, Bundle, Case, Core, FileRead, Handed, Image, In, In-find, In-right, IsJudgeable, Kind, List, ListedFile, Listing, Met, None, Notes, Ok, Option, Pick, Raw, RawFile, Regular, Row, Some, State, Written, [], accepted_files, ap, arith, block_numbers, blocks_of_kind, bundle_core, bundle_handed, case_of, chain_blocks, changed_blocks, creds_of, eq-eqb, eqb, eqb-true, false, file_of, find-In, flat_map-same, inl, inr, is_accepted, is_block_changed, is_block_told, is_told, is_written, judged_files, lent_blocks, listed_is_core, listing, map, next, notes_of, option_map_or, page_of, pages_are, pages_of, picked_entry, proposed, proposed_pick, raw_blocks, raw_entry, raw_file, raw_files, refl, row_at, row_by, settled, settled_chain, sheet_numbers, size_of, slice_get, subst, sym, there_same, told_blocks, told_blocks_of, told_by, told_file, true, ℕ}
+use Rattle.std.proofs.Common.{find}
 use Rattle.trio_nodes.specs.declared.answers.ReleaseAnswer.TheVariants.{Accepted}
-use Rattle.trio_nodes.specs.declared.entry.Entry.TheVariants.{Raw}
-use Rattle.trio_nodes.specs.Handed.{Handed}
-use Rattle.trio_nodes.specs.declared.entry.RawFile.{RawFile}
-use Rattle.trio_state.specs.Listed.{Notes, accepted_blocks, accepted_files, blocks_listed_of, blocks_of_kind, changed_blocks, is_block_changed, lent_blocks}
-use Rattle.trio_state.specs.State.{State, creds_of, settled}
-use Rattle.trio_laws.specs.RuleLaws.{IsJudgeable}
-use Rattle.trio_laws.specs.history.Entries.{block_numbers, blocks_in as chain_blocks, bundle_handed, is_block_told, is_told, raw_blocks, raw_entry, raw_file, raw_files, told_blocks, told_blocks_of, told_by, told_file}
-use Rattle.trio_laws.specs.history.Stands.{size_of}
-use Rattle.trio_laws.specs.history.ToldLaws.{AcceptedIsListed, notes_of}
+use Rattle.trio_state.specs.Listed.{accepted_blocks, blocks_listed_of}
+use Rattle.trio_laws.specs.history.ToldLaws.{AcceptedIsListed}
 use Rattle.trio_laws.proofs.Bundles.{Unwritten, unwritten_finds}
 use Rattle.trio_laws.proofs.judgement.CaseFacts.{is_written_from, live_bounds, new_dead, new_not_live, written_find, written_row}
 use Rattle.trio_laws.proofs.judgement.JudgedFacts.{judged_from, new_from, written_ino}

@@ -1,47 +1,11 @@
 -- The files of an accepted release: those that stay as they were, and those of the bundle's pages.
-use Rattle.std.proofs.Common.{◌≡◌, ℕ, ◌<◌, Bool, true, false, ◌&&◌, eqb, ltb, leb, ltb-true, List, map, length, Option, Some, None, Ok, is_some, slice_get, sym, refl, ap, ◌∙◌, subst, inl, inr, arith, find}
-use Rattle.std.specs.List.{list_all}
-use Rattle.std.proofs.lemmas.Bool.{and_parts, false≢true, both_ways}
-use Rattle.trio_rights.specs.Row.{Row}
-use Rattle.trio_rights.specs.declared.kind.Kind.{Kind}
-use Rattle.trio_rights.specs.declared.kind.Kind.TheVariants.{Regular, Directory}
-use Rattle.trio_rights.specs.declared.rights.Creds.{Creds}
-use Rattle.trio_nodes.specs.declared.grant.GrantKind.TheVariants.{Write, Hold}
-use Rattle.trio_layout.specs.declared.body.Body.{Body}
-use Rattle.trio_layout.specs.Body.{body_of}
-use Rattle.trio_layout.specs.Chain.{Chain}
-use Rattle.trio_layout.specs.Core.{Core, page_of}
-use Rattle.trio_lists.specs.Lists.{In, is_among}
-use Rattle.trio_layout.specs.Range.{is_core}
-use Rattle.trio_layout.specs.Sound.{is_sound}
-use Rattle.trio_layout.specs.Survey.{Met, Pick, plain, FileRead, file_of, survey, pages_of, row_by, row_of}
-use Rattle.trio_layout.specs.Accept.{is_accepted, next}
-use Rattle.trio_layout.specs.Allowed.{lists_own, has_kind, has_owner, keeps_rows, may_stand, is_allowed}
-use Rattle.trio_state.specs.Given.{GivenTo}
-use Rattle.trio_layout.specs.Image.{Image, IsFit, row_at, settled_body}
-use Rattle.trio_state.specs.Kept.{Kept}
-use Rattle.trio_rights.specs.Bundle.{Written, Bundle, bundle_sheets, bundle_pages, is_written}
-use Rattle.trio_layout.specs.Proposed.{proposed, proposed_pick}
-use Rattle.trio_state.specs.State.{OpenGrant, State, settled}
-use Rattle.trio_layout.specs.Verifies.{Verifies}
-use Rattle.trio_laws.specs.Laws.{plain_pages}
-use Rattle.trio_surveys.specs.Reading.{picked_entry}
-use Rattle.trio_surveys.proofs.Accepted.{accepted_verifies, fit_put}
-use Rattle.trio_surveys.proofs.Alike.{same_kind_is}
+use Rattle.trio_laws.proofs.Words.{◌&&◌, ◌<◌, ◌∙◌, ◌≡◌, Body, Bool, Bundle, Chain, Core, Creds, Directory, FileRead, GivenTo, Hold, Image, In, In-is_among, In-right, IsFit, Kept, Kind, List, Met, None, Ok, OpenGrant, Option, Pick, Regular, Row, Some, State, Verifies, Write, Written, accepted_verifies, all_listed, and_parts, ap, arith, body_of, both_ways, bundle_pages, bundle_sheets, bytes_eq, bytes_eq-Decides, eqb, false, false≢true, file_of, file_put, fit_put, has_kind, has_owner, inl, inr, is_accepted, is_allowed, is_among, is_among-In, is_core, is_sound, is_written, keeps_rows, leb, length, list_all, list_all-In, listed_is_core, lists_own, ltb, may_stand, met_row, next, one_met, page_from, page_of, page_put_is, pages_are, pages_of, picked_entry, place_there, plain, plain_pages, proposed, proposed_pick, reads_from, refl, row_at, row_at_is, row_by, row_of, same_kind_is, settled, settled_body, slice_get, some_of, subst, survey, survey_put, sym, true, with_pages_there, ℕ}
+use Rattle.std.proofs.Common.{ltb-true, map, is_some, find}
 use Rattle.trio_laws.proofs.Bundles.{finds_unwritten, Unwritten, kept_chain, page_kept, unwritten_apart}
-use Rattle.trio_surveys.proofs.Cores.{listed_is_core}
-use Rattle.trio_surveys.proofs.Images.{row_at_is, met_row, some_of, one_met}
 use Rattle.trio_laws.proofs.Isolated.{bare_page, put_none}
-use Rattle.trio_surveys.proofs.Local.{reads_from}
-use Rattle.trio_lists.proofs.Members.{In-right, list_all-In, is_among-In, In-is_among}
-use Rattle.trio_surveys.proofs.Owned.{pages_are}
-use Rattle.trio_surveys.proofs.Picked.{all_listed, file_put, survey_put, page_put_is}
-use Rattle.trio_surveys.proofs.Sheets.{with_pages_there, place_there, page_from}
 use Rattle.trio_laws.proofs.Allots.{none_row}
 use Rattle.trio_laws.proofs.Survivors.{fit_now, sound_now, classify, stand_cases, stays, unheld_row}
 use Rattle.trio_laws.proofs.StateFacts.{write_alone}
-use Rattle.std.specs.Str.{bytes_eq}
-use Rattle.std.proofs.lemmas.Slice.Eq.{bytes_eq-Decides}
 use Rattle.trio_laws.proofs.history.Follows.{Follows}
 use Rattle.trio_laws.proofs.history.Listing.{met_at, body_met}
 

@@ -1,38 +1,6 @@
 -- The names and sizes of files after an accepted release, by the bundle's pages, its leases and what was before.
-use Rattle.std.proofs.Common.{◌≡◌, ℕ, ◌+◌, ◌-◌, ◌*◌, true, false, cond, take, drop, List, [], ◌∷◌, Some, None, Ok, sym, refl, ap, ◌∙◌, subst, inl, inr, arith, unwrap_or, drop-drop}
-use Rattle.std.specs.Prelude.{map}
-use Rattle.std.specs.Option.{option_map, option_map_or}
-use Rattle.std.proofs.lemmas.List.{drop-take}
-use Rattle.std.proofs.lemmas.Bool.{both_ways, cases_Bool, eq-eqb}
-use Rattle.trio_lists.specs.Lists.{In, is_among}
-use Rattle.trio_lists.proofs.Members.{In-is_among, In-map, In-right, is_among-In}
-use Rattle.trio_rights.specs.Row.{Row}
-use Rattle.trio_rights.specs.Bundle.{Written, Bundle, bundle_pages, is_written}
-use Rattle.trio_layout.specs.declared.slot.EntryPart.{EntryPart}
-use Rattle.trio_layout.specs.Accept.{is_accepted, next}
-use Rattle.trio_layout.specs.Case.{Case, bundle_core, case_of}
-use Rattle.trio_layout.specs.Core.{Core, page_of}
-use Rattle.trio_layout.specs.Edges.{is_listed}
-use Rattle.trio_layout.specs.Entries.{Listed, body_in_slot, slot_bytes}
-use Rattle.trio_layout.specs.Image.{Image, IsFit, row_at}
-use Rattle.trio_layout.specs.JudgedFiles.{judged_entries, written_met}
-use Rattle.trio_layout.specs.Listing.{Listing, entry_listed, listing}
-use Rattle.trio_layout.specs.Proposed.{proposed, proposed_pick}
-use Rattle.trio_layout.specs.Slot.{entry_at}
-use Rattle.trio_layout.specs.Survey.{FileRead, Met, Pick, file_of, plain, row_by, survey}
-use Rattle.trio_layout.specs.Verifies.{Verifies}
-use Rattle.trio_surveys.specs.Reading.{picked_entry}
-use Rattle.trio_surveys.proofs.BundlePages.{there_same}
-use Rattle.trio_surveys.proofs.Images.{one_met, read_met, row_at_is, row_met}
-use Rattle.trio_surveys.proofs.Picked.{file_put, survey_put}
-use Rattle.trio_surveys.proofs.Reached.{met_cases, no_root_listed}
-use Rattle.trio_surveys.proofs.Sheets.{page_there}
-use Rattle.trio_surveys.proofs.Tree.{child_from, child_placed}
-use Rattle.trio_state.specs.Listed.{Notes, entry_name, entry_size, entry_slot, noted_size, size_in, written_size}
-use Rattle.trio_state.specs.State.{State, creds_of, settled}
-use Rattle.trio_laws.specs.RuleLaws.{IsJudgeable}
-use Rattle.trio_laws.specs.history.Stands.{name_in, name_of, size_of}
-use Rattle.trio_laws.specs.history.ToldLaws.{notes_of}
+use Rattle.trio_laws.proofs.Words.{◌*◌, ◌+◌, ◌-◌, ◌∙◌, ◌∷◌, ◌≡◌, Bundle, Case, Core, EntryPart, FileRead, Image, In, In-is_among, In-map, In-right, IsFit, IsJudgeable, List, Listed, Listing, Met, None, Notes, Ok, Pick, Row, Some, State, Verifies, Written, [], ap, arith, body_in_slot, both_ways, bundle_core, bundle_pages, case_of, cases_Bool, child_from, child_placed, cond, creds_of, drop, drop-drop, drop-take, entry_at, entry_listed, entry_name, entry_size, eq-eqb, false, file_of, file_put, inl, inr, is_accepted, is_among, is_among-In, is_listed, is_written, judged_entries, listing, map, met_cases, name_in, name_of, next, no_root_listed, noted_size, notes_of, one_met, option_map, option_map_or, page_of, page_there, picked_entry, plain, proposed, proposed_pick, read_met, refl, row_at, row_at_is, row_by, row_met, settled, size_in, size_of, slot_bytes, subst, survey, survey_put, sym, take, there_same, true, unwrap_or, written_met, ℕ}
+use Rattle.trio_state.specs.Listed.{entry_slot, written_size}
 use Rattle.trio_laws.proofs.Bundles.{finds_unwritten, unwritten_finds}
 use Rattle.trio_laws.proofs.judgement.CaseFacts.{is_written_from, live_bounds, written_find}
 use Rattle.trio_laws.proofs.judgement.JudgedFacts.{entries_are, entry_to, judged_from, new_from, new_judged, written_body, written_ino, written_judged}

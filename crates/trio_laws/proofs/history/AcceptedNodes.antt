@@ -1,52 +1,14 @@
 -- The nodes after an accepted release.
-use Rattle.std.proofs.Common.{◌≡◌, ℕ, ltb-true, zero, suc, ◌+◌, ◌-◌, ◌*◌, ◌<◌, ◌≤◌, Bool, true, false, cond, ◌&&◌, not, eqb, min, List, [], ◌∷◌, map, length, take, drop, replicate, Option, Some, None, Ok, is_some, slice_get, sym, refl, ap, ◌∙◌, subst, inl, inr, ◌⊎◌, arith, flat_map, unwrap_or, find}
-use Rattle.std.specs.Str.{bytes_eq}
-use Rattle.std.proofs.lemmas.List.{length-replicate}
-use Rattle.std.proofs.lemmas.Bool.{and_parts, and_from, eqb-true, eq-eqb, false≢true, both_ways, or_parts, cases_lt, false_from_ne_true, not-false, or_left}
-use Rattle.std.proofs.lemmas.Slice.Eq.{bytes_eq-Decides}
-use Rattle.trio_rights.specs.Row.{Row}
-use Rattle.trio_rights.specs.declared.kind.Kind.{Kind}
-use Rattle.trio_rights.specs.declared.kind.Kind.TheVariants.{Regular, Directory}
-use Rattle.trio_layout.specs.Core.{Core, page_of}
-use Rattle.trio_lists.specs.Lists.{In, is_among}
-use Rattle.trio_layout.specs.Survey.{Met, plain, pages_of, row_by, root_of}
-use Rattle.trio_layout.specs.Accept.{is_accepted, next}
-use Rattle.trio_layout.specs.Allowed.{lists_own}
-use Rattle.trio_state.specs.Bundles.{Ends}
-use Rattle.trio_state.specs.Given.{GivenTo}
-use Rattle.trio_layout.specs.Pages.{settled_chain, block_sheets}
-use Rattle.trio_layout.specs.Image.{Image, IsFit, row_at}
-use Rattle.trio_layout.specs.Verifies.{Verifies}
-use Rattle.trio_state.specs.Kept.{Kept}
-use Rattle.trio_rights.specs.Bundle.{Written, Bundle, bundle_sheets, bundle_pages, is_written}
-use Rattle.trio_rights.specs.Sheets.{Sheet, sheet_numbers}
-use Rattle.trio_state.specs.State.{OpenGrant, State, settled, creds_of}
-use Rattle.trio_nodes.specs.GrantKinds.{is_write}
-use Rattle.trio_surveys.specs.Reading.{picked_entry}
+use Rattle.trio_laws.proofs.Words.{◌&&◌, ◌*◌, ◌+◌, ◌-◌, ◌<◌, ◌∙◌, ◌∷◌, ◌≡◌, ◌≤◌, ◌⊎◌, Bool, Bundle, Core, Directory, Ends, GivenTo, Handed, HandedFile, Image, In, In-find, In-right, IsFit, IsMarked, Kept, Kind, LentWhole, List, Met, None, Ok, OpenGrant, Option, RawFile, Regular, Row, Sheet, Some, State, ToldBlock, Verifies, Written, [], and_from, and_parts, ap, arith, block_numbers, block_sheets, blocks_of, both_ways, bundle_handed, bundle_pages, bundle_sheets, bytes_eq, bytes_eq-Decides, bytes_in, bytes_of, bytes_of_sheets, cases_lt, chain_blocks, cond, creds_of, drop, eq-eqb, eqb, eqb-true, false, false_from_ne_true, false≢true, find-In, inl, inr, is_accepted, is_among, is_among-In, is_block_told, is_core, is_told, is_touched, is_write, is_written, length, length-replicate, list_all-In, lists_own, min, name_by, name_of, next, node_at, node_by, node_in, node_of, nodes_of, not, not-false, or_left, or_parts, page_from, page_of, page_there, pages_are, pages_of, picked_entry, place_there, plain, raw_blocks, raw_bytes, raw_file, raw_files, raw_nodes, read_met, reads_from, refl, resized, root_is_met, root_of, row_at, row_at_is, row_by, row_met, settled, settled_chain, sheet_numbers, size_of, slice_get, slot_bytes, some_of, subst, suc, sym, take, told_blocks, told_blocks_of, told_by, told_file, true, unwrap_or, with_blocks, with_pages_known, writer_of, zero, ℕ}
+use Rattle.std.proofs.Common.{ltb-true, map, replicate, is_some, flat_map, find}
 use Rattle.trio_laws.proofs.Bundles.{Unwritten, unwritten_finds}
-use Rattle.trio_lists.proofs.Filters.{find-In, In-find}
-use Rattle.trio_surveys.proofs.Images.{some_of, root_is_met, read_met, row_met, row_at_is}
-use Rattle.trio_lists.proofs.Members.{list_all-In, is_among-In, In-right}
-use Rattle.trio_surveys.proofs.Owned.{pages_are}
-use Rattle.trio_surveys.proofs.Sheets.{with_pages_known, place_there, page_there, page_from}
-use Rattle.trio_nodes.specs.Handed.{Handed, HandedFile}
-use Rattle.trio_nodes.specs.Told.{ToldBlock}
-use Rattle.trio_nodes.specs.declared.entry.RawFile.{RawFile}
-use Rattle.trio_nodes.specs.Apply.{resized}
-use Rattle.trio_nodes.specs.After.{bytes_in, with_blocks, raw_bytes, raw_nodes}
-use Rattle.trio_nodes.specs.Nodes.{node_at}
-use Rattle.trio_laws.specs.history.Stands.{name_of, size_of, blocks_of, bytes_of_sheets, bytes_of, node_of, node_by, node_in, nodes_of, writer_of}
-use Rattle.trio_laws.specs.history.Entries.{name_by, bundle_handed, is_told, told_file, told_by, raw_file, raw_files, raw_blocks, block_numbers, blocks_in as chain_blocks, is_touched, is_block_told, told_blocks, told_blocks_of}
-use Rattle.trio_laws.specs.history.Recorded.{LentWhole, IsMarked}
 use Rattle.trio_laws.proofs.history.AcceptedFiles.{P, pick, fitP, fitJ, verifiesJ, Now, now, kept_follows, own_block, FileIs, Stayed, Wrote, New, file_is, unheld_now}
 use Rattle.trio_laws.proofs.history.Blocks.{chain_count, flat_sheets}
 use Rattle.trio_laws.proofs.history.Facts.{node_is}
 use Rattle.trio_laws.proofs.history.Follows.{Follows, size_follows, bytes_follow, chain_read, size_read}
 use Rattle.trio_laws.proofs.history.Grown.{resized_long, chunk_grown, unlisted_is}
 use Rattle.trio_laws.proofs.history.Listing.{met_at, chain_met, tables_of, listing, name_listed, slot_named, row_outside}
-use Rattle.trio_layout.specs.Entries.{slot_bytes}
 use Rattle.trio_laws.proofs.history.OldBytes.{resized_same, old_long, count_is, lent_is}
-use Rattle.trio_layout.specs.Range.{is_core}
 use Rattle.trio_laws.proofs.history.RawGiven.{given_row}
 use Rattle.trio_laws.proofs.history.RawNodes.{becomes, part_of, blocks_in, raw_in, raw_out, raw_length}
 use Rattle.trio_laws.proofs.history.RawParts.{raw_number, own_blocks, told_none, same_told, sheet_at, get_in}
@@ -55,7 +17,6 @@ use Rattle.trio_laws.proofs.history.Untouched.{handed_same}
 use Rattle.trio_laws.proofs.history.WithNode.{nodes_same, nodes_long}
 use Rattle.trio_laws.proofs.history.Writers.{writes, other_writer, no_writer, dead_writer}
 use Rattle.trio_laws.proofs.history.ToldBlocks.{clean_block}
-use Rattle.trio_surveys.proofs.Local.{reads_from}
 
 module _ (s s' : State) (k : Kept s) (k' : Kept s') (whole : LentWhole s) (lib : ℕ) (h : Handed) (given : GivenTo s lib (bundle_handed h)) (accepted : is_accepted (settled s) (creds_of s lib) (bundle_handed h) ≡ true) (e : Ends s lib (bundle_handed h) (next (settled s) (bundle_handed h)) s') (marked : (w : HandedFile) → In w h.writes → IsMarked s lib w) where
   abbrev b : Bundle

@@ -1,53 +1,13 @@
 -- An accepted release extends the history.
-use Rattle.std.proofs.Common.{◌≡◌, ℕ, zero, suc, ◌+◌, ◌*◌, ◌<◌, ◌≤◌, Bool, true, false, cond, ◌&&◌, not, eqb, min, List, [], ◌∷◌, ◌++◌, map, length, Option, Some, None, Ok, slice_get, sym, refl, ap, ◌∙◌, subst, inl, inr, ◌⊎◌, arith, filter, find, unwrap_or}
-use Rattle.std.specs.List.{AllByRecursion}
-use Rattle.std.proofs.lemmas.Bool.{and_parts, and_from, eqb-true, eq-eqb, both_ways, or_left, or_right, not-true, ne_eqb, cases_eq, false_from_ne_true}
-use Rattle.std.proofs.lemmas.Option.{same_Some}
-use Rattle.trio_nodes.specs.declared.grant.GrantKind.{GrantKind}
-use Rattle.trio_nodes.specs.declared.grant.GrantKind.TheVariants.{Write, Hold}
+use Rattle.trio_laws.proofs.Words.{◌&&◌, ◌*◌, ◌++◌, ◌+◌, ◌<◌, ◌∙◌, ◌∷◌, ◌≡◌, ◌≤◌, ◌⊎◌, Accepted, AllByRecursion, BlocksAreKnown, Bool, Bundle, Core, Directory, Ends, FileRead, GivenTo, GrantKind, Handed, HandedFile, HasNameOf, HasPlaceOf, HasRightsOf, Hold, Image, In, In-flat, In-list_any, In-map, IsFit, IsMarked, IsWithinGrants, Kept, Kind, LentWhole, List, Listed, Met, Node, Nodes, None, Ok, Ok-one, OpenGrant, Option, RawFile, Regular, Release, Row, SameContent, Some, Standing, State, ToldBlock, Verifies, Write, Written, [], all_listed, and_from, and_parts, ap, arith, block_numbers, both_ways, bundle_handed, bytes_in, bytes_of, cases_eq, child_has, children, cond, creds_of, entry_in, eq-eqb, eqb, eqb-true, false, false_from_ne_true, file_of, find-In, has_owner, has_parent_grant, inl, inr, is_accepted, is_among, is_among-In, is_block_told, is_given, is_handed, is_others, is_write, is_written, length, list_any-In, list_any-map, listed_no_root, map-In, met_in, met_numbered, min, name_of, ne_eqb, next, node_at, node_by, node_of, nodes_of, not, not-true, one_met, or_left, or_right, page_of, pages_are, picked_entry, plain, raw_blocks, raw_entry, raw_files, raw_nodes, read_met, reads_from, reads_to, refl, root_is_met, root_of, row_at, row_at_is, row_by, row_met, row_of, same_Some, same_kind, settled, settled_body, size_of, slice_get, some_of, standing_of, stands, subst, suc, survey, sym, told_blocks, told_blocks_of, told_by, told_file, true, unwrap_or, writer_of, zero, ℕ}
+use Rattle.std.proofs.Common.{map, filter, find}
 use Rattle.trio_nodes.specs.declared.answers.ReleaseAnswer.TheVariants.{Accepted as IsAccepted}
-use Rattle.trio_rights.specs.Row.{Row}
-use Rattle.trio_rights.specs.declared.kind.Kind.{Kind}
-use Rattle.trio_rights.specs.declared.kind.Kind.TheVariants.{Regular, Directory}
-use Rattle.trio_layout.specs.Core.{Core, page_of}
-use Rattle.trio_layout.specs.Entries.{Listed}
-use Rattle.trio_lists.specs.Lists.{In, is_among}
-use Rattle.trio_layout.specs.Survey.{Met, plain, FileRead, file_of, survey, row_by, met_in, children, row_of, root_of}
-use Rattle.trio_layout.specs.Accept.{is_accepted, next}
-use Rattle.trio_layout.specs.Allowed.{has_owner}
-use Rattle.trio_state.specs.Bundles.{Ends}
-use Rattle.trio_state.specs.Given.{GivenTo}
-use Rattle.trio_state.specs.Grants.{has_parent_grant}
-use Rattle.trio_layout.specs.Image.{Image, IsFit, row_at, settled_body}
-use Rattle.trio_state.specs.Kept.{Kept}
-use Rattle.trio_rights.specs.Bundle.{Written, Bundle, is_written}
-use Rattle.trio_state.specs.State.{OpenGrant, State, settled, creds_of}
-use Rattle.trio_nodes.specs.GrantKinds.{is_write, same_kind}
-use Rattle.trio_state.specs.Step.{Release, Accepted}
-use Rattle.trio_layout.specs.Verifies.{Verifies}
-use Rattle.trio_surveys.specs.Reading.{picked_entry}
 use Rattle.trio_laws.proofs.Bundles.{Unwritten, page_kept, unwritten_apart}
-use Rattle.trio_lists.proofs.Filters.{Ok-one, find-In, list_any-In, In-list_any, list_any-map}
 use Rattle.trio_laws.proofs.Isolated.{same_file}
-use Rattle.trio_surveys.proofs.Images.{some_of, met_numbered, one_met, root_is_met, read_met, row_met, row_at_is}
-use Rattle.trio_surveys.proofs.Local.{reads_from, reads_to}
-use Rattle.trio_lists.proofs.Members.{In-map, In-flat, map-In, is_among-In}
-use Rattle.trio_surveys.proofs.Owned.{pages_are}
-use Rattle.trio_surveys.proofs.Picked.{all_listed, listed_are_met, listed_no_root}
+use Rattle.trio_surveys.proofs.Picked.{listed_are_met}
 use Rattle.trio_laws.proofs.StateFacts.{alone}
 use Rattle.trio_laws.proofs.Survivors.{held_rights}
-use Rattle.trio_surveys.proofs.Tree.{child_has}
-use Rattle.trio_nodes.specs.declared.node.Node.{Node}
-use Rattle.trio_nodes.specs.Handed.{Handed, HandedFile}
-use Rattle.trio_nodes.specs.Told.{ToldBlock}
-use Rattle.trio_nodes.specs.declared.entry.RawFile.{RawFile}
-use Rattle.trio_nodes.specs.Nodes.{Nodes, node_at, entry_in}
-use Rattle.trio_nodes.specs.Standing.{Standing, stands, is_others, is_given}
-use Rattle.trio_nodes.specs.After.{bytes_in, raw_nodes}
-use Rattle.trio_nodes.specs.Legal.{IsWithinGrants, SameContent, HasRightsOf, HasPlaceOf, HasNameOf, BlocksAreKnown, is_handed, is_listed}
-use Rattle.trio_laws.specs.history.Stands.{name_of, size_of, bytes_of, node_of, node_by, nodes_of, standing_of, writer_of}
-use Rattle.trio_laws.specs.history.Entries.{bundle_handed, raw_files, raw_blocks, raw_entry, told_by, told_file, told_blocks, told_blocks_of, is_block_told, block_numbers}
-use Rattle.trio_laws.specs.history.Recorded.{LentWhole, IsMarked}
+use Rattle.trio_nodes.specs.Legal.{is_listed}
 use Rattle.trio_laws.proofs.history.AcceptedFiles.{P, pick, fitP, soundP, fitJ, verifiesJ, Now, now, kept_follows, FileIs, Stayed, Wrote, New, file_is, unheld_now}
 use Rattle.trio_laws.proofs.history.Blocks.{chain_count}
 use Rattle.trio_laws.proofs.history.Grown.{unlisted_is}

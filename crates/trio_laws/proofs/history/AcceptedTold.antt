@@ -1,36 +1,7 @@
 -- The files that an accepted release tells, by the images before and after, are those that the bundle, its listing and the notes tell.
-use Rattle.std.proofs.Common.{◌≡◌, ℕ, ◌+◌, ◌<◌, ◌≤◌, Bool, true, false, cond, ◌&&◌, ◌||◌, not, List, [], ◌∷◌, ◌++◌, Option, Some, None, sym, refl, ap, ◌∙◌, subst, inl, inr, arith, filter_map}
-use Rattle.std.specs.Prelude.{is_some, map}
-use Rattle.std.specs.Option.{option_map}
-use Rattle.std.specs.Str.{bytes_eq}
-use Rattle.std.proofs.lemmas.Bool.{both_ways, cases_Bool, false_from_ne_true, or_cases, or_from, or_left, or_right}
-use Rattle.std.proofs.lemmas.Slice.Eq.{bytes_eq-Decides}
-use Rattle.std.proofs.lemmas.List.{map-id}
-use Rattle.trio_lists.specs.Lists.{In, are_new, is_among}
-use Rattle.trio_lists.proofs.Members.{In-cases, In-is_among, In-left, In-map, In-right, is_among-In, map-In}
-use Rattle.trio_lists.proofs.Sorting.{sorted_new}
-use Rattle.trio_rights.specs.Row.{Row, row_in}
-use Rattle.trio_rights.specs.Bundle.{Written, Bundle, is_written}
-use Rattle.trio_layout.specs.Accept.{is_accepted, next}
-use Rattle.trio_layout.specs.Case.{Case, case_of}
-use Rattle.trio_layout.specs.Core.{Core}
-use Rattle.trio_layout.specs.Edges.{is_listed}
-use Rattle.trio_layout.specs.Entries.{slot_bytes}
-use Rattle.trio_layout.specs.Image.{Image, row_at}
-use Rattle.trio_layout.specs.JudgedFiles.{judged_entries}
-use Rattle.trio_layout.specs.Listing.{ListedEntry, Listing, entry_listed, is_kept, listing}
-use Rattle.trio_layout.specs.Proposed.{proposed, proposed_pick}
-use Rattle.trio_layout.specs.Survey.{Met, Pick, numbers}
-use Rattle.trio_layout.specs.Tables.{row_after}
-use Rattle.trio_surveys.proofs.Images.{met_numbered}
-use Rattle.trio_surveys.proofs.OwnFiles.{place_from, place_parts}
-use Rattle.trio_nodes.specs.declared.entry.RawFile.{RawFile}
-use Rattle.trio_state.specs.Listed.{Notes, accepted_files, entry_name, entry_size, is_handed, is_untold, noted_name, noted_size, size_in, told_entry, told_gone, told_row, told_written}
-use Rattle.trio_state.specs.State.{State, creds_of, settled}
-use Rattle.trio_laws.specs.RuleLaws.{IsJudgeable}
-use Rattle.trio_laws.specs.history.Entries.{is_told, name_by, raw_file, raw_files, told_by, told_file}
-use Rattle.trio_laws.specs.history.Stands.{name_of, size_of}
-use Rattle.trio_laws.specs.history.ToldLaws.{notes_of}
+use Rattle.trio_laws.proofs.Words.{◌&&◌, ◌++◌, ◌+◌, ◌<◌, ◌||◌, ◌∙◌, ◌∷◌, ◌≡◌, ◌≤◌, Bool, Bundle, Case, Core, Image, In, In-cases, In-is_among, In-left, In-map, In-right, IsJudgeable, List, ListedEntry, Listing, Met, None, Notes, Option, Pick, RawFile, Row, Some, State, Written, [], accepted_files, ap, are_new, arith, both_ways, bytes_eq, bytes_eq-Decides, case_of, cases_Bool, cond, creds_of, entry_listed, entry_name, entry_size, false, false_from_ne_true, filter_map, inl, inr, is_accepted, is_among, is_among-In, is_kept, is_listed, is_some, is_told, is_written, judged_entries, listing, map, map-In, map-id, met_numbered, name_by, name_of, next, not, noted_name, noted_size, notes_of, numbers, option_map, or_cases, or_left, or_right, place_from, place_parts, proposed, proposed_pick, raw_file, raw_files, refl, row_after, row_at, row_in, settled, size_in, size_of, slot_bytes, sorted_new, subst, sym, told_by, told_file, told_row, true, ℕ}
+use Rattle.std.proofs.lemmas.Bool.{or_from}
+use Rattle.trio_state.specs.Listed.{is_handed, is_untold, told_entry, told_gone, told_written}
 use Rattle.trio_laws.proofs.judgement.CaseFacts.{held_apart, held_row, is_written_from, live_bounds, new_dead, written_find, written_row}
 use Rattle.trio_laws.proofs.judgement.JudgedFacts.{entry_to, judged_from, new_from, written_ino}
 use Rattle.trio_laws.proofs.judgement.ListingFacts.{held_from, held_to, is_listed_at, is_listed_by, listed_from, listed_to}

@@ -1,16 +1,8 @@
 -- What is known of a state goes by the log that replays to it.
-use Rattle.std.proofs.Common.{◌≡◌, ℕ, List, [], ◌∷◌, sym, ap, ◌∙◌, arith}
-use Rattle.trio_lists.proofs.Filters.{filter-map}
-use Rattle.trio_state.specs.State.{State}
-use Rattle.trio_state.specs.Kept.{Kept}
-use Rattle.trio_state.specs.Run.{start}
-use Rattle.trio_nodes.specs.declared.entry.Entry.{Entry}
-use Rattle.trio_laws.specs.OutLaws.{out_of}
-use Rattle.trio_laws.specs.Known.{Known, known}
+use Rattle.trio_laws.proofs.Words.{◌∙◌, ◌∷◌, ◌≡◌, Entry, Kept, Known, List, ReplaysFrom, State, [], answer_of, ap, arith, event_of, filter-map, known, out_of, start, sym, ℕ}
 use Rattle.trio_laws.proofs.KnownSteps.{steps_are_known}
 use Rattle.trio_laws.proofs.Runs.{step_kept, start_kept}
-use Rattle.trio_laws.specs.history.Entries.{event_of, answer_of}
-use Rattle.trio_laws.specs.history.Replays.{ReplaysFrom, known_from, out_known}
+use Rattle.trio_laws.specs.history.Replays.{known_from, out_known}
 use Rattle.trio_laws.specs.history.HistoryLaws.{ReplayIsKnown, ReplaysAgree, OutIsLogged}
 
 known_after_all : (s : State) (log : List Entry) (s' : State) → Kept s → ReplaysFrom s log s' → known s' ≡ known_from (known s) log

@@ -1,24 +1,9 @@
 -- A step of an allotment extends the history.
-use Rattle.std.proofs.Common.{◌≡◌, ℕ, Bool, true, false, cond, ltb, length, take, Option, Some, None, sym, refl, ap, subst, inl, inr, length-take-le, ltb-true, ltb-false, arith}
-use Rattle.trio_rights.specs.Row.{Row}
-use Rattle.trio_layout.specs.Core.{Core, page_of}
-use Rattle.trio_lists.specs.Lists.{In}
-use Rattle.trio_layout.specs.Survey.{plain}
-use Rattle.trio_state.specs.Allotments.{free_pages, free_numbers, allots}
-use Rattle.trio_layout.specs.Image.{row_at}
-use Rattle.trio_state.specs.State.{OpenGrant, State, settled, logged}
-use Rattle.trio_state.specs.Kept.{Kept}
-use Rattle.trio_state.specs.Step.{Allot, CtlAnswer, NoPages, NoInodes, Given, Outcome, Comes, allot_outcome}
-use Rattle.trio_surveys.specs.Reading.{with_other}
+use Rattle.trio_laws.proofs.Words.{◌≡◌, Allot, Beside, Bool, Comes, Core, CtlAnswer, Given, In, In-right, Kept, NoInodes, NoPages, None, OpenGrant, Option, Outcome, Pages, Row, Some, State, allot_outcome, allots, ap, arith, blocks_of, cond, false, free_numbers, free_pages, free_unlisted, inl, inr, length, logged, ltb, ltb-false, node_by, nodes_of, page_of, page_same, pages_are, plain, refl, row_at, settled, subst, sym, take, true, with_other, writer_of, ℕ}
+use Rattle.std.proofs.Common.{length-take-le, ltb-true}
 use Rattle.trio_laws.proofs.Agreeing.{image_with}
 use Rattle.trio_laws.proofs.Allots.{pages, pages_now, page_free, agree, fit'}
-use Rattle.trio_surveys.proofs.Images.{free_unlisted}
-use Rattle.trio_lists.proofs.Members.{In-right}
-use Rattle.trio_surveys.proofs.Owned.{pages_are}
-use Rattle.trio_surveys.proofs.Sheets.{Pages, page_same}
 use Rattle.trio_laws.proofs.StateFacts.{tables}
-use Rattle.trio_laws.specs.history.Stands.{blocks_of, node_by, nodes_of, writer_of}
-use Rattle.trio_laws.specs.history.Entries.{Beside}
 use Rattle.trio_laws.proofs.history.Extends.{Extends, past_is}
 use Rattle.trio_laws.proofs.history.Facts.{nodes_by_one}
 use Rattle.trio_laws.proofs.history.Listing.{met_at}

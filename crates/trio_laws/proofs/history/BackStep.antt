@@ -1,20 +1,8 @@
 -- A step of giving back extends the history.
-use Rattle.std.proofs.Common.{◌≡◌, ℕ, Bool, true, false, ◌&&◌, not, eqb, map, filter, sym, refl, ap, ◌∙◌, inl, inr, arith}
-use Rattle.std.proofs.lemmas.Bool.{and_parts, and_right, not-false, eqb-true, false≢true}
-use Rattle.trio_nodes.specs.declared.grant.GrantKind.{GrantKind}
-use Rattle.trio_nodes.specs.declared.grant.GrantKind.TheVariants.{Read}
-use Rattle.trio_lists.specs.Lists.{In}
-use Rattle.trio_state.specs.Grants.{given_back}
-use Rattle.trio_state.specs.Given.{HasGrant}
-use Rattle.trio_state.specs.State.{OpenGrant, State}
-use Rattle.trio_nodes.specs.GrantKinds.{is_write, is_read}
-use Rattle.trio_state.specs.Kept.{Kept, MayBothStand}
-use Rattle.trio_state.specs.Step.{Back, CtlAnswer, Done}
+use Rattle.trio_laws.proofs.Words.{◌&&◌, ◌∙◌, ◌≡◌, AllPairs-In, Back, Beside, Bool, CtlAnswer, GrantKind, HasGrant, In, Kept, MayBothStand, OpenGrant, Read, Standing, State, and_parts, and_right, ap, arith, eqb, eqb-true, false, false≢true, filter-map, filter-same, given_back, inl, inr, is_read, is_write, node_in, nodes_of, not, not-false, refl, standing_of, sym, true, ℕ}
+use Rattle.std.proofs.Common.{map, filter}
+use Rattle.trio_state.specs.Step.{Done}
 use Rattle.trio_laws.proofs.Backs.{settled_back}
-use Rattle.trio_lists.proofs.Filters.{AllPairs-In, filter-same, filter-map}
-use Rattle.trio_nodes.specs.Standing.{Standing}
-use Rattle.trio_laws.specs.history.Stands.{node_in, nodes_of, standing_of}
-use Rattle.trio_laws.specs.history.Entries.{Beside}
 use Rattle.trio_laws.proofs.history.Extends.{Extends, past_is}
 use Rattle.trio_laws.proofs.history.Facts.{find_filter, nodes_by_one}
 

@@ -1,18 +1,8 @@
 -- A history begins, and is legal.
-use Rattle.std.proofs.Common.{◌≡◌, ℕ, suc, ◌+◌, List, [], ◌∷◌, length, sym, refl, ap, subst, arith}
-use Rattle.std.specs.List.{AllByRecursion}
-use Rattle.trio_rights.specs.declared.rights.Creds.{Creds}
-use Rattle.trio_state.specs.Run.{start}
-use Rattle.trio_state.specs.State.{IsLibrary, State}
+use Rattle.trio_laws.proofs.Words.{◌+◌, ◌∷◌, ◌≡◌, AllByRecursion, Creds, Entry, IsLibrary, LegalFrom, List, Nodes, Past, ReplaysFrom, State, [], answer_of, ap, arith, beginning, event_of, length, library_of, nodes_of, past_after, past_of, refl, start, subst, suc, sym, ℕ}
 use Rattle.trio_laws.proofs.Runs.{start_kept}
-use Rattle.trio_nodes.specs.declared.entry.Entry.{Entry}
-use Rattle.trio_nodes.specs.Nodes.{Nodes}
-use Rattle.trio_nodes.specs.Legal.{Past, Legal, LegalFrom, library_in, past_after, beginning}
-use Rattle.trio_laws.specs.history.Stands.{nodes_of, past_of}
+use Rattle.trio_nodes.specs.Legal.{Legal, library_in}
 use Rattle.trio_laws.specs.history.HistoryLaws.{HistoryBegins, HistoryIsLegal}
-use Rattle.trio_laws.specs.history.Entries.{event_of, answer_of}
-use Rattle.trio_laws.specs.history.Replays.{ReplaysFrom}
-use Rattle.trio_laws.specs.Laws.{library_of}
 use Rattle.trio_laws.proofs.history.Grows.{step_creds}
 
 pub history_begins : HistoryBegins

@@ -1,19 +1,9 @@
 -- How many blocks a file has, and how long their bytes are.
-use Rattle.std.proofs.Common.{◌≡◌, ℕ, zero, suc, ◌+◌, ◌-◌, ◌*◌, ◌≤◌, Bool, true, false, cond, eqb, min, List, [], ◌∷◌, ◌++◌, length, take, drop, Option, Some, None, Ok, slice_get, sym, refl, ap, ◌∙◌, inl, inr, arith, length-append, length-take, length-drop, take_all, take-take, drop-drop, unwrap_or, flat_map}
-use Rattle.std.specs.List.{cons_option}
-use Rattle.std.specs.Option.{option_map, option_and_then}
-use Rattle.std.proofs.lemmas.Bool.{cases_lt}
-use Rattle.std.proofs.lemmas.List.{take-append-le, nil_from_length}
-use Rattle.trio_layout.specs.declared.range.CoreRange.{CoreRange}
-use Rattle.trio_layout.specs.declared.body.Body.{Body}
-use Rattle.trio_layout.specs.Index.{Index, index_of, numbers_in}
-use Rattle.trio_lists.specs.Lists.{In, result_map}
-use Rattle.trio_layout.specs.Core.{Core, page_of, at_page}
-use Rattle.trio_layout.specs.Chain.{Chain, with_index, index_page, chain_from, chain_of}
-use Rattle.trio_layout.specs.Image.{Image}
-use Rattle.trio_rights.specs.Sheets.{Sheet}
-use Rattle.trio_layout.specs.Pages.{sheets_of}
-use Rattle.trio_lists.proofs.Members.{result_then-Ok, result_map-Ok, option_and_then-Some, there_or-Ok}
+use Rattle.trio_laws.proofs.Words.{◌*◌, ◌++◌, ◌+◌, ◌-◌, ◌∙◌, ◌∷◌, ◌≡◌, ◌≤◌, Body, Bool, Chain, Core, CoreRange, Image, In, Index, List, None, Ok, Option, Sheet, Some, [], ap, arith, at_page, cases_lt, chain_of, cond, cons_option, drop, drop-drop, eqb, false, inl, inr, length, length-drop, length-take, min, nil_from_length, option_and_then, option_map, page_of, refl, result_map, result_map-Ok, result_then-Ok, sheets_of, slice_get, suc, sym, take, take-append-le, take-take, take_all, there_or-Ok, true, unwrap_or, with_index, zero, ℕ}
+use Rattle.std.proofs.Common.{length-append, flat_map}
+use Rattle.trio_layout.specs.Index.{index_of, numbers_in}
+use Rattle.trio_layout.specs.Chain.{index_page, chain_from}
+use Rattle.trio_lists.proofs.Members.{option_and_then-Some}
 use Rattle.trio_laws.proofs.history.Told.{Count, block_bytes, take_over}
 
 numbers_long : (n : ℕ) (bytes : List ℕ) → length (numbers_in n bytes) ≡ n

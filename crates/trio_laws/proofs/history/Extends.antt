@@ -1,14 +1,6 @@
 -- What is to be shown of a step: it makes no entry and changes nothing, or it makes one that is legal and comes to the state after it.
-use Rattle.std.proofs.Common.{◌≡◌, ℕ, List, [], ◌∷◌, map, Option, Some, None, refl, ap, ◌∙◌, arith}
-use Rattle.trio_state.specs.State.{OpenGrant, State}
-use Rattle.trio_state.specs.Bundles.{lent_part}
-use Rattle.trio_state.specs.Step.{Event, CtlAnswer}
-use Rattle.trio_nodes.specs.declared.entry.Entry.{Entry}
-use Rattle.trio_nodes.specs.Standing.{Standing}
-use Rattle.trio_nodes.specs.Nodes.{Nodes}
-use Rattle.trio_nodes.specs.Legal.{IsLegal, past_after}
-use Rattle.trio_laws.specs.history.Stands.{nodes_of, past_of, standing_of}
-use Rattle.trio_laws.specs.history.Entries.{Beside, entry_of, event_of, answer_of}
+use Rattle.trio_laws.proofs.Words.{◌∙◌, ◌∷◌, ◌≡◌, Beside, CtlAnswer, Entry, Event, IsLegal, List, Nodes, None, OpenGrant, Option, Some, Standing, State, [], answer_of, ap, arith, entry_of, event_of, lent_part, nodes_of, past_after, past_of, refl, standing_of, ℕ}
+use Rattle.std.proofs.Common.{map}
 
 -- the entry is legal in this state, tells of this event and answer, and comes to the state after it
 pub record Makes (s : State) (event : Event) (answer : CtlAnswer) (s' : State) (e : Entry) : Type 0 where

@@ -1,18 +1,6 @@
 -- Lists under a test, and the nodes of a state by number.
-use Rattle.std.proofs.Common.{◌≡◌, ℕ, Bool, true, false, cond, ◌||◌, ◌+◌, ◌<◌, List, [], ◌∷◌, ◌++◌, Some, None, sym, refl, ap, ◌∙◌, inl, inr, arith, find, filter}
-use Rattle.std.specs.List.{list_any}
-use Rattle.std.proofs.lemmas.Bool.{cases_lt, false_from_ne_true, both_ways}
-use Rattle.std.proofs.lemmas.Option.{same_Some}
-use Rattle.trio_lists.specs.Lists.{In, tabulated}
-use Rattle.trio_rights.specs.Row.{Row}
-use Rattle.trio_layout.specs.Image.{row_at}
-use Rattle.trio_state.specs.State.{State, settled}
-use Rattle.trio_state.specs.Kept.{Kept}
-use Rattle.trio_lists.proofs.Tabulated.{tabulated-get, tabulated-past, tabulated-same}
-use Rattle.trio_lists.proofs.Filters.{list_any-In}
-use Rattle.trio_nodes.specs.declared.node.Node.{Node}
-use Rattle.trio_nodes.specs.Nodes.{node_at}
-use Rattle.trio_laws.specs.history.Stands.{node_in, node_of, nodes_of, writer_of}
+use Rattle.trio_laws.proofs.Words.{◌++◌, ◌+◌, ◌<◌, ◌||◌, ◌∙◌, ◌∷◌, ◌≡◌, Bool, In, Kept, List, Node, None, Row, Some, State, [], ap, arith, both_ways, cases_lt, cond, false, false_from_ne_true, inl, inr, list_any, list_any-In, node_at, node_in, node_of, nodes_of, refl, row_at, same_Some, settled, sym, tabulated, tabulated-get, tabulated-past, tabulated-same, true, writer_of, ℕ}
+use Rattle.std.proofs.Common.{find, filter}
 
 pub any_same : {X : Type 0} (p q : X → Bool) (xs : List X) → ((x : X) → In x xs → p x ≡ q x) → list_any p xs ≡ list_any q xs
 any_same p q [] h = refl

@@ -1,25 +1,6 @@
 -- What a node says, by the file that a survey meets: its name by the entry that lists it, its bytes by size and blocks.
-use Rattle.std.proofs.Common.{◌≡◌, ℕ, Bool, true, false, cond, List, Option, Some, None, Ok, sym, refl, ap, ◌∙◌, arith}
-use Rattle.std.proofs.lemmas.Bool.{ne_eqb}
-use Rattle.trio_rights.specs.Row.{Row}
-use Rattle.trio_rights.specs.declared.kind.Kind.{Kind}
-use Rattle.trio_rights.specs.declared.kind.Kind.TheVariants.{Regular}
-use Rattle.trio_layout.specs.declared.body.Body.{Body}
-use Rattle.trio_layout.specs.declared.range.CoreRange.{CoreRange}
-use Rattle.trio_layout.specs.Body.{body_of, body_at}
-use Rattle.trio_layout.specs.Core.{page_of}
-use Rattle.trio_layout.specs.Entries.{Listed}
-use Rattle.trio_lists.specs.Lists.{In}
-use Rattle.trio_layout.specs.Survey.{Met, plain, FileRead, file_of, survey}
-use Rattle.trio_layout.specs.Pages.{settled_chain}
-use Rattle.trio_layout.specs.Image.{IsFit, Image, row_at}
-use Rattle.trio_state.specs.State.{OpenGrant}
-use Rattle.trio_layout.specs.Verifies.{Verifies}
-use Rattle.trio_lists.proofs.Filters.{Ok-one}
-use Rattle.trio_surveys.proofs.Images.{one_met}
-use Rattle.trio_surveys.proofs.Local.{reads_from}
-use Rattle.trio_surveys.proofs.Places.{placed_from}
-use Rattle.trio_laws.specs.history.Stands.{name_of, size_of, blocks_of, bytes_of}
+use Rattle.trio_laws.proofs.Words.{◌∙◌, ◌≡◌, Body, Bool, CoreRange, FileRead, Image, In, IsFit, Kind, List, Listed, Met, None, Ok, Ok-one, OpenGrant, Option, Regular, Row, Some, Verifies, ap, arith, blocks_of, body_at, bytes_of, cond, false, file_of, name_of, ne_eqb, one_met, page_of, placed_from, plain, reads_from, refl, row_at, settled_chain, size_of, survey, sym, true, ℕ}
+use Rattle.trio_layout.specs.Body.{body_of}
 use Rattle.trio_laws.proofs.history.Listing.{slot_entry, met_at, body_met, chain_met}
 use Rattle.trio_laws.proofs.history.Still.{sheets_same}
 

@@ -1,28 +1,9 @@
 -- A grant leaves the nodes as they are.
-use Rattle.std.proofs.Common.{◌≡◌, ℕ, true, false, ◌&&◌, eqb, [], Option, Some, None, Ok, sym, refl, ap, ◌∙◌, subst, inl, inr, arith}
-use Rattle.std.proofs.lemmas.Bool.{and_right, and_from, eq-eqb, ne_eqb, cases_eq, false≢true}
-use Rattle.trio_rights.specs.Row.{Row}
-use Rattle.trio_nodes.specs.declared.grant.GrantKind.{GrantKind}
-use Rattle.trio_nodes.specs.declared.grant.GrantKind.TheVariants.{Read, Write, Hold}
-use Rattle.trio_layout.specs.Core.{Core, page_of}
-use Rattle.trio_lists.specs.Lists.{In}
-use Rattle.trio_layout.specs.Survey.{Met, plain, FileRead, file_of, survey, pages_of, row_by}
-use Rattle.trio_state.specs.Grants.{grant_fault, opened, opens, lent_pages}
-use Rattle.trio_layout.specs.Pages.{settled_chain, block_sheets}
-use Rattle.trio_layout.specs.Image.{row_at}
-use Rattle.trio_state.specs.State.{OpenGrant, State, settled}
-use Rattle.trio_nodes.specs.GrantKinds.{is_write}
-use Rattle.trio_state.specs.Kept.{Kept}
-use Rattle.trio_surveys.specs.Reading.{with_other}
+use Rattle.trio_laws.proofs.Words.{◌&&◌, ◌∙◌, ◌≡◌, Core, FileRead, GrantKind, Hold, In, In-right, Kept, Met, None, Ok, OpenGrant, Option, Pages, Read, Row, Some, State, Write, [], and_from, and_right, ap, arith, block_sheets, blocks_of, cases_eq, eq-eqb, eqb, false, false≢true, file_of, grant_fault, inl, inr, is_write, lent_pages, ne_eqb, node_by, node_in, nodes_of, one_met, opened, opens, page_of, page_owner, page_same, pages_are, pages_of, plain, refl, row_at, row_by, settled, settled_chain, sound_parts, subst, survey, sym, true, with_other, writer_of, ℕ}
 use Rattle.trio_laws.proofs.Agreeing.{image_with}
-use Rattle.trio_surveys.proofs.Images.{one_met}
 use Rattle.trio_laws.proofs.Grants.{settled_same, excluded_none}
-use Rattle.trio_lists.proofs.Members.{In-right}
-use Rattle.trio_surveys.proofs.Owned.{page_owner, pages_are, sound_parts}
-use Rattle.trio_surveys.proofs.Sheets.{Pages, page_same}
 use Rattle.trio_laws.proofs.StateFacts.{live_met}
 use Rattle.trio_laws.proofs.WriteGrant.{pages, pages_now, agree, fit'}
-use Rattle.trio_laws.specs.history.Stands.{blocks_of, node_by, node_in, nodes_of, writer_of}
 use Rattle.trio_laws.proofs.history.Facts.{find_push, find_none, find_last, nodes_by_one}
 use Rattle.trio_laws.proofs.history.Listing.{met_at}
 use Rattle.trio_laws.proofs.history.Still.{node_same, name_still, size_still, blocks_still}

@@ -1,29 +1,16 @@
 -- A step of a grant extends the history.
-use Rattle.std.proofs.Common.{◌≡◌, ℕ, Bool, true, false, cond, not, ◌+◌, List, [], ◌∷◌, ◌++◌, map, Option, Some, None, is_some, slice_get, sym, refl, ap, ◌∙◌, subst, option_map, arith}
-use Rattle.std.proofs.lemmas.List.{map-append}
-use Rattle.std.proofs.lemmas.Bool.{false_from_ne_true, eqb-true, both_ways, and_parts}
-use Rattle.trio_rights.specs.Row.{Row}
-use Rattle.trio_nodes.specs.declared.grant.GrantKind.{GrantKind}
-use Rattle.trio_nodes.specs.declared.grant.GrantKind.TheVariants.{Write}
-use Rattle.trio_nodes.specs.declared.answers.GrantFault.{GrantFault}
-use Rattle.trio_nodes.specs.declared.answers.GrantFault.TheVariants.{NotLive, Denied, NoParent, Busy, NoMemory as OutOfMemory}
-use Rattle.trio_state.specs.Grants.{holder_of, denied_or, excluding, denied_by, lacks_parent, has_parent_grant, grant_fault, opened, opens, told_children}
-use Rattle.trio_nodes.specs.GrantKinds.{excludes_kind, is_write, same_kind}
-use Rattle.trio_layout.specs.Image.{row_at}
-use Rattle.trio_state.specs.State.{OpenGrant, State, settled}
-use Rattle.trio_state.specs.Kept.{Kept}
-use Rattle.trio_state.specs.Step.{Grant, CtlAnswer, Granted, NotGranted, Comes, granted_to, grant_outcome, after_grant_fault}
+use Rattle.trio_laws.proofs.Words.{◌++◌, ◌+◌, ◌∙◌, ◌∷◌, ◌≡◌, Beside, Bool, Comes, CtlAnswer, Grant, GrantFault, GrantKind, Kept, List, NoParent, None, OpenGrant, Option, Row, Some, Standing, State, Write, [], after_grant_fault, and_parts, ap, arith, both_ways, cond, denied_by, denied_or, eqb-true, excludes_kind, excluding, false, false_from_ne_true, grant_fault, grant_outcome, granted_to, has_parent_grant, holder_of, is_write, lacks_parent, list_any-map, map-append, node_at, node_by, nodes_of, not, opened, opens, refl, row_at, same_kind, settled, slice_get, standing_of, subst, sym, told_children, true, writer_of, ℕ}
+use Rattle.std.proofs.Common.{map, is_some, option_map}
+use Rattle.trio_nodes.specs.declared.answers.GrantFault.TheVariants.{NotLive, Denied, Busy, NoMemory as OutOfMemory}
+use Rattle.trio_state.specs.Step.{Granted, NotGranted}
 use Rattle.trio_laws.proofs.Grants.{excluded_none}
 use Rattle.trio_nodes.specs.declared.entry.Entry.TheVariants.{Grant as GrantEntry}
 use Rattle.trio_nodes.specs.declared.entry.GrantAnswer.TheVariants.{Granted as IsGranted}
-use Rattle.trio_nodes.specs.Nodes.{node_at}
-use Rattle.trio_nodes.specs.Standing.{Standing, is_excluded}
+use Rattle.trio_nodes.specs.Standing.{is_excluded}
 use Rattle.trio_nodes.specs.Legal.{lacks_directory, parent_stands}
-use Rattle.trio_laws.specs.history.Stands.{node_by, nodes_of, standing_of, writer_of}
-use Rattle.trio_laws.specs.history.Entries.{Beside, grant_entry}
+use Rattle.trio_laws.specs.history.Entries.{grant_entry}
 use Rattle.trio_laws.proofs.history.Extends.{Makes, Comes', Extends, past_is}
 use Rattle.trio_laws.proofs.history.Facts.{any_same, any_none, node_is}
-use Rattle.trio_lists.proofs.Filters.{list_any-map}
 use Rattle.trio_laws.proofs.history.GrantNodes.{grant_nodes}
 use Rattle.trio_laws.proofs.history.Rights.{denier_is}
 

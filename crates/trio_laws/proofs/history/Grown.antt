@@ -1,15 +1,6 @@
 -- One block of bytes that are cut or grown to another size.
-use Rattle.std.proofs.Common.{◌≡◌, ℕ, zero, suc, ◌+◌, ◌-◌, ◌*◌, ◌<◌, ◌≤◌, true, false, eqb, min, List, [], ◌∷◌, ◌++◌, length, take, drop, Option, Some, None, slice_get, sym, refl, ap, ◌∙◌, inl, inr, arith, length-append, length-take, take_all, take-take, drop-drop, append_assoc, ltb-false}
-use Rattle.std.specs.Option.{option_map_or}
-use Rattle.std.proofs.lemmas.Bool.{cases_lt, or_parts, eqb-true, not-false}
-use Rattle.std.proofs.lemmas.List.{take-append-le, length-replicate}
-use Rattle.trio_lists.specs.Lists.{In}
-use Rattle.trio_layout.specs.Image.{Image, row_at}
-use Rattle.trio_rights.specs.Sheets.{Sheet}
-use Rattle.trio_nodes.specs.Handed.{Handed}
-use Rattle.trio_nodes.specs.Apply.{resized}
-use Rattle.trio_laws.specs.history.Entries.{block_numbers, is_touched, is_block_told}
-use Rattle.trio_laws.specs.history.Stands.{size_of}
+use Rattle.trio_laws.proofs.Words.{◌*◌, ◌++◌, ◌+◌, ◌-◌, ◌<◌, ◌∙◌, ◌∷◌, ◌≡◌, ◌≤◌, Handed, Image, In, List, None, Option, Sheet, Some, [], ap, append_assoc, arith, block_numbers, cases_lt, drop, drop-drop, eqb, eqb-true, false, inl, inr, is_block_told, is_touched, length, length-replicate, length-take, ltb-false, min, not-false, option_map_or, or_parts, refl, resized, row_at, size_of, slice_get, suc, sym, take, take-append-le, take-take, take_all, true, zero, ℕ}
+use Rattle.std.proofs.Common.{length-append}
 use Rattle.trio_laws.proofs.history.Blocks.{flat, flat_long, drop_cut}
 use Rattle.trio_laws.proofs.history.Told.{take_over}
 

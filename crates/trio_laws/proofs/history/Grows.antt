@@ -1,41 +1,13 @@
 -- What is recorded stays recorded by each step.
-use Rattle.std.proofs.Common.{◌≡◌, ℕ, true, ◌++◌, eqb, not, ◌&&◌, List, [], ◌∷◌, length, Option, Some, None, Result, Ok, Err, sym, refl, ap, subst, inl, inr, append-nil, arith}
+use Rattle.trio_laws.proofs.Words.{◌&&◌, ◌++◌, ◌∷◌, ◌≡◌, Accepted, Allot, Back, Beside, BesideFits, Bundle, Chain, Creds, CtlAnswer, Does, Ends, Entry, Err, Event, GivenEvent, GivenTo, Grant, GrantFault, GrantKind, In, In-cases, IsAccepted, IsLegal, IsRefused, Kept, LegalFrom, LentWhole, List, Location, ModeFault, NoMemory, None, NotClosed, Ok, OpenGrant, Option, Parted, Past, Refused, Release, ReleaseEnd, ReplaysFrom, Result, Row, SetMode, Settle, Sheet, Some, State, Step, Why, [], answer_of, ap, arith, beginning, block_sheets, bundle_handed, creds_of, entry_of, eqb, event_of, filter-In, grant_fault, granted_to, inl, inr, is_accepted, is_read, length, library_of, mode_fault, moded_to, next, nodes_of, not, opened, opens, past_after, past_of, refl, refused_image, row_at, settled, sheets_in, start, subst, sym, true, ℕ}
+use Rattle.std.proofs.Common.{append-nil}
 use Rattle.std.specs.Option.{option_to_list}
-use Rattle.trio_rights.specs.declared.rights.Creds.{Creds}
-use Rattle.trio_rights.specs.Bundle.{Bundle}
-use Rattle.trio_rights.specs.Row.{Row}
-use Rattle.trio_rights.specs.Sheets.{Sheet}
-use Rattle.trio_nodes.specs.declared.entry.Entry.{Entry}
-use Rattle.trio_nodes.specs.declared.grant.GrantKind.{GrantKind}
-use Rattle.trio_nodes.specs.declared.answers.GrantFault.{GrantFault}
-use Rattle.trio_nodes.specs.declared.answers.ModeFault.{ModeFault}
-use Rattle.trio_nodes.specs.GrantKinds.{is_read}
-use Rattle.trio_nodes.specs.Legal.{Past, IsLegal, LegalFrom, past_after, beginning}
-use Rattle.trio_lists.specs.Lists.{In}
-use Rattle.trio_lists.proofs.Filters.{filter-In}
-use Rattle.trio_lists.proofs.Members.{In-cases}
-use Rattle.trio_layout.specs.Accept.{is_accepted, next}
-use Rattle.trio_layout.specs.Chain.{Chain}
-use Rattle.trio_layout.specs.Core.{Location}
-use Rattle.trio_layout.specs.Image.{row_at}
-use Rattle.trio_layout.specs.Pages.{block_sheets}
-use Rattle.trio_surveys.proofs.Sheets.{sheets_in}
-use Rattle.trio_state.specs.Bundles.{refused_image, Ends}
-use Rattle.trio_state.specs.Given.{GivenEvent, GivenTo}
-use Rattle.trio_state.specs.Grants.{grant_fault, lent_sheets, opened, opens}
-use Rattle.trio_state.specs.Kept.{Kept}
-use Rattle.trio_state.specs.Run.{start}
-use Rattle.trio_state.specs.State.{OpenGrant, State, settled, creds_of}
-use Rattle.trio_state.specs.Step.{Event, Grant, Allot, Back, Release, Settle, SetMode, CtlAnswer, NotClosed, Accepted, Refused, NoMemory, ReleaseEnd, Parted, IsAccepted, IsRefused, Does, Step, granted_to, mode_fault, moded_to}
-use Rattle.trio_state.specs.Tells.{Why}
-use Rattle.trio_laws.specs.Laws.{library_of}
+use Rattle.trio_state.specs.Grants.{lent_sheets}
 use Rattle.trio_laws.proofs.Bundles.{Closed, closed_unparted}
 use Rattle.trio_laws.proofs.Cases.{after_no_grant, after_no_mode, after_allot}
 use Rattle.trio_laws.proofs.Runs.{step_kept}
-use Rattle.trio_laws.specs.history.Stands.{nodes_of, past_of}
-use Rattle.trio_laws.specs.history.Entries.{Beside, bundle_handed, entry_of, event_of, answer_of}
-use Rattle.trio_laws.specs.history.Replays.{IsLibrary, ReplaysFrom, Replays}
-use Rattle.trio_laws.specs.history.Recorded.{Recorded, IsRecorded, LentWhole, HandedFits, BesideFits}
+use Rattle.trio_laws.specs.history.Replays.{IsLibrary, Replays}
+use Rattle.trio_laws.specs.history.Recorded.{Recorded, IsRecorded, HandedFits}
 use Rattle.trio_laws.specs.history.HistoryLaws.{HistoryGrows}
 use Rattle.trio_laws.proofs.history.RefusedStep.{refused_makes}
 use Rattle.trio_laws.proofs.history.AcceptedStep.{accepted_makes}

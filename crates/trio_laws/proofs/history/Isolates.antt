@@ -1,26 +1,7 @@
 -- Each step changes the nodes within the grants of its library, or it changes a mode.
-use Rattle.std.proofs.Common.{◌≡◌, ℕ, true, List, [], ◌∷◌, map, Option, Some, None, Result, Ok, Err, refl, sym, ap, ◌∙◌, subst, inl, inr, ◌⊎◌, arith}
-use Rattle.trio_rights.specs.declared.rights.Creds.{Creds}
-use Rattle.trio_rights.specs.Bundle.{Written, Bundle}
-use Rattle.trio_rights.specs.Sheets.{Sheet}
-use Rattle.trio_lists.specs.Lists.{In}
-use Rattle.trio_lists.proofs.Members.{map-In}
-use Rattle.trio_nodes.specs.declared.entry.Entry.{Entry}
-use Rattle.trio_nodes.specs.Handed.{Handed, HandedFile}
-use Rattle.trio_nodes.specs.declared.entry.HandedPage.{HandedPage}
-use Rattle.trio_nodes.specs.Nodes.{Nodes}
-use Rattle.trio_nodes.specs.Standing.{Standing}
-use Rattle.trio_nodes.specs.declared.answers.ModeFault.{ModeFault}
-use Rattle.trio_nodes.specs.Legal.{IsWithinGrants, LegalChmod}
-use Rattle.trio_state.specs.Given.{GivenEvent}
-use Rattle.trio_state.specs.Kept.{Kept}
-use Rattle.trio_state.specs.State.{State, creds_of}
-use Rattle.trio_state.specs.Step.{Event, Grant, Allot, Back, Release, Settle, SetMode, CtlAnswer, Step}
-use Rattle.trio_laws.specs.Laws.{library_of}
+use Rattle.trio_laws.proofs.Words.{◌∙◌, ◌∷◌, ◌≡◌, ◌⊎◌, Allot, Back, Beside, BesideFits, Bundle, Creds, CtlAnswer, Entry, Err, Event, GivenEvent, Grant, Handed, HandedFile, HandedPage, In, IsMarked, IsWithinGrants, Kept, LegalChmod, LentWhole, List, ModeFault, Nodes, None, Ok, Option, Release, Result, SetMode, Settle, Sheet, Some, Standing, State, Step, Written, [], ap, arith, bundle_handed, creds_of, entry_of, inl, inr, library_of, map-In, nodes_of, past_of, refl, sheet_handed, standing_of, subst, sym, true, written_handed, ℕ}
+use Rattle.std.proofs.Common.{map}
 use Rattle.trio_laws.proofs.Runs.{step_kept}
-use Rattle.trio_laws.specs.history.Stands.{nodes_of, past_of, standing_of}
-use Rattle.trio_laws.specs.history.Entries.{Beside, sheet_handed, written_handed, bundle_handed, entry_of}
-use Rattle.trio_laws.specs.history.Recorded.{LentWhole, IsMarked, BesideFits}
 use Rattle.trio_laws.specs.history.HistoryLaws.{IsModeChange, StepsAreIsolated}
 use Rattle.trio_laws.proofs.history.Extends.{Makes, Comes'}
 use Rattle.trio_laws.proofs.history.Grows.{SettlesOwn, step_extends}

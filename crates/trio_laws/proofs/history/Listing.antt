@@ -1,28 +1,9 @@
 -- Where a live file is listed in an image that verifies, and what its name and its chain are.
-use Rattle.std.proofs.Common.{◌≡◌, ℕ, Bool, true, cond, ◌&&◌, eqb, take, List, [], Some, Ok, sym, ap, ◌∙◌, subst, inl, inr, arith, ◌<◌, ◌≤◌, ◌+◌, ◌⊎◌, None, Option, refl}
-use Rattle.std.specs.Str.{bytes_eq}
-use Rattle.std.proofs.lemmas.Bool.{ne_eqb, and_parts, false≢true}
-use Rattle.std.specs.Prelude.{nat_lt, nat_le}
+use Rattle.trio_laws.proofs.Words.{◌&&◌, ◌+◌, ◌<◌, ◌∙◌, ◌≡◌, ◌≤◌, ◌⊎◌, Bad, Bool, Core, Directory, Empty, EntryPart, FileRead, Image, In, In-right, IsFit, Kind, List, Listed, Met, MetAt, None, Ok, Option, Regular, Row, Some, TablesOf, Verifies, [], and_parts, ap, arith, bytes_eq, child_from, child_placed, children, cond, entries_of_kind, entry_at, eqb, false≢true, file_of, flat_map-In, inl, inr, met_numbered, met_row, name_of, nat_lt, ne_eqb, page_of, pages_read, plain, reads_from, refl, root_or_listed, row_at, row_at_is, settled_body, settled_body_met, settled_chain, slot_bytes, subst, survey, sym, take, true, ℕ}
+use Rattle.std.specs.Prelude.{nat_le}
 use Rattle.trio_names.specs.Name.{is_name}
-use Rattle.trio_rights.specs.Row.{Row}
-use Rattle.trio_rights.specs.declared.kind.Kind.{Kind}
-use Rattle.trio_rights.specs.declared.kind.Kind.TheVariants.{Regular, Directory}
-use Rattle.trio_layout.specs.declared.slot.EntryPart.{EntryPart}
-use Rattle.trio_layout.specs.declared.slot.SlotRead.TheVariants.{Empty, Entry, Bad}
-use Rattle.trio_layout.specs.Slot.{slot_of, entry_at, entry_bytes, entry_fits}
-use Rattle.trio_layout.specs.Core.{Core, page_of}
-use Rattle.trio_lists.specs.Lists.{In}
-use Rattle.trio_layout.specs.Entries.{Listed, slot_bytes, entries_of_kind}
-use Rattle.trio_layout.specs.Survey.{Met, plain, FileRead, file_of, survey, children}
-use Rattle.trio_layout.specs.Pages.{settled_chain}
-use Rattle.trio_layout.specs.Image.{IsFit, Image, row_at, settled_body}
-use Rattle.trio_layout.specs.Verifies.{Verifies}
-use Rattle.trio_surveys.specs.Reading.{pages_read}
-use Rattle.trio_surveys.proofs.Images.{TablesOf, MetAt, row_at_is, met_row, root_or_listed, settled_body_met, met_numbered}
-use Rattle.trio_surveys.proofs.Local.{reads_from}
-use Rattle.trio_lists.proofs.Members.{In-right, flat_map-In}
-use Rattle.trio_surveys.proofs.Tree.{child_from, child_placed}
-use Rattle.trio_laws.specs.history.Stands.{name_of}
+use Rattle.trio_layout.specs.declared.slot.SlotRead.TheVariants.{Entry}
+use Rattle.trio_layout.specs.Slot.{slot_of, entry_bytes, entry_fits}
 
 -- a file that isn't the root is listed by a directory, on one of its blocks
 pub record Listing (core : Core) (n : ℕ) (r : Row) : Type 0 where

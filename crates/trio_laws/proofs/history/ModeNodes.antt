@@ -1,34 +1,9 @@
 -- A change of mode changes one node.
-use Rattle.std.proofs.Common.{◌≡◌, ℕ, ◌≤◌, Bool, true, false, cond, eqb, [], ◌∷◌, Option, Some, None, Ok, sym, refl, ap, ◌∙◌, inl, inr, arith}
-use Rattle.std.specs.Option.{option_map_or}
-use Rattle.std.proofs.lemmas.Bool.{cases_eq, eq-eqb}
-use Rattle.std.proofs.lemmas.List.{get_or-set_other, get_or-set_same}
-use Rattle.trio_rights.specs.Row.{Row}
-use Rattle.trio_rights.specs.declared.kind.Kind.{Kind}
-use Rattle.trio_rights.specs.declared.kind.Kind.TheVariants.{Regular, Directory}
-use Rattle.trio_layout.specs.declared.body.Body.{Body}
-use Rattle.trio_layout.specs.Core.{Core, page_of}
-use Rattle.trio_lists.specs.Lists.{In}
-use Rattle.trio_layout.specs.Survey.{Met, plain, FileRead, file_of, survey}
-use Rattle.trio_layout.specs.Image.{Image, IsFit, row_at}
-use Rattle.trio_state.specs.Kept.{Kept}
-use Rattle.trio_layout.specs.Mode.{image_with_mode, row_with_mode}
-use Rattle.trio_state.specs.State.{OpenGrant, State, settled, logged}
-use Rattle.trio_layout.specs.Verifies.{Verifies}
-use Rattle.trio_laws.specs.Laws.{plain_pages}
-use Rattle.trio_surveys.specs.Reading.{picked_entry}
-use Rattle.trio_surveys.proofs.Images.{MetAt, met_numbered}
-use Rattle.trio_lists.proofs.Tabulated.{tabulated-length}
+use Rattle.trio_laws.proofs.Words.{◌∙◌, ◌∷◌, ◌≡◌, ◌≤◌, Body, Bool, Core, Directory, FileRead, Image, In, In-map, In-right, IsFit, Kept, Kind, Met, MetAt, None, Ok, OpenGrant, Option, Regular, Row, Some, State, Verifies, [], ap, arith, body_moded, bytes_of, cases_eq, changed, cond, eq-eqb, eqb, false, file_of, get_or-set_other, get_or-set_same, image_with_mode, inl, inr, listed0, logged, met_numbered, met_other, mode_core_is, mode_file, mode_fit, mode_met, mode_verifies, moded_node, moded_nodes, ms, name_in, name_of, node_at, node_by, node_in, nodes_of, option_map_or, page_now, page_of, picked_entry, plain, plain_pages, read_now, refl, row_at, row_with_mode, settled, survey, sym, tabulated-length, true, writer_of, ℕ}
 use Rattle.trio_laws.proofs.Isolated.{put_none, bare_page}
-use Rattle.trio_lists.proofs.Members.{In-right, In-map}
-use Rattle.trio_surveys.proofs.Moded.{body_moded, changed}
-use Rattle.trio_surveys.proofs.ModedCore.{pick, ms, page_now, listed0, read_now}
-use Rattle.trio_surveys.proofs.ModedImage.{mode_met, met_other, mode_core_is, mode_file, mode_verifies, mode_fit}
+use Rattle.trio_surveys.proofs.ModedCore.{pick}
 use Rattle.trio_laws.proofs.Modes.{settled_moded, moded_kept}
 use Rattle.trio_laws.proofs.Grants.{logged_kept}
-use Rattle.trio_nodes.specs.Nodes.{node_at}
-use Rattle.trio_nodes.specs.After.{moded_node, moded_nodes}
-use Rattle.trio_laws.specs.history.Stands.{name_in, name_of, bytes_of, node_by, node_in, nodes_of, writer_of}
 use Rattle.trio_laws.proofs.history.Facts.{node_is}
 use Rattle.trio_laws.proofs.history.Follows.{Follows, bytes_follow, name_at_entry}
 use Rattle.trio_laws.proofs.history.Listing.{listing, met_at}

@@ -1,27 +1,10 @@
 -- A step of a change of mode extends the history.
-use Rattle.std.proofs.Common.{◌≡◌, ℕ, ◌+◌, Bool, true, false, cond, ◌&&◌, ◌||◌, not, eqb, ltb, map, Option, Some, None, Ok, Err, refl, ap, ◌∙◌, subst, option_map, ltb-true, arith}
-use Rattle.std.proofs.lemmas.Bool.{ne_eqb, eq-eqb, and_from, or_left, or_right, not_from_false, false≢true}
-use Rattle.trio_rights.specs.Row.{Row}
-use Rattle.trio_nodes.specs.declared.answers.ModeFault.{ModeFault}
-use Rattle.trio_nodes.specs.declared.answers.ModeFault.TheVariants.{NotLive, NotOwner, BadMode, Busy, NoMemory as OutOfMemory}
-use Rattle.trio_lists.specs.Lists.{In}
-use Rattle.trio_state.specs.Grants.{holder_of}
-use Rattle.trio_layout.specs.Image.{row_at}
-use Rattle.trio_state.specs.Kept.{Kept}
-use Rattle.trio_layout.specs.Mode.{image_with_mode}
-use Rattle.trio_state.specs.State.{OpenGrant, State, settled, creds_of, logged}
-use Rattle.trio_state.specs.Step.{SetMode, CtlAnswer, NotModeSet, Comes, mode_excluding, mode_fault, mode_outcome, moded_to, after_mode_fault}
+use Rattle.trio_laws.proofs.Words.{◌&&◌, ◌+◌, ◌||◌, ◌∙◌, ◌≡◌, BadMode, Beside, Bool, Busy, CallFits, Comes, CtlAnswer, Err, In, Kept, ModeFault, None, NotLive, NotModeSet, NotOwner, Ok, OpenGrant, Option, OutOfMemory, Row, SetMode, Some, Standing, State, after_mode_fault, and_from, ap, arith, cond, creds_of, eq-eqb, eqb, false, false≢true, holder_of, image_with_mode, is_owner, list_any-map, logged, ltb, mode_excluding, mode_fault, mode_outcome, moded_nodes, moded_to, ne_eqb, node_at, node_by, nodes_of, not, not_from_false, or_left, or_right, parent_in, refl, row_at, settled, standing_of, stands_on, subst, true, writer_of, ℕ}
+use Rattle.std.proofs.Common.{map, option_map, ltb-true}
 use Rattle.trio_laws.proofs.Modes.{MayChange, may_change}
-use Rattle.trio_nodes.specs.Nodes.{node_at}
-use Rattle.trio_nodes.specs.Standing.{Standing, stands_on}
-use Rattle.trio_nodes.specs.After.{moded_nodes}
-use Rattle.trio_nodes.specs.Legal.{is_owner, parent_in}
-use Rattle.trio_laws.specs.history.Stands.{node_by, nodes_of, standing_of, writer_of}
-use Rattle.trio_laws.specs.history.Entries.{Beside, mode_entry}
-use Rattle.trio_laws.specs.history.Recorded.{CallFits}
+use Rattle.trio_laws.specs.history.Entries.{mode_entry}
 use Rattle.trio_laws.proofs.history.Extends.{Comes', Extends, past_is}
 use Rattle.trio_laws.proofs.history.Facts.{any_none, node_is}
-use Rattle.trio_lists.proofs.Filters.{list_any-map}
 use Rattle.trio_laws.proofs.history.ModeNodes.{mode_nodes}
 
 -- why a change is refused, of the parts that decide it

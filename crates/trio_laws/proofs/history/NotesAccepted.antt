@@ -1,26 +1,7 @@
 -- What is noted of live files after an accepted release is what its files tell.
-use Rattle.std.proofs.Common.{◌≡◌, ℕ, ◌+◌, ◌<◌, Bool, true, false, cond, ◌&&◌, not, length, [], Option, Some, None, is_some, sym, refl, ap, ◌∙◌, inl, inr, arith, ext_get_or}
-use Rattle.std.specs.Option.{option_map}
-use Rattle.std.specs.Str.{bytes_eq}
-use Rattle.std.proofs.lemmas.Bool.{both_ways, or_parts, cases_lt, not-false}
-use Rattle.std.proofs.lemmas.Slice.Eq.{bytes_eq-Decides}
-use Rattle.trio_rights.specs.Row.{Row}
-use Rattle.trio_rights.specs.Bundle.{Bundle, is_written}
-use Rattle.trio_lists.specs.Lists.{is_among}
-use Rattle.trio_layout.specs.Accept.{is_accepted, next}
-use Rattle.trio_layout.specs.Entries.{slot_bytes}
-use Rattle.trio_layout.specs.Image.{Image, IsFit, row_at}
-use Rattle.trio_layout.specs.Survey.{Met, plain, row_by, root_of}
-use Rattle.trio_layout.specs.Verifies.{Verifies}
-use Rattle.trio_nodes.specs.declared.entry.RawFile.{RawFile}
-use Rattle.trio_state.specs.Given.{GivenTo}
-use Rattle.trio_state.specs.Kept.{Kept}
-use Rattle.trio_state.specs.Listed.{Notes, notes_after}
-use Rattle.trio_state.specs.State.{State, settled, creds_of}
-use Rattle.trio_surveys.proofs.Images.{met_numbered, root_is_met, read_met, row_met, row_at_is}
-use Rattle.trio_laws.specs.history.Entries.{name_by, bundle_handed, is_told, told_file, told_by, raw_file, raw_files}
-use Rattle.trio_laws.specs.history.Stands.{name_of}
-use Rattle.trio_laws.specs.history.ToldLaws.{ReleaseNotes, note_of, notes_of}
+use Rattle.trio_laws.proofs.Words.{◌&&◌, ◌+◌, ◌<◌, ◌∙◌, ◌≡◌, Bool, Bundle, GivenTo, Image, IsFit, Kept, Met, None, Notes, Option, RawFile, Row, Some, State, Verifies, [], ap, arith, both_ways, bundle_handed, bytes_eq, bytes_eq-Decides, cases_lt, cond, creds_of, ext_get_or, false, inl, inr, is_accepted, is_among, is_told, is_written, length, met_numbered, name_by, name_of, next, not, not-false, note_of, notes_after, notes_of, option_map, or_parts, plain, raw_file, raw_files, read_met, refl, root_is_met, root_of, row_at, row_at_is, row_by, row_met, settled, slot_bytes, sym, told_by, told_file, true, ℕ}
+use Rattle.std.proofs.Common.{is_some}
+use Rattle.trio_laws.specs.history.ToldLaws.{ReleaseNotes}
 use Rattle.trio_laws.proofs.history.AcceptedFiles.{fitJ, verifiesJ, Now, now, kept_follows, FileIs, Stayed, Wrote, New, file_is, unheld_now}
 use Rattle.trio_laws.proofs.history.Follows.{Follows, size_follows}
 use Rattle.trio_laws.proofs.history.Listing.{met_at, tables_of, listing, name_listed, slot_named}

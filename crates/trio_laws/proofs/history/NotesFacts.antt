@@ -1,23 +1,8 @@
 -- What is noted of live files, number by number.
-use Rattle.std.proofs.Common.{◌≡◌, ℕ, zero, suc, ◌+◌, ◌<◌, ◌≤◌, ◌⊎◌, List, [], ◌∷◌, length, get_or, set, Option, Some, None, refl, ap, ◌∙◌, inl, inr, arith, filter_map, length-set, get_or-set_same, get_or-set_other}
-use Rattle.std.specs.List.{cons_option}
-use Rattle.std.specs.Option.{option_map}
-use Rattle.std.proofs.lemmas.Bool.{cases_eq}
-use Rattle.trio_rights.specs.Row.{Row}
-use Rattle.trio_lists.specs.Counting.{count_up}
-use Rattle.trio_lists.proofs.Tabulated.{tabulated-length, tabulated-get, tabulated-same}
-use Rattle.trio_lists.specs.Lists.{tabulated}
-use Rattle.trio_layout.specs.Image.{IsFit, Image, row_at}
-use Rattle.trio_layout.specs.Survey.{plain, survey}
-use Rattle.trio_layout.specs.Verifies.{Verifies}
-use Rattle.trio_nodes.specs.declared.note.Note.{Note}
-use Rattle.trio_nodes.specs.declared.entry.RawFile.{RawFile}
-use Rattle.trio_state.specs.Listed.{Notes, note_told, notes_after}
-use Rattle.trio_surveys.specs.Reading.{with_other, AgreeOn}
-use Rattle.trio_surveys.proofs.Sheets.{Pages}
+use Rattle.trio_laws.proofs.Words.{◌+◌, ◌<◌, ◌∙◌, ◌∷◌, ◌≡◌, ◌≤◌, ◌⊎◌, AgreeOn, Image, IsFit, List, None, Note, Notes, Option, Pages, RawFile, Row, Some, Verifies, [], ap, arith, cases_eq, cons_option, count_up, filter_map, get_or, inl, inr, length, length-set, name_of, note_of, notes_after, notes_of, option_map, plain, refl, row_at, set, size_of, suc, survey, tabulated, tabulated-get, tabulated-length, tabulated-same, with_other, zero, ℕ}
+use Rattle.std.proofs.Common.{get_or-set_same, get_or-set_other}
+use Rattle.trio_state.specs.Listed.{note_told}
 use Rattle.trio_laws.proofs.Agreeing.{image_with}
-use Rattle.trio_laws.specs.history.Stands.{name_of, size_of}
-use Rattle.trio_laws.specs.history.ToldLaws.{note_of, notes_of}
 use Rattle.trio_laws.proofs.history.Still.{name_still, size_still}
 
 -- what is noted of a number of an image

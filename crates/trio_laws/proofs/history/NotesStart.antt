@@ -1,22 +1,7 @@
 -- What is noted of live files at the start is what the rows of the image tell.
-use Rattle.std.proofs.Common.{◌≡◌, ℕ, ◌+◌, ◌<◌, List, length, Option, Some, None, sym, refl, ap, ◌∙◌}
-use Rattle.std.specs.Option.{option_map}
-use Rattle.trio_lists.proofs.Tabulated.{tabulated-length, tabulated-same}
-use Rattle.trio_lists.specs.Lists.{In, tabulated}
-use Rattle.trio_rights.specs.Row.{Row, row_in}
-use Rattle.trio_rights.specs.declared.rights.Creds.{Creds}
-use Rattle.trio_layout.specs.Body.{body_at}
-use Rattle.trio_layout.specs.Image.{Image, IsFit, row_at}
-use Rattle.trio_layout.specs.Survey.{plain, row_of, survey}
-use Rattle.trio_layout.specs.Verifies.{Verifies}
-use Rattle.trio_nodes.specs.declared.grant.GrantKind.TheVariants.{Write}
-use Rattle.trio_nodes.specs.declared.note.Note.{Note}
-use Rattle.trio_state.specs.ImageNodes.{body_of_row, note_by_row}
-use Rattle.trio_state.specs.Kept.{Kept}
-use Rattle.trio_state.specs.Run.{start, IsWhole}
-use Rattle.trio_state.specs.State.{OpenGrant, State, settled}
-use Rattle.trio_laws.specs.history.Stands.{name_of, size_of}
-use Rattle.trio_laws.specs.history.ToldLaws.{StartNotes, note_of}
+use Rattle.trio_laws.proofs.Words.{◌+◌, ◌<◌, ◌∙◌, ◌≡◌, Creds, Image, In, IsFit, IsWhole, Kept, List, None, Note, OpenGrant, Option, Row, Some, State, Verifies, Write, ap, body_at, body_of_row, length, name_of, note_of, option_map, plain, refl, row_at, row_in, row_of, settled, size_of, start, survey, sym, tabulated, tabulated-length, tabulated-same, ℕ}
+use Rattle.trio_state.specs.ImageNodes.{note_by_row}
+use Rattle.trio_laws.specs.history.ToldLaws.{StartNotes}
 use Rattle.trio_laws.proofs.Runs.{start_kept}
 use Rattle.trio_laws.proofs.history.Listing.{body_met}
 use Rattle.trio_laws.proofs.history.NotesFacts.{note_with, noted}

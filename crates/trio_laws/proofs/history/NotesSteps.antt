@@ -1,22 +1,5 @@
 -- Steps that end no bundle, and refused releases, leave what is noted of live files.
-use Rattle.std.proofs.Common.{◌≡◌, ℕ, ◌≤◌, take, Option, Some, None, Ok, sym, refl, ap, ◌∙◌, subst, inl, inr, arith}
-use Rattle.std.proofs.lemmas.Bool.{cases_eq, false≢true}
-use Rattle.trio_rights.specs.Row.{Row}
-use Rattle.trio_rights.specs.Bundle.{Bundle}
-use Rattle.trio_lists.specs.Lists.{In}
-use Rattle.trio_layout.specs.Image.{Image, row_at}
-use Rattle.trio_layout.specs.Mode.{image_with_mode}
-use Rattle.trio_layout.specs.Survey.{Met, plain, FileRead, file_of, survey, row_by}
-use Rattle.trio_nodes.specs.declared.answers.GrantFault.{GrantFault}
-use Rattle.trio_nodes.specs.declared.answers.ModeFault.{ModeFault}
-use Rattle.trio_nodes.specs.declared.grant.GrantKind.{GrantKind}
-use Rattle.trio_nodes.specs.declared.grant.GrantKind.TheVariants.{Read, Write, Hold}
-use Rattle.trio_state.specs.Allotments.{free_pages, free_numbers, allots}
-use Rattle.trio_state.specs.Grants.{grant_fault, opened, opens}
-use Rattle.trio_state.specs.Kept.{Kept}
-use Rattle.trio_state.specs.State.{OpenGrant, State, settled, logged}
-use Rattle.trio_state.specs.Step.{Event, Grant, Allot, Back, Release, Settle, SetMode, CtlAnswer, Does, granted_to, allot_outcome, mode_fault, moded_to}
-use Rattle.trio_surveys.proofs.ModedImage.{mode_fit, mode_verifies}
+use Rattle.trio_laws.proofs.Words.{◌∙◌, ◌≡◌, ◌≤◌, Allot, Back, Bundle, CtlAnswer, Does, Event, FileRead, Grant, GrantFault, GrantKind, Hold, Image, In, Kept, Met, ModeFault, None, Ok, OpenGrant, Option, Read, Release, Row, SetMode, Settle, Some, State, Write, allot_outcome, allots, ap, arith, bundle_handed, cases_eq, false≢true, file_of, free_numbers, free_pages, grant_fault, granted_to, image_with_mode, inl, inr, logged, mode_fault, mode_fit, mode_verifies, moded_to, notes_of, opened, opens, plain, refl, row_at, row_by, settled, subst, survey, sym, take, ℕ}
 use Rattle.trio_laws.proofs.Allots.{pages as pages_allotted, agree as allot_agrees, fit' as allot_fits}
 use Rattle.trio_laws.proofs.Backs.{settled_back}
 use Rattle.trio_laws.proofs.Bundles.{closed_unparted}
@@ -27,8 +10,7 @@ use Rattle.trio_laws.proofs.Possible.{refused_ends}
 use Rattle.trio_laws.proofs.Refusing.{pages as pages_refused, agree as refused_agrees, fit' as refused_fits}
 use Rattle.trio_laws.proofs.StateFacts.{live_met}
 use Rattle.trio_laws.proofs.WriteGrant.{pages as pages_lent, agree as lent_agrees, fit' as lent_fits}
-use Rattle.trio_laws.specs.history.Entries.{bundle_handed}
-use Rattle.trio_laws.specs.history.ToldLaws.{EndsNone, RefusedNotes, StepsKeepNotes, notes_of}
+use Rattle.trio_laws.specs.history.ToldLaws.{EndsNone, RefusedNotes, StepsKeepNotes}
 use Rattle.trio_laws.proofs.history.Follows.{size_follows}
 use Rattle.trio_laws.proofs.history.ModeNodes.{mode_follows, mode_name, row_here, row_else}
 use Rattle.trio_laws.proofs.history.NotesFacts.{noted, noted_row, notes_by_one, notes_still}

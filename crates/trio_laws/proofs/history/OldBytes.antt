@@ -1,30 +1,7 @@
 -- The bytes of a live regular file are as many as its size says.
-use Rattle.std.proofs.Common.{◌≡◌, ℕ, suc, true, eqb, List, [], ◌∷◌, length, Option, Some, None, Ok, sym, refl, ap, ◌∙◌, subst, arith, length-take, take_all, append-nil}
-use Rattle.std.proofs.lemmas.Bool.{and_parts, and_from, eqb-true, eq-eqb, both_ways}
-use Rattle.trio_nodes.specs.declared.grant.GrantKind.{GrantKind}
-use Rattle.trio_nodes.specs.declared.grant.GrantKind.TheVariants.{Write}
-use Rattle.trio_rights.specs.Row.{Row}
-use Rattle.trio_rights.specs.declared.kind.Kind.TheVariants.{Regular}
-use Rattle.trio_layout.specs.Core.{page_of}
-use Rattle.trio_layout.specs.Chain.{Chain}
-use Rattle.trio_lists.specs.Lists.{In}
-use Rattle.trio_layout.specs.Survey.{plain}
-use Rattle.trio_layout.specs.Pages.{settled_chain, block_sheets, sheets_of}
-use Rattle.trio_layout.specs.Image.{row_at}
-use Rattle.trio_state.specs.Kept.{Kept}
-use Rattle.trio_rights.specs.Sheets.{Sheet, sheet_numbers}
-use Rattle.trio_state.specs.State.{OpenGrant, State, settled}
-use Rattle.trio_nodes.specs.GrantKinds.{is_write}
-use Rattle.trio_surveys.proofs.Images.{MetAt}
-use Rattle.trio_lists.proofs.Filters.{find-In}
-use Rattle.trio_surveys.proofs.Local.{reads_from}
-use Rattle.trio_lists.proofs.Members.{In-right}
-use Rattle.trio_surveys.proofs.Owned.{pages_are}
-use Rattle.trio_surveys.proofs.Sheets.{sheets_in, sheets_all}
+use Rattle.trio_laws.proofs.Words.{◌∙◌, ◌∷◌, ◌≡◌, Chain, GrantKind, In, In-right, Kept, LentWhole, List, MetAt, None, Ok, OpenGrant, Option, Regular, Row, Sheet, Some, State, Write, [], and_from, and_parts, ap, arith, block_sheets, blocks_of, both_ways, bytes_of, bytes_of_sheets, eq-eqb, eqb, eqb-true, find-In, is_write, length, length-take, page_of, pages_are, plain, reads_from, refl, resized, row_at, settled, settled_chain, sheet_numbers, sheets_all, sheets_in, sheets_of, size_of, subst, suc, sym, take_all, true, writer_of, ℕ}
+use Rattle.std.proofs.Common.{append-nil}
 use Rattle.trio_laws.proofs.StateFacts.{pages_there, write_is}
-use Rattle.trio_nodes.specs.Apply.{resized}
-use Rattle.trio_laws.specs.history.Stands.{size_of, blocks_of, bytes_of_sheets, bytes_of, writer_of}
-use Rattle.trio_laws.specs.history.Recorded.{LentWhole}
 use Rattle.trio_laws.proofs.history.Blocks.{chain_count, flat_long}
 use Rattle.trio_laws.proofs.history.Follows.{chain_read, size_read}
 use Rattle.trio_laws.proofs.history.Listing.{met_at, chain_met}

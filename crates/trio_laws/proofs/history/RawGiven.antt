@@ -1,31 +1,9 @@
 -- Which files of a release were given, and which grants end with it.
-use Rattle.std.proofs.Common.{◌≡◌, ℕ, Bool, true, false, cond, ◌&&◌, ◌||◌, not, eqb, List, [], ◌∷◌, map, Option, Some, None, is_some, sym, refl, ap, ◌∙◌, inl, inr, ◌⊎◌, arith, filter, filter_map, find}
-use Rattle.std.specs.List.{list_any, cons_option}
-use Rattle.std.proofs.lemmas.Bool.{and_parts, and_from, eqb-true, eq-eqb, or_cases, or_left, or_right}
-use Rattle.trio_rights.specs.Row.{Row}
-use Rattle.trio_lists.specs.Lists.{In, is_among}
-use Rattle.trio_lists.specs.Counting.{count_up}
-use Rattle.trio_state.specs.Bundles.{grants_after, is_in_bundle, lent_part}
-use Rattle.trio_nodes.specs.GrantKinds.{is_hold, is_read, is_write}
-use Rattle.trio_state.specs.Given.{GivenTo}
-use Rattle.trio_layout.specs.Image.{Image, row_at}
-use Rattle.trio_state.specs.Kept.{Kept}
-use Rattle.trio_rights.specs.Bundle.{Written, Bundle, is_written}
-use Rattle.trio_state.specs.State.{OpenGrant, State, settled}
-use Rattle.trio_lists.proofs.Filters.{find-In, list_any-In, In-list_any, list_any-map, filter-same, filter-map}
-use Rattle.trio_surveys.proofs.Images.{some_of, met_numbered}
-use Rattle.trio_lists.proofs.Members.{is_among-In}
+use Rattle.trio_laws.proofs.Words.{◌&&◌, ◌||◌, ◌∙◌, ◌∷◌, ◌≡◌, ◌⊎◌, Bool, Bundle, GivenTo, Handed, Image, In, In-list_any, Kept, List, None, OpenGrant, Option, RawFile, Row, Some, Standing, State, Written, [], and_from, and_parts, ap, arith, bundle_handed, bytes_eq, cond, cons_option, count_up, eq-eqb, eqb, eqb-true, false, filter-map, filter-same, filter_map, find-In, grants_after, inl, inr, is_among, is_among-In, is_given, is_handed, is_hold, is_in_bundle, is_read, is_told, is_write, is_written, lent_part, list_any, list_any-In, list_any-map, met_numbered, name_by, not, or_cases, or_left, or_right, plain, raw_file, raw_files, refl, row_at, settled, some_of, standing_of, sym, told_by, told_file, true, ℕ}
+use Rattle.std.proofs.Common.{map, is_some, filter, find}
 use Rattle.trio_lists.proofs.Counting.{count_in}
 use Rattle.trio_laws.proofs.StateFacts.{alone, write_alone}
-use Rattle.trio_layout.specs.Survey.{plain}
-use Rattle.trio_nodes.specs.Handed.{Handed}
-use Rattle.trio_nodes.specs.declared.entry.RawFile.{RawFile}
-use Rattle.trio_nodes.specs.Standing.{Standing, is_given}
-use Rattle.trio_nodes.specs.Legal.{is_handed}
 use Rattle.trio_laws.proofs.history.Extends.{standing_lent}
-use Rattle.trio_laws.specs.history.Stands.{standing_of}
-use Rattle.trio_laws.specs.history.Entries.{name_by, bundle_handed, is_told, told_file, told_by, raw_file, raw_files}
-use Rattle.std.specs.Str.{bytes_eq}
 use Rattle.trio_laws.proofs.history.Listing.{met_at}
 use Rattle.trio_laws.proofs.history.RawParts.{raw_number}
 

@@ -1,15 +1,7 @@
 -- The nodes after a release, one by one.
-use Rattle.std.proofs.Common.{◌≡◌, ℕ, zero, suc, ◌+◌, ◌*◌, ◌<◌, ◌≤◌, cond, eqb, List, [], ◌∷◌, ◌++◌, length, Option, Some, None, refl, ◌∙◌, inl, inr, ◌⊎◌, arith, flat_map, filter_map}
-use Rattle.std.specs.List.{cons_option}
-use Rattle.std.proofs.lemmas.Bool.{cases_eq}
-use Rattle.trio_lists.specs.Counting.{count_up}
-use Rattle.trio_nodes.specs.declared.node.Node.{Node}
-use Rattle.trio_nodes.specs.declared.entry.RawFile.{RawFile}
-use Rattle.trio_nodes.specs.Told.{ToldBlock}
-use Rattle.trio_nodes.specs.Nodes.{Nodes, node_at}
-use Rattle.trio_nodes.specs.After.{raw_node, raw_nodes, with_blocks, put_within}
+use Rattle.trio_laws.proofs.Words.{◌*◌, ◌++◌, ◌+◌, ◌<◌, ◌∙◌, ◌∷◌, ◌≡◌, ◌≤◌, ◌⊎◌, List, Node, Nodes, None, Option, RawFile, Some, ToldBlock, [], arith, cases_eq, cond, cons_option, count_up, eqb, filter_map, inl, inr, length, node_at, put_within, raw_node, raw_nodes, refl, suc, with_blocks, with_node-else, with_node-same, zero, ℕ}
+use Rattle.std.proofs.Common.{flat_map}
 use Rattle.trio_laws.proofs.history.WithNode.{with_length}
-use Rattle.trio_nodes.proofs.NodeFacts.{with_node-same, with_node-else}
 
 -- what becomes of a node, by its file where there is one
 abbrev pub becomes : List ToldBlock → Option RawFile → Option Node → Option Node

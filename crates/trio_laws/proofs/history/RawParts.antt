@@ -1,20 +1,5 @@
 -- The files and blocks of a release, one by one.
-use Rattle.std.proofs.Common.{◌≡◌, ℕ, zero, suc, ◌+◌, ◌*◌, Bool, true, false, cond, ltb, min, List, [], ◌∷◌, Option, Some, None, slice_get, sym, refl, ap, ◌∙◌, inl, inr, arith, unwrap_or}
-use Rattle.std.proofs.lemmas.Bool.{ne_eqb, eq-eqb, le-ltb}
-use Rattle.trio_rights.specs.Row.{Row}
-use Rattle.trio_rights.specs.declared.kind.Kind.{Kind}
-use Rattle.trio_rights.specs.declared.kind.Kind.TheVariants.{Regular, Directory}
-use Rattle.trio_layout.specs.Core.{page_of}
-use Rattle.trio_lists.specs.Lists.{In}
-use Rattle.trio_layout.specs.Image.{Image, row_at}
-use Rattle.trio_rights.specs.Bundle.{Bundle}
-use Rattle.trio_rights.specs.Sheets.{Sheet, sheet_numbers}
-use Rattle.trio_nodes.specs.Handed.{Handed}
-use Rattle.trio_nodes.specs.Told.{ToldBlock}
-use Rattle.trio_nodes.specs.declared.entry.RawFile.{RawFile}
-use Rattle.trio_nodes.specs.After.{with_blocks, put_within}
-use Rattle.trio_laws.specs.history.Entries.{is_told, told_by, raw_file, block_numbers, is_touched, is_block_told, told_blocks, told_blocks_of}
-use Rattle.trio_laws.specs.history.Stands.{size_of}
+use Rattle.trio_laws.proofs.Words.{◌*◌, ◌+◌, ◌∙◌, ◌∷◌, ◌≡◌, Bool, Bundle, Directory, Handed, Image, In, Kind, List, None, Option, RawFile, Regular, Row, Sheet, Some, ToldBlock, [], ap, arith, block_numbers, cond, eq-eqb, false, inl, inr, is_block_told, is_told, is_touched, le-ltb, ltb, min, ne_eqb, page_of, put_within, raw_file, refl, row_at, sheet_numbers, size_of, slice_get, suc, sym, told_blocks, told_blocks_of, told_by, true, unwrap_or, with_blocks, zero, ℕ}
 
 -- the file of a number has that number
 told_number : (before after : Image) (b : Bundle) (n : ℕ) (was is : Option Row) (f : RawFile) → told_by before after b n was is ≡ Some f → f.ino ≡ n

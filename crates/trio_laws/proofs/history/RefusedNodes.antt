@@ -1,48 +1,17 @@
 -- The nodes after a refused release.
-use Rattle.std.proofs.Common.{◌≡◌, ℕ, ltb, leb, ltb-true, ◌+◌, ◌*◌, ◌<◌, ◌≤◌, Bool, true, false, cond, ◌&&◌, ◌||◌, not, eqb, List, [], ◌++◌, length, take, drop, Option, Some, None, is_some, slice_get, sym, refl, ap, ◌∙◌, subst, ◌⊎◌, arith, flat_map, unwrap_or, find}
-use Rattle.std.proofs.lemmas.Bool.{and_parts, and_from, eqb-true, eq-eqb, both_ways, or_parts, cases_lt}
-use Rattle.trio_rights.specs.Row.{Row}
-use Rattle.trio_rights.specs.declared.kind.Kind.{Kind}
-use Rattle.trio_rights.specs.declared.kind.Kind.TheVariants.{Regular, Directory}
-use Rattle.trio_layout.specs.Core.{page_of}
-use Rattle.trio_lists.specs.Lists.{In, is_among}
-use Rattle.trio_layout.specs.Survey.{Met, plain, pages_of}
-use Rattle.trio_layout.specs.Pages.{block_sheets}
-use Rattle.trio_layout.specs.Image.{Image, IsFit, row_at}
-use Rattle.trio_state.specs.Kept.{Kept}
-use Rattle.trio_state.specs.Given.{GivenTo}
-use Rattle.trio_rights.specs.Bundle.{Written, Bundle, bundle_sheets, bundle_pages, is_written}
-use Rattle.trio_state.specs.Bundles.{Ends, refused_image, uncovered}
-use Rattle.trio_rights.specs.Sheets.{Sheet, sheet_numbers}
-use Rattle.trio_state.specs.State.{OpenGrant, State, settled}
-use Rattle.trio_nodes.specs.GrantKinds.{is_write}
-use Rattle.trio_surveys.specs.Reading.{with_other}
+use Rattle.trio_laws.proofs.Words.{◌&&◌, ◌*◌, ◌++◌, ◌+◌, ◌<◌, ◌||◌, ◌∙◌, ◌≡◌, ◌≤◌, ◌⊎◌, Bool, Bundle, Directory, Ends, GivenTo, Handed, HandedFile, Image, In, In-find, In-left, In-right, IsFit, IsMarked, Kept, Kind, LentWhole, List, Met, None, OpenGrant, Option, Pages, RawFile, Regular, Row, Sheet, Some, State, ToldBlock, Written, [], and_from, and_parts, ap, arith, block_numbers, block_sheets, blocks_of, both_ways, bundle_handed, bundle_pages, bundle_sheets, bytes_eq, bytes_of, bytes_of_sheets, cases_lt, chain_blocks, cond, drop, eq-eqb, eqb, eqb-true, false, find-In, is_among, is_block_told, is_core, is_told, is_touched, is_write, is_written, leb, length, listed_is_core, ltb, map-In, name_by, name_of, node_by, node_in, node_of, nodes_of, not, one_met, or_parts, page_from, page_of, page_same, pages_are, pages_of, place_there, plain, raw_blocks, raw_bytes, raw_file, raw_files, raw_nodes, refl, refused_image, row_at, settled, sheet_numbers, size_of, slice_get, some_of, subst, sym, take, told_blocks, told_blocks_of, told_by, told_file, true, uncovered, unwrap_or, with_blocks, with_other, with_pages_apart, with_pages_known, with_pages_there, writer_of, ℕ}
+use Rattle.std.proofs.Common.{ltb-true, is_some, flat_map, find}
 use Rattle.trio_laws.proofs.Bundles.{Closed, Unwritten, unwritten_apart, in_numbers}
-use Rattle.trio_lists.proofs.Filters.{find-In, In-find}
-use Rattle.trio_surveys.proofs.Images.{some_of, one_met}
-use Rattle.trio_lists.proofs.Members.{In-left, In-right, map-In}
-use Rattle.trio_surveys.proofs.Owned.{pages_are}
-use Rattle.trio_layout.specs.Range.{is_core}
-use Rattle.trio_surveys.proofs.Cores.{listed_is_core}
 use Rattle.trio_laws.proofs.Refusing.{pages, agree, fit'}
 use Rattle.trio_laws.proofs.Uncovered.{uncovered_handed, In-uncovered}
 use Rattle.trio_laws.proofs.history.Untouched.{handed_same}
-use Rattle.trio_surveys.proofs.Sheets.{Pages, with_pages_apart, with_pages_known, with_pages_there, page_same, page_from, place_there}
 use Rattle.trio_laws.proofs.StateFacts.{write_alone}
-use Rattle.trio_nodes.specs.Handed.{Handed, HandedFile}
-use Rattle.trio_nodes.specs.Told.{ToldBlock}
-use Rattle.trio_nodes.specs.declared.entry.RawFile.{RawFile}
-use Rattle.trio_nodes.specs.After.{with_blocks, raw_bytes, raw_nodes}
-use Rattle.trio_laws.specs.history.Stands.{name_of, size_of, blocks_of, bytes_of_sheets, bytes_of, node_of, node_by, node_in, nodes_of, writer_of}
-use Rattle.trio_laws.specs.history.Entries.{name_by, bundle_handed, is_told, told_file, told_by, raw_file, raw_files, raw_blocks, block_numbers, blocks_in as chain_blocks, is_touched, is_block_told, told_blocks, told_blocks_of}
-use Rattle.trio_laws.specs.history.Recorded.{LentWhole, IsMarked}
 use Rattle.trio_laws.proofs.history.Blocks.{flat_sheets, chunk}
 use Rattle.trio_laws.proofs.history.Listing.{met_at, chain_met, row_outside}
 use Rattle.trio_laws.proofs.history.OldBytes.{resized_same, old_long, count_is, lent_is}
 use Rattle.trio_laws.proofs.history.RawNodes.{becomes, part_of, blocks_in, raw_in, raw_out, raw_length}
 use Rattle.trio_laws.proofs.history.WithNode.{nodes_same, nodes_long}
 use Rattle.trio_laws.proofs.history.Facts.{node_is}
-use Rattle.std.specs.Str.{bytes_eq}
 use Rattle.trio_laws.proofs.history.RawParts.{raw_number, own_blocks, told_none, same_told, sheet_at, get_in}
 use Rattle.trio_laws.proofs.history.Still.{node_same, name_still, size_still, chain_still, blocks_still}
 use Rattle.trio_laws.proofs.history.Told.{Count, block_bytes, told_put}

@@ -1,36 +1,10 @@
 -- A refused release extends the history.
-use Rattle.std.proofs.Common.{◌≡◌, ℕ, ◌+◌, Bool, true, false, cond, ◌&&◌, not, eqb, List, [], ◌∷◌, map, length, Option, Some, None, sym, refl, ap, ◌∙◌, subst, inl, inr, ◌⊎◌, arith, filter, find}
-use Rattle.std.specs.List.{AllByRecursion}
-use Rattle.std.proofs.lemmas.Bool.{and_parts, and_from, eqb-true, eq-eqb, both_ways, or_left, not-true}
-use Rattle.trio_nodes.specs.declared.grant.GrantKind.TheVariants.{Write}
-use Rattle.trio_rights.specs.Row.{Row}
-use Rattle.trio_rights.specs.declared.kind.Kind.{Kind}
-use Rattle.trio_rights.specs.declared.kind.Kind.TheVariants.{Regular, Directory}
-use Rattle.trio_lists.specs.Lists.{In, is_among}
-use Rattle.trio_lists.specs.Counting.{count_up}
-use Rattle.trio_state.specs.Bundles.{Ends, refused_image}
-use Rattle.trio_state.specs.Given.{GivenTo}
-use Rattle.trio_layout.specs.Image.{Image, row_at}
-use Rattle.trio_state.specs.Kept.{Kept}
-use Rattle.trio_rights.specs.Bundle.{Written, Bundle, is_written}
-use Rattle.trio_state.specs.State.{OpenGrant, State, settled, creds_of}
-use Rattle.trio_state.specs.Tells.{Why}
-use Rattle.trio_state.specs.Step.{Release, Refused}
+use Rattle.trio_laws.proofs.Words.{◌&&◌, ◌+◌, ◌∙◌, ◌∷◌, ◌≡◌, ◌⊎◌, AllByRecursion, BlocksAreKnown, Bool, Bundle, Directory, Ends, GivenTo, Handed, HandedFile, HasNameOf, HasPlaceOf, HasRightsOf, Image, In, In-list_any, IsMarked, IsWithinGrants, Kept, Kind, LentWhole, List, Node, Nodes, None, OpenGrant, Option, RawFile, Refused, Regular, Release, Row, SameContent, Some, Standing, State, ToldBlock, Why, Write, Written, [], and_from, and_parts, ap, arith, both_ways, bundle_handed, bytes_in, bytes_of, cond, count_up, creds_of, entry_in, eq-eqb, eqb, eqb-true, false, find-In, inl, inr, is_among, is_given, is_handed, is_others, is_told, is_written, length, list_any-In, list_any-map, node_at, node_by, node_of, nodes_of, not, not-true, or_left, raw_blocks, raw_entry, raw_file, raw_files, raw_nodes, refl, refused_image, row_at, settled, size_of, some_of, standing_of, stands, subst, sym, told_by, true, writer_of, ℕ}
+use Rattle.std.proofs.Common.{map, filter, find}
 use Rattle.trio_laws.proofs.Bundles.{Closed}
-use Rattle.trio_lists.proofs.Filters.{find-In, list_any-In, In-list_any, list_any-map}
-use Rattle.trio_surveys.proofs.Images.{some_of}
 use Rattle.trio_laws.proofs.StateFacts.{alone}
-use Rattle.trio_nodes.specs.declared.node.Node.{Node}
-use Rattle.trio_nodes.specs.Handed.{Handed, HandedFile}
-use Rattle.trio_nodes.specs.Told.{ToldBlock}
-use Rattle.trio_nodes.specs.declared.entry.RawFile.{RawFile}
-use Rattle.trio_nodes.specs.Nodes.{Nodes, node_at, entry_in}
-use Rattle.trio_nodes.specs.Standing.{Standing, stands, is_others, is_given}
-use Rattle.trio_nodes.specs.After.{bytes_in, raw_nodes}
-use Rattle.trio_nodes.specs.Legal.{IsWithinGrants, SameContent, HasRightsOf, HasPlaceOf, HasNameOf, LegalVerdict, BlocksAreKnown, is_handed}
-use Rattle.trio_laws.specs.history.Stands.{size_of, bytes_of, node_of, node_by, nodes_of, standing_of, writer_of}
-use Rattle.trio_laws.specs.history.Entries.{bundle_handed, is_told, told_by, raw_file, raw_files, raw_blocks, raw_entry, refused_for}
-use Rattle.trio_laws.specs.history.Recorded.{LentWhole, IsMarked}
+use Rattle.trio_nodes.specs.Legal.{LegalVerdict}
+use Rattle.trio_laws.specs.history.Entries.{refused_for}
 use Rattle.trio_laws.proofs.history.Extends.{Makes, past_is}
 use Rattle.trio_laws.proofs.history.Facts.{node_is}
 use Rattle.trio_laws.proofs.history.OldBytes.{old_long}

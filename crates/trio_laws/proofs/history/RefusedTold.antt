@@ -1,34 +1,9 @@
 -- What a refused release tells, by the images before and after, is what the bundle and the notes tell.
-use Rattle.std.proofs.Common.{◌≡◌, ℕ, ◌+◌, ◌<◌, ◌≤◌, Bool, true, false, cond, ◌&&◌, ◌||◌, not, List, [], ◌++◌, Option, Some, None, slice_get, sym, refl, ap, ◌∙◌, subst, inl, inr, arith, filter_map}
-use Rattle.std.specs.Prelude.{is_some, map}
-use Rattle.std.specs.Option.{option_map, option_map_or}
-use Rattle.std.specs.Str.{bytes_eq}
-use Rattle.std.proofs.lemmas.Bool.{cases_Bool, or_cases, or_left, or_right}
-use Rattle.std.proofs.lemmas.Slice.Eq.{bytes_eq-Decides}
-use Rattle.std.proofs.lemmas.List.{map-id}
+use Rattle.trio_laws.proofs.Words.{◌&&◌, ◌++◌, ◌+◌, ◌<◌, ◌||◌, ◌∙◌, ◌≡◌, ◌≤◌, Bool, Bundle, Case, Ends, Handed, Image, In, In-cases, In-is_among, In-left, In-map, In-right, IsFit, IsJudgeable, Kind, List, None, Notes, Option, Pages, Raw, RawFile, Regular, Row, Sheet, Some, State, Written, [], ap, are_new, arith, block_numbers, blocks_of_kind, bundle_handed, bytes_eq, bytes_eq-Decides, case_in, cases_Bool, chain_blocks, changed_blocks, cond, false, filter_map, flat_map-same, inl, inr, is_among, is_among-In, is_some, is_told, is_written, lent_blocks, map, map-In, map-id, name_by, name_of, not, noted_name, noted_size, notes_of, option_map, option_map_or, or_cases, or_left, or_right, raw_blocks, raw_entry, raw_file, raw_files, refl, refused_image, row_at, settled, sheet_numbers, size_of, slice_get, subst, sym, told_blocks, told_blocks_of, told_by, told_row, true, uncovered, ℕ}
 use Rattle.std.proofs.Math.Bool.{or-false}
-use Rattle.trio_lists.specs.Lists.{In, are_new, is_among}
-use Rattle.trio_lists.proofs.Members.{In-cases, In-is_among, In-left, In-map, In-right, flat_map-same, is_among-In, map-In}
-use Rattle.trio_rights.specs.declared.kind.Kind.{Kind}
-use Rattle.trio_rights.specs.declared.kind.Kind.TheVariants.{Regular}
-use Rattle.trio_rights.specs.Row.{Row}
-use Rattle.trio_rights.specs.Bundle.{Written, Bundle, is_written}
-use Rattle.trio_rights.specs.Sheets.{Sheet, sheet_numbers}
-use Rattle.trio_layout.specs.Case.{Case}
-use Rattle.trio_layout.specs.Image.{Image, IsFit, row_at}
 use Rattle.trio_nodes.specs.declared.answers.ReleaseAnswer.{ReleaseAnswer}
-use Rattle.trio_nodes.specs.declared.entry.Entry.TheVariants.{Raw}
-use Rattle.trio_nodes.specs.Handed.{Handed}
-use Rattle.trio_nodes.specs.declared.entry.RawFile.{RawFile}
-use Rattle.trio_state.specs.Bundles.{Ends, refused_image, uncovered}
-use Rattle.trio_state.specs.Listed.{Notes, blocks_of_kind, changed_blocks, is_handed, lent_blocks, noted_name, noted_size, refused_blocks, refused_files, told_row, told_same}
-use Rattle.trio_state.specs.State.{State, settled}
-use Rattle.trio_state.specs.Tells.{case_in}
-use Rattle.trio_surveys.proofs.Sheets.{Pages}
-use Rattle.trio_laws.specs.RuleLaws.{IsJudgeable}
-use Rattle.trio_laws.specs.history.Entries.{block_numbers, blocks_in as chain_blocks, bundle_handed, is_told, name_by, raw_blocks, raw_entry, raw_file, raw_files, told_blocks, told_blocks_of, told_by}
-use Rattle.trio_laws.specs.history.Stands.{name_of, size_of}
-use Rattle.trio_laws.specs.history.ToldLaws.{RefusedIsListed, notes_of}
+use Rattle.trio_state.specs.Listed.{is_handed, refused_blocks, refused_files, told_same}
+use Rattle.trio_laws.specs.history.ToldLaws.{RefusedIsListed}
 use Rattle.trio_laws.proofs.Bundles.{Closed, closed_unparted, finds_unwritten, in_numbers, unwritten_finds, written_from}
 use Rattle.trio_laws.proofs.Possible.{refused_ends}
 use Rattle.trio_laws.proofs.Refusing.{agree, fit', pages}

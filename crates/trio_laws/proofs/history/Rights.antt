@@ -1,17 +1,8 @@
 -- The nodes of a state deny what its rows deny.
-use Rattle.std.proofs.Common.{◌≡◌, ℕ, zero, suc, cond, eqb, List, [], ◌∷◌, ◌++◌, map, length, get_or, Option, Some, None, refl, ap, ◌∙◌, option_map, arith}
-use Rattle.trio_rights.specs.declared.rights.Creds.{Creds}
-use Rattle.trio_rights.specs.declared.rights.Need.{Need}
-use Rattle.trio_rights.specs.Row.{Row, row_in}
+use Rattle.trio_laws.proofs.Words.{◌++◌, ◌∙◌, ◌∷◌, ◌≡◌, Creds, GrantKind, Kept, List, Need, None, Option, Row, Some, State, [], ap, arith, cond, creds_of, denied_by, eqb, get_or, length, node_by, nodes_of, refl, row_at, row_in, settled, suc, tabulated-length, writer_of, zero, ℕ}
+use Rattle.std.proofs.Common.{map, option_map}
 use Rattle.trio_rights.specs.May.{row_permits, ancestors, denier}
-use Rattle.trio_nodes.specs.declared.grant.GrantKind.{GrantKind}
-use Rattle.trio_layout.specs.Image.{row_at}
-use Rattle.trio_state.specs.State.{State, settled, creds_of}
-use Rattle.trio_state.specs.Grants.{denied_by}
-use Rattle.trio_state.specs.Kept.{Kept}
-use Rattle.trio_lists.proofs.Tabulated.{tabulated-length}
 use Rattle.trio_nodes.specs.Legal.{rights_row, rights_rows, grant_denier}
-use Rattle.trio_laws.specs.history.Stands.{node_by, nodes_of, writer_of}
 use Rattle.trio_laws.proofs.history.Facts.{find_same, node_is}
 
 -- a row without its place

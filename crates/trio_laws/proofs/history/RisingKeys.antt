@@ -1,17 +1,5 @@
 -- What a function gives of numbers one after another is any list of the same things, in rising order of their keys.
-use Rattle.std.proofs.Common.{◌≡◌, ℕ, zero, suc, ◌+◌, ◌<◌, ◌≤◌, Bool, true, cond, leb, List, [], ◌∷◌, ◌++◌, Option, Some, None, sym, refl, ap, ◌∙◌, subst, inl, inr, ◌⊎◌, arith, filter_map}
-use Rattle.std.specs.Prelude.{map}
-use Rattle.std.specs.List.{cons_option}
-use Rattle.std.proofs.lemmas.List.{map-append}
-use Rattle.std.proofs.lemmas.Bool.{leb-true, and_from}
-use Rattle.trio_lists.specs.Lists.{In, are_new}
-use Rattle.trio_lists.specs.Counting.{count_up}
-use Rattle.trio_lists.specs.Sorting.{inserted_by, sorted_by}
-use Rattle.trio_lists.proofs.Members.{In-map, map-In}
-use Rattle.trio_lists.proofs.New.{are_new-first}
-use Rattle.trio_lists.proofs.Sorting.{in_sorted, sorted_in, sorted_new}
-use Rattle.trio_lists.proofs.Gathered.{new_beside}
-use Rattle.trio_lists.proofs.Marked.{are_new-append}
+use Rattle.trio_laws.proofs.Words.{◌++◌, ◌+◌, ◌<◌, ◌∙◌, ◌∷◌, ◌≡◌, ◌≤◌, ◌⊎◌, Bool, In, In-map, List, None, Option, Some, [], and_from, ap, are_new, are_new-append, are_new-first, arith, cond, cons_option, count_up, filter_map, in_sorted, inl, inr, inserted_by, leb, leb-true, map, map-In, map-append, new_beside, refl, sorted_by, sorted_in, sorted_new, subst, suc, sym, true, zero, ℕ}
 
 -- each key is below those after it
 abbrev pub Rising : {X : Type 0} → (X → ℕ) → List X → Type 0

@@ -1,34 +1,10 @@
 -- A step of a settle extends the history, where the calls that are told beside it are what the tree does.
-use Rattle.std.proofs.Common.{◌≡◌, ℕ, ◌+◌, Bool, true, false, ◌&&◌, ◌||◌, not, eqb, map, filter, sym, refl, ap, ◌∙◌, subst, arith}
-use Rattle.std.specs.List.{list_all}
-use Rattle.std.specs.Option.{option_map_or}
-use Rattle.std.proofs.lemmas.Bool.{and_parts, eqb-true, false≢true}
-use Rattle.trio_lists.specs.Lists.{In, is_among}
-use Rattle.trio_rights.specs.Sheets.{sheet_numbers}
-use Rattle.trio_state.specs.Bundles.{grants_after, has_all, is_in_bundle, lent_part, Ends}
-use Rattle.trio_nodes.specs.GrantKinds.{is_hold, is_read, is_write}
-use Rattle.trio_state.specs.Kept.{Kept}
-use Rattle.trio_rights.specs.Bundle.{Bundle, is_written}
-use Rattle.trio_state.specs.State.{IsLibrary, OpenGrant, State, settled, creds_of}
-use Rattle.trio_state.specs.Step.{Settle, CtlAnswer, Does}
-use Rattle.trio_state.specs.Given.{GivenTo, HasNoRead}
-use Rattle.trio_state.specs.Allotments.{has_none_out, out_after}
-use Rattle.trio_layout.specs.Accept.{is_accepted, next}
-use Rattle.trio_nodes.specs.declared.grant.GrantKind.{GrantKind}
-use Rattle.trio_nodes.specs.declared.grant.GrantKind.TheVariants.{Read}
-use Rattle.trio_nodes.specs.Handed.{Handed, HandedFile}
-use Rattle.trio_nodes.specs.Nodes.{Nodes}
-use Rattle.trio_nodes.specs.Legal.{IsWithinGrants}
+use Rattle.trio_laws.proofs.Words.{◌&&◌, ◌+◌, ◌||◌, ◌∙◌, ◌≡◌, Beside, BesideFits, Bool, Bundle, CtlAnswer, Does, Ends, GivenTo, GrantKind, Handed, HandedFile, HasNoRead, In, IsLibrary, IsMarked, IsWithinGrants, Kept, LentWhole, Nodes, OpenGrant, Read, Settle, Standing, State, and_parts, ap, arith, batch_nodes, bundle_handed, creds_of, eqb, eqb-true, false, false≢true, filter-map, filter-same, grants_after, has_all, is_accepted, is_among, is_hold, is_in_bundle, is_read, is_write, is_written, lent_part, list_all, list_all-In, map-In, next, nodes_of, not, option_map_or, out_after, refl, settled, sheet_numbers, standing_of, subst, sym, true, ℕ}
+use Rattle.std.proofs.Common.{map, filter}
+use Rattle.trio_state.specs.Allotments.{has_none_out}
 use Rattle.trio_nodes.specs.Libraries.{listed_creds}
-use Rattle.trio_lists.proofs.Filters.{filter-same, filter-map}
 use Rattle.trio_laws.proofs.history.AcceptedStep.{within}
-use Rattle.trio_lists.proofs.Members.{list_all-In, map-In}
-use Rattle.trio_nodes.specs.Standing.{Standing}
-use Rattle.trio_nodes.specs.After.{batch_nodes}
 use Rattle.trio_nodes.proofs.LibraryFacts.{batch_after}
-use Rattle.trio_laws.specs.history.Stands.{nodes_of, standing_of}
-use Rattle.trio_laws.specs.history.Entries.{Beside, bundle_handed}
-use Rattle.trio_laws.specs.history.Recorded.{LentWhole, IsMarked, BesideFits}
 use Rattle.trio_laws.proofs.history.Extends.{Extends, past_is, standing_lent}
 
 -- of the library's own grants, all but read grants are in the bundle

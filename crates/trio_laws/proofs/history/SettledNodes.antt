@@ -1,32 +1,11 @@
 -- Where no write grant is open a state stands for the nodes of its settled image.
-use Rattle.std.proofs.Common.{◌≡◌, ℕ, ◌+◌, ◌<◌, leb, ltb, eqb, false, cond, ◌&&◌, [], ◌∷◌, length, take, get_or, Option, Some, None, sym, refl, ap, ◌∙◌, inl, inr, arith}
-use Rattle.std.specs.Option.{option_map, option_map_or}
-use Rattle.std.proofs.lemmas.Bool.{cases_eq, lt-leb}
+use Rattle.trio_laws.proofs.Words.{◌&&◌, ◌+◌, ◌<◌, ◌∙◌, ◌∷◌, ◌≡◌, Core, Directory, GrantKind, Image, In, Kept, Kind, Met, Node, None, OpenGrant, Option, Regular, Row, Some, State, Write, [], ap, arith, block_sheets, body_of, body_of_row, bytes_of, bytes_of_sheets, cases_eq, cond, eqb, false, get_or, inl, inr, is_write, leb, length, ltb, name_of, node_by, node_in, one_met, option_map, option_map_or, page_of, plain, reads_from, refl, root_is_met, root_of, row_at, row_in, row_of, settled, sheets_of, size_of, slot_bytes, slot_of, survey, sym, tabulated, tabulated-length, tabulated-same, take, writer_of, ℕ}
+use Rattle.std.proofs.lemmas.Bool.{lt-leb}
 use Rattle.trio_lists.proofs.Marked.{and-false}
-use Rattle.trio_lists.proofs.Tabulated.{tabulated-length, tabulated-same}
-use Rattle.trio_lists.specs.Lists.{In, tabulated}
 use Rattle.trio_page.specs.Field.{number_at}
-use Rattle.trio_rights.specs.Row.{Row, row_in}
-use Rattle.trio_rights.specs.declared.kind.Kind.{Kind}
-use Rattle.trio_rights.specs.declared.kind.Kind.TheVariants.{Regular, Directory}
-use Rattle.trio_nodes.specs.GrantKinds.{is_write}
-use Rattle.trio_nodes.specs.declared.grant.GrantKind.{GrantKind}
-use Rattle.trio_nodes.specs.declared.grant.GrantKind.TheVariants.{Write}
-use Rattle.trio_nodes.specs.declared.node.Node.{Node}
-use Rattle.trio_layout.specs.Body.{body_of}
-use Rattle.trio_layout.specs.Core.{Core, page_of}
-use Rattle.trio_layout.specs.Entries.{slot_bytes}
-use Rattle.trio_layout.specs.Image.{Image, row_at, body_by_row}
-use Rattle.trio_layout.specs.Pages.{block_sheets, sheets_of}
-use Rattle.trio_layout.specs.Slot.{slot_of}
-use Rattle.trio_layout.specs.Survey.{Met, plain, root_of, row_of, survey}
+use Rattle.trio_layout.specs.Image.{body_by_row}
 use Rattle.trio_layout.proofs.SlotLemmas.{empty_value}
-use Rattle.trio_surveys.proofs.Images.{one_met, root_is_met}
-use Rattle.trio_surveys.proofs.Local.{reads_from}
-use Rattle.trio_state.specs.ImageNodes.{name_said, name_by_row, body_of_row, chain_bytes, body_content, content_of, node_by_row}
-use Rattle.trio_state.specs.Kept.{Kept}
-use Rattle.trio_state.specs.State.{OpenGrant, State, settled}
-use Rattle.trio_laws.specs.history.Stands.{bytes_of, bytes_of_sheets, name_of, node_by, node_in, size_of, writer_of}
+use Rattle.trio_state.specs.ImageNodes.{name_said, name_by_row, chain_bytes, body_content, content_of, node_by_row}
 use Rattle.trio_laws.specs.history.HistoryLaws.{SettledNodes}
 use Rattle.trio_laws.proofs.history.Blocks.{flat_sheets}
 use Rattle.trio_laws.proofs.history.Facts.{find_none}

@@ -1,30 +1,7 @@
 -- A state stands for a tree.
-use Rattle.std.proofs.Common.{◌≡◌, ℕ, zero, suc, Bool, true, false, cond, List, [], ◌∷◌, ◌++◌, Option, Some, None, Ok, sym, refl, ap, ◌∙◌, subst, inl, inr, arith}
-use Rattle.std.proofs.lemmas.Bool.{both_ways, cases_eq}
-use Rattle.std.proofs.lemmas.Slice.Eq.{bytes_eq-Decides}
-use Rattle.trio_rights.specs.Row.{Row}
-use Rattle.trio_rights.specs.declared.kind.Kind.{Kind}
-use Rattle.trio_rights.specs.declared.kind.Kind.TheVariants.{Directory}
-use Rattle.trio_lists.specs.Lists.{In}
-use Rattle.trio_lists.proofs.Filters.{In-list_any, Ok-one}
-use Rattle.trio_lists.proofs.Members.{In-left, In-right, result_then-Ok}
-use Rattle.trio_layout.specs.Core.{Core, Location}
-use Rattle.trio_layout.specs.Entries.{Listed, has_name, place_of, repeated_name, unless_repeated, entries_of_kind}
-use Rattle.trio_layout.specs.Image.{Image, row_at}
-use Rattle.trio_layout.specs.Survey.{Met, plain, FileRead, file_of, survey, root_of, row_by}
-use Rattle.trio_surveys.specs.Tree.{Reaches}
-use Rattle.trio_surveys.proofs.Images.{met_numbered, one_met, read_met, root_is_met, row_at_is, row_met}
-use Rattle.trio_surveys.proofs.Local.{reads_from}
-use Rattle.trio_surveys.proofs.Reached.{survey_reached, reached_met}
-use Rattle.trio_surveys.proofs.Tree.{child_from}
-use Rattle.trio_nodes.specs.declared.node.Node.{Node}
-use Rattle.trio_nodes.specs.Nodes.{node_at}
-use Rattle.trio_nodes.specs.Tree.{IsDirectory, IsTree}
-use Rattle.trio_onetree.proofs.Children.{Names, one_node}
+use Rattle.trio_laws.proofs.Words.{◌++◌, ◌∙◌, ◌∷◌, ◌≡◌, Bool, Core, Directory, FileRead, Image, In, In-left, In-list_any, In-right, IsDirectory, IsTree, Kept, Kind, List, Listed, Location, Met, Node, None, Ok, Ok-one, Option, Reaches, Row, Some, State, [], ap, arith, both_ways, bytes_eq-Decides, cases_eq, child_from, cond, entries_of_kind, false, file_of, has_name, inl, inr, met_numbered, name_of, node_at, node_by, node_of, nodes_of, one_met, one_node, place_of, plain, reached_met, read_met, reads_from, refl, repeated_name, result_then-Ok, root_is_met, root_of, row_at, row_at_is, row_by, row_met, settled, subst, suc, survey, survey_reached, sym, true, unless_repeated, writer_of, zero, ℕ}
+use Rattle.trio_onetree.proofs.Children.{Names}
 use Rattle.trio_onetree.proofs.TreePut.{Found, found_at, found_child}
-use Rattle.trio_state.specs.Kept.{Kept}
-use Rattle.trio_state.specs.State.{State, settled}
-use Rattle.trio_laws.specs.history.Stands.{name_of, node_by, node_of, nodes_of, writer_of}
 use Rattle.trio_laws.specs.history.HistoryLaws.{StatesAreTrees}
 use Rattle.trio_laws.proofs.history.Facts.{Live, live, node_is}
 use Rattle.trio_laws.proofs.history.Listing.{Listing, listing, met_at, name_listed, tables_of}

@@ -1,28 +1,6 @@
 -- An image with other pages, of which all that are read are the same, has the same nodes, where the blocks of regular files are the same.
-use Rattle.std.proofs.Common.{◌≡◌, ℕ, Bool, true, false, cond, eqb, List, [], ◌∷◌, Option, Some, None, Ok, sym, refl, ap, ◌∙◌, inl, inr, arith}
-use Rattle.std.specs.List.{cons_option}
-use Rattle.std.specs.Option.{option_map, option_map_or}
-use Rattle.std.proofs.lemmas.Bool.{eq-eqb}
-use Rattle.trio_rights.specs.Row.{Row}
-use Rattle.trio_rights.specs.declared.kind.Kind.{Kind}
-use Rattle.trio_rights.specs.declared.kind.Kind.TheVariants.{Regular}
-use Rattle.trio_layout.specs.Body.{body_at}
-use Rattle.trio_layout.specs.Core.{Core, page_of}
-use Rattle.trio_lists.specs.Lists.{In}
-use Rattle.trio_layout.specs.Survey.{plain, FileRead, file_of, survey}
-use Rattle.trio_rights.specs.Sheets.{Sheet}
-use Rattle.trio_layout.specs.Pages.{settled_chain, sheets_of}
-use Rattle.trio_layout.specs.Image.{IsFit, Image, row_at}
-use Rattle.trio_state.specs.State.{OpenGrant}
-use Rattle.trio_layout.specs.Verifies.{Verifies}
-use Rattle.trio_surveys.specs.Reading.{with_other, AgreeOn}
+use Rattle.trio_laws.proofs.Words.{◌∙◌, ◌∷◌, ◌≡◌, AgreeOn, Bool, Core, FileRead, Image, In, IsFit, Kind, List, Node, None, Ok, OpenGrant, Option, Pages, Regular, Row, Sheet, Some, Verifies, [], ap, arith, blocks_of, body_at, bytes_of, cond, cons_option, eq-eqb, eqb, false, file_agrees, file_of, inl, inr, name_in, name_of, node_of, one_met, option_map, option_map_or, page_of, plain, refl, row_at, settled_chain, sheets_of, size_of, sound_parts, survey, sym, true, with_other, ℕ}
 use Rattle.trio_laws.proofs.Agreeing.{image_with, verifies_still, met_still, body_still}
-use Rattle.trio_surveys.proofs.Images.{one_met}
-use Rattle.trio_surveys.proofs.Local.{file_agrees}
-use Rattle.trio_surveys.proofs.Owned.{sound_parts}
-use Rattle.trio_surveys.proofs.Sheets.{Pages}
-use Rattle.trio_nodes.specs.declared.node.Node.{Node}
-use Rattle.trio_laws.specs.history.Stands.{name_in, name_of, size_of, blocks_of, bytes_of, node_of}
 use Rattle.trio_laws.proofs.history.Listing.{met_at, chain_met, listing, block_read}
 
 -- a node with this name and these bytes

@@ -1,14 +1,7 @@
 -- The listed blocks of a file, put in place of its old bytes, give its new ones.
-use Rattle.std.proofs.Common.{◌≡◌, ℕ, zero, suc, ◌+◌, ◌-◌, ◌*◌, ◌<◌, ◌≤◌, Bool, false, cond, List, [], ◌∷◌, ◌++◌, length, take, drop, Some, slice_get, sym, refl, ap, ◌∙◌, inl, inr, arith, length-append, append-nil, append_assoc, length-drop, take-append-drop, take_all, drop-drop, unwrap_or, flat_map}
-use Rattle.std.proofs.lemmas.Bool.{eq-eqb, cases_lt}
-use Rattle.std.proofs.lemmas.List.{take_all, nil_from_length}
-use Rattle.trio_lists.specs.Lists.{In}
-use Rattle.trio_layout.specs.Core.{page_of}
-use Rattle.trio_layout.specs.Image.{Image}
-use Rattle.trio_nodes.specs.Handed.{Handed}
-use Rattle.trio_nodes.specs.Told.{ToldBlock}
-use Rattle.trio_nodes.specs.After.{put_within, with_blocks}
-use Rattle.trio_laws.specs.history.Entries.{is_block_told, told_blocks}
+use Rattle.trio_laws.proofs.Words.{◌*◌, ◌++◌, ◌+◌, ◌-◌, ◌<◌, ◌∙◌, ◌∷◌, ◌≡◌, ◌≤◌, Bool, Handed, Image, In, List, Some, ToldBlock, [], ap, append_assoc, arith, cases_lt, cond, drop, drop-drop, eq-eqb, false, inl, inr, is_block_told, length, length-drop, nil_from_length, page_of, put_within, refl, slice_get, suc, sym, take, take-append-drop, take_all, told_blocks, unwrap_or, with_blocks, zero, ℕ}
+use Rattle.std.proofs.Common.{length-append, append-nil, flat_map}
+use Rattle.std.proofs.lemmas.List.{take_all}
 
 -- ---- lists of which the first part is known
 

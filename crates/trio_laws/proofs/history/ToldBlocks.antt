@@ -1,43 +1,11 @@
 -- The blocks that a release tells of a file, by the images before and after and by the bundle.
-use Rattle.std.proofs.Common.{◌≡◌, ℕ, suc, ◌+◌, ◌<◌, ◌≤◌, Bool, true, false, cond, ◌&&◌, ◌||◌, eqb, ltb, leb, ltb-true, min, List, [], ◌∷◌, ◌++◌, length, Option, Some, None, Ok, slice_get, sym, refl, ap, ◌∙◌, subst, inl, inr, arith, unwrap_or, flat_map}
-use Rattle.std.specs.Prelude.{is_some, map, replicate, slice_index}
-use Rattle.std.specs.List.{list_any}
-use Rattle.std.proofs.lemmas.List.{length-replicate}
-use Rattle.std.proofs.lemmas.Bool.{and_parts, eqb-true, false_from_ne_true}
-use Rattle.trio_lists.specs.Lists.{In, are_new}
-use Rattle.trio_lists.proofs.Filters.{list_any-In}
-use Rattle.trio_lists.proofs.Gathered.{one_keyed}
-use Rattle.trio_lists.proofs.Marked.{are_new-append}
-use Rattle.trio_lists.proofs.Members.{In-cases, In-left, In-right, In-flat, In-map, flat_map-In, map-In}
-use Rattle.trio_lists.proofs.New.{are_new-fewer}
-use Rattle.trio_rights.specs.Row.{Row}
-use Rattle.trio_rights.specs.Bundle.{Written, Bundle, bundle_pages, bundle_sheets}
-use Rattle.trio_rights.specs.Sheets.{Sheet, sheet_numbers, with_pages}
-use Rattle.trio_layout.specs.Case.{Case, bundle_core}
-use Rattle.trio_layout.specs.Core.{Core, page_of}
-use Rattle.trio_layout.specs.Image.{Image, row_at}
-use Rattle.trio_layout.specs.Range.{is_core}
-use Rattle.trio_layout.specs.Survey.{Met, FileRead, file_of, pages_of, plain, survey}
-use Rattle.trio_surveys.proofs.Cores.{listed_is_core}
-use Rattle.trio_surveys.proofs.Images.{free_unlisted, one_met}
-use Rattle.trio_surveys.proofs.Owned.{index_apart, page_owner, pages_are, pages_new, sound_parts}
-use Rattle.trio_surveys.proofs.Sheets.{page_from, place_there, with_pages_known}
-use Rattle.trio_nodes.specs.Handed.{Handed, HandedFile}
-use Rattle.trio_nodes.specs.declared.entry.HandedPage.{HandedPage}
-use Rattle.trio_nodes.specs.Told.{ToldBlock}
-use Rattle.trio_nodes.specs.declared.entry.RawFile.{RawFile}
-use Rattle.trio_state.specs.Listed.{Notes, block_told, changed_blocks, is_block_changed, lent_blocks, noted_size}
-use Rattle.trio_state.specs.State.{State, settled}
-use Rattle.trio_state.specs.Tells.{case_in}
-use Rattle.trio_laws.specs.RuleLaws.{IsJudgeable}
-use Rattle.trio_laws.specs.history.Entries.{block_numbers, blocks_in as chain_blocks, bundle_handed, is_block_told, is_touched, sheet_handed, told_blocks, written_handed}
-use Rattle.trio_laws.specs.history.Stands.{size_of}
+use Rattle.trio_laws.proofs.Words.{◌&&◌, ◌++◌, ◌+◌, ◌<◌, ◌||◌, ◌∙◌, ◌∷◌, ◌≡◌, ◌≤◌, Bool, Bundle, Case, Core, FileRead, GivenTo, Handed, HandedFile, HandedPage, Image, In, In-cases, In-flat, In-left, In-map, In-right, IsJudgeable, Kept, List, Met, None, Notes, Ok, Option, RawFile, Row, Sheet, Some, State, ToldBlock, Written, [], and_parts, ap, are_new, are_new-append, are_new-fewer, arith, block_numbers, bundle_core, bundle_handed, bundle_pages, bundle_sheets, case_in, chain_blocks, changed_blocks, cond, eqb, eqb-true, false, false_from_ne_true, file_of, flat_map-In, free_unlisted, index_apart, inl, inr, is_block_changed, is_block_told, is_core, is_some, is_touched, leb, length, length-replicate, lent_blocks, list_any, list_any-In, listed_is_core, ltb, map, map-In, min, noted_size, one_keyed, one_met, page_from, page_of, page_owner, pages_are, pages_new, pages_of, place_there, plain, refl, replicate, row_at, settled, sheet_handed, sheet_numbers, size_of, slice_get, slice_index, sound_parts, subst, suc, survey, sym, told_blocks, true, unwrap_or, with_pages, with_pages_known, written_handed, ℕ}
+use Rattle.std.proofs.Common.{ltb-true, flat_map}
+use Rattle.trio_state.specs.Listed.{block_told}
 use Rattle.trio_laws.proofs.Bundles.{Unwritten, in_numbers, unwritten_apart}
 use Rattle.trio_laws.proofs.Checkpoints.{one_sheet}
 use Rattle.trio_laws.proofs.StateFacts.{tables}
 use Rattle.trio_laws.proofs.history.Listing.{chain_met, met_at}
-use Rattle.trio_state.specs.Kept.{Kept}
-use Rattle.trio_state.specs.Given.{GivenTo}
 
 -- ---- block by block
 

@@ -1,28 +1,7 @@
 -- The entry of a release tells of the files that were handed in, that are new or that have another name, each once.
-use Rattle.std.proofs.Common.{◌≡◌, ℕ, ◌<◌, Bool, true, false, cond, ◌&&◌, ◌||◌, not, eqb, List, [], ◌∷◌, map, Option, Some, None, is_some, sym, refl, ap, ◌∙◌, inl, inr, arith}
-use Rattle.std.specs.Str.{bytes_eq}
-use Rattle.std.proofs.lemmas.Bool.{both_ways, eqb-true, eq-eqb, or_cases, or_left, or_right, or_parts}
-use Rattle.std.proofs.lemmas.Slice.Eq.{bytes_eq-Decides}
-use Rattle.trio_rights.specs.Bundle.{Bundle}
-use Rattle.trio_rights.specs.Row.{Row}
-use Rattle.trio_lists.specs.Counting.{count_up}
-use Rattle.trio_lists.specs.Lists.{are_new}
-use Rattle.trio_lists.proofs.Filters.{list_any-In}
-use Rattle.trio_lists.proofs.Gathered.{new_beside}
-use Rattle.trio_lists.proofs.Members.{map-In}
-use Rattle.trio_layout.specs.Image.{Image, row_at}
-use Rattle.trio_nodes.specs.After.{raw_node, raw_nodes}
-use Rattle.trio_nodes.specs.Legal.{TellsThese, is_handed, is_new_or_renamed, tells_of}
-use Rattle.trio_nodes.specs.Nodes.{Nodes, node_at, with_node}
-use Rattle.trio_nodes.specs.Standing.{is_given}
-use Rattle.trio_nodes.specs.Told.{ToldBlock}
-use Rattle.trio_nodes.specs.Handed.{Handed}
-use Rattle.trio_nodes.specs.declared.entry.RawFile.{RawFile}
-use Rattle.trio_nodes.specs.declared.node.Node.{Node}
-use Rattle.trio_nodes.proofs.NodeFacts.{with_node-else}
-use Rattle.trio_state.specs.State.{OpenGrant}
-use Rattle.trio_laws.specs.history.Entries.{bundle_handed, is_told, name_by, raw_file, raw_files, told_by}
-use Rattle.trio_laws.specs.history.Stands.{node_by}
+use Rattle.trio_laws.proofs.Words.{◌&&◌, ◌<◌, ◌||◌, ◌∙◌, ◌∷◌, ◌≡◌, Bool, Bundle, Handed, Image, List, Node, Nodes, None, OpenGrant, Option, RawFile, Row, Some, ToldBlock, [], ap, are_new, arith, both_ways, bundle_handed, bytes_eq, bytes_eq-Decides, cond, count_up, eq-eqb, eqb, eqb-true, false, inl, inr, is_given, is_handed, is_told, list_any-In, map-In, name_by, new_beside, node_at, node_by, not, or_cases, or_left, or_parts, or_right, raw_file, raw_files, raw_node, raw_nodes, refl, row_at, sym, told_by, true, with_node, with_node-else, ℕ}
+use Rattle.std.proofs.Common.{map, is_some}
+use Rattle.trio_nodes.specs.Legal.{TellsThese, is_new_or_renamed, tells_of}
 use Rattle.trio_laws.proofs.history.RawGiven.{bool_same, files_from, handed_is, is_in}
 use Rattle.trio_laws.proofs.history.RawParts.{raw_number}
 use Rattle.trio_laws.proofs.history.RisingKeys.{Rising, counted_rising}

@@ -1,12 +1,5 @@
 -- What is noted of a live file is what its image says of it.
-use Rattle.std.proofs.Common.{◌≡◌, ℕ, ◌≤◌, [], Some, ap, ◌∙◌, arith}
-use Rattle.std.specs.Option.{option_map, option_map_or}
-use Rattle.trio_rights.specs.Row.{Row}
-use Rattle.trio_layout.specs.Image.{Image, row_at}
-use Rattle.trio_nodes.specs.declared.note.Note.{Note}
-use Rattle.trio_state.specs.Listed.{noted_name, noted_size}
-use Rattle.trio_laws.specs.history.Stands.{name_of, size_of}
-use Rattle.trio_laws.specs.history.ToldLaws.{note_of, notes_of}
+use Rattle.trio_laws.proofs.Words.{◌∙◌, ◌≡◌, ◌≤◌, Image, Note, Row, Some, [], ap, arith, name_of, note_of, noted_name, noted_size, notes_of, option_map, option_map_or, row_at, size_of, ℕ}
 use Rattle.trio_laws.proofs.history.NotesFacts.{noted_at}
 
 module _ (image : Image) where

@@ -1,30 +1,8 @@
 -- A block that a library was lent and did not touch is handed in as it was lent.
-use Rattle.std.proofs.Common.{◌≡◌, ℕ, Bool, true, false, ◌&&◌, eqb, List, [], ◌∷◌, ◌++◌, sym, refl, ap, ◌∙◌, subst, inl, inr}
-use Rattle.std.specs.Prelude.{is_some, Ok, Some, slice_index}
-use Rattle.std.specs.List.{list_any, flat_map}
-use Rattle.std.proofs.lemmas.Bool.{and_parts, eqb-true, eq-eqb, both_ways, or_parts}
-use Rattle.trio_rights.specs.Row.{Row}
-use Rattle.trio_lists.proofs.Marked.{are_new-append}
-use Rattle.trio_layout.specs.Core.{Core}
-use Rattle.trio_lists.specs.Lists.{In, are_new}
-use Rattle.trio_layout.specs.Survey.{Met, plain, FileRead, file_of, survey, pages_of}
-use Rattle.trio_state.specs.Given.{GivenTo}
-use Rattle.trio_layout.specs.Image.{row_at}
-use Rattle.trio_state.specs.Kept.{Kept}
-use Rattle.trio_rights.specs.Bundle.{Written, Bundle, bundle_sheets}
-use Rattle.trio_rights.specs.Sheets.{Sheet, sheet_numbers}
-use Rattle.trio_state.specs.State.{OpenGrant, State, settled}
-use Rattle.trio_nodes.specs.GrantKinds.{is_write}
+use Rattle.trio_laws.proofs.Words.{◌&&◌, ◌++◌, ◌∙◌, ◌∷◌, ◌≡◌, Bool, Bundle, Core, FileRead, GivenTo, Handed, HandedFile, HandedPage, In, In-cases, In-right, IsMarked, Kept, LentWhole, List, Met, OpenGrant, Row, Sheet, State, Written, [], and_parts, ap, are_new, are_new-append, are_new-fewer, both_ways, bundle_handed, bundle_sheets, eq-eqb, eqb, eqb-true, false, file_of, flat_map, flat_map-In, free_unlisted, index_apart, inl, inr, is_some, is_touched, is_write, list_any, map-In, or_parts, pages_are, pages_new, pages_of, plain, refl, row_at, settled, sheet_handed, sheet_numbers, slice_index, sound_parts, subst, survey, sym, true, written_handed, ℕ}
+use Rattle.std.specs.Prelude.{Ok, Some}
 use Rattle.trio_laws.proofs.Bundles.{in_numbers}
-use Rattle.trio_surveys.proofs.Images.{free_unlisted}
-use Rattle.trio_lists.proofs.Members.{In-cases, In-right, flat_map-In, map-In}
-use Rattle.trio_surveys.proofs.Owned.{sound_parts, pages_are, pages_new, index_apart}
-use Rattle.trio_lists.proofs.New.{are_new-fewer}
 use Rattle.trio_laws.proofs.StateFacts.{tables, write_alone, lent_file}
-use Rattle.trio_nodes.specs.Handed.{Handed, HandedFile}
-use Rattle.trio_nodes.specs.declared.entry.HandedPage.{HandedPage}
-use Rattle.trio_laws.specs.history.Entries.{bundle_handed, written_handed, sheet_handed, is_touched}
-use Rattle.trio_laws.specs.history.Recorded.{LentWhole, IsMarked}
 use Rattle.trio_laws.proofs.history.Listing.{met_at}
 use Rattle.trio_laws.proofs.history.OldBytes.{lent_is}
 use Rattle.trio_laws.proofs.Checkpoints.{one_sheet}

@@ -1,13 +1,6 @@
 -- What the grants lent that stay open after a bundle is whole.
-use Rattle.std.proofs.Common.{◌≡◌, ℕ, not, List, map, ap, subst}
-use Rattle.trio_lists.specs.Lists.{In}
-use Rattle.trio_state.specs.Bundles.{Ends, lent_part, grants_after, is_in_bundle}
-use Rattle.trio_layout.specs.Image.{Image}
-use Rattle.trio_rights.specs.Bundle.{Bundle}
-use Rattle.trio_state.specs.State.{OpenGrant, State}
-use Rattle.trio_lists.proofs.Filters.{filter-In}
-use Rattle.trio_lists.proofs.Members.{In-map, map-In}
-use Rattle.trio_laws.specs.history.Recorded.{LentWhole}
+use Rattle.trio_laws.proofs.Words.{◌≡◌, Bundle, Ends, Image, In, In-map, LentWhole, List, OpenGrant, State, ap, filter-In, grants_after, is_in_bundle, lent_part, map-In, not, subst, ℕ}
+use Rattle.std.proofs.Common.{map}
 
 pub lent_member : (gs hs : List OpenGrant) (g : OpenGrant) → map lent_part gs ≡ map lent_part hs → In g gs → (h : OpenGrant) × In h hs × (lent_part g ≡ lent_part h)
 lent_member gs hs g e i =

@@ -1,13 +1,5 @@
 -- Nodes with another at one number.
-use Rattle.std.proofs.Common.{◌≡◌, ℕ, zero, suc, ◌+◌, ◌<◌, ◌≤◌, [], ◌∷◌, length, Option, None, refl, ap, arith, ext_get_or}
-use Rattle.std.proofs.lemmas.Bool.{cases_eq}
-use Rattle.trio_state.specs.State.{State}
-use Rattle.trio_state.specs.Kept.{Kept}
-use Rattle.trio_lists.proofs.Tabulated.{tabulated-length}
-use Rattle.trio_nodes.specs.declared.node.Node.{Node}
-use Rattle.trio_nodes.specs.Nodes.{Nodes, node_at, with_node}
-use Rattle.trio_nodes.proofs.NodeFacts.{with_node-same, with_node-else}
-use Rattle.trio_laws.specs.history.Stands.{node_in, nodes_of}
+use Rattle.trio_laws.proofs.Words.{◌+◌, ◌<◌, ◌∷◌, ◌≡◌, ◌≤◌, Kept, Node, Nodes, None, Option, State, [], ap, arith, cases_eq, ext_get_or, length, node_at, node_in, nodes_of, refl, suc, tabulated-length, with_node, with_node-else, with_node-same, zero, ℕ}
 use Rattle.trio_laws.proofs.history.Facts.{node_is}
 
 pub with_length : (nodes : Nodes) (n : ℕ) (v : Option Node) → n < length nodes → length (with_node nodes n v) ≡ length nodes

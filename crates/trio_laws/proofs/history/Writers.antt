@@ -1,21 +1,7 @@
 -- Who writes a file once a bundle has come to its end.
-use Rattle.std.proofs.Common.{◌≡◌, ℕ, Bool, true, false, cond, ◌&&◌, not, eqb, List, [], ◌∷◌, map, Option, Some, None, is_some, sym, refl, ap, ◌∙◌, ◌⊎◌, find, option_map, arith}
-use Rattle.std.proofs.lemmas.Bool.{and_parts, and_from, eqb-true, eq-eqb, not-false, false≢true, false_from_ne_true, or_left}
-use Rattle.trio_nodes.specs.declared.grant.GrantKind.{GrantKind}
-use Rattle.trio_nodes.specs.declared.grant.GrantKind.TheVariants.{Write}
-use Rattle.trio_rights.specs.Row.{Row}
-use Rattle.trio_lists.specs.Lists.{In}
-use Rattle.trio_layout.specs.Image.{Image, row_at}
-use Rattle.trio_state.specs.State.{OpenGrant, State}
-use Rattle.trio_nodes.specs.GrantKinds.{is_write, is_hold}
-use Rattle.trio_state.specs.Kept.{Kept}
-use Rattle.trio_state.specs.Given.{GivenTo}
-use Rattle.trio_rights.specs.Bundle.{Written, Bundle, is_written}
-use Rattle.trio_state.specs.Bundles.{Ends, grants_after, is_in_bundle, lent_part}
-use Rattle.trio_lists.proofs.Filters.{filter-In, find-In}
-use Rattle.trio_surveys.proofs.Images.{some_of}
+use Rattle.trio_laws.proofs.Words.{◌&&◌, ◌∙◌, ◌∷◌, ◌≡◌, ◌⊎◌, Bool, Bundle, Ends, GivenTo, GrantKind, Image, In, Kept, List, None, OpenGrant, Option, Row, Some, State, Write, Written, [], and_from, and_parts, ap, arith, blocks_of, cond, eq-eqb, eqb, eqb-true, false, false_from_ne_true, false≢true, filter-In, find-In, grants_after, is_hold, is_in_bundle, is_write, is_written, lent_part, not, not-false, or_left, refl, row_at, some_of, sym, true, writer_of, ℕ}
+use Rattle.std.proofs.Common.{map, is_some, find, option_map}
 use Rattle.trio_laws.proofs.StateFacts.{write_alone, write_is}
-use Rattle.trio_laws.specs.history.Stands.{blocks_of, writer_of}
 use Rattle.trio_laws.proofs.history.Facts.{find_filter, find_none}
 
 -- the test of a writer

@@ -1,29 +1,6 @@
 -- Where a bundle meets the four rules, the change is allowed, and so the bundle is accepted.
-use Rattle.std.proofs.Common.{Bool, List, Ok, Option, Some, ap, arith, cond, eqb, false, inl, inr, not, refl, subst, suc, sym, true, zero, ℕ, ◌&&◌, ◌<◌, ◌||◌, ◌∙◌, ◌≡◌, ◌≤◌}
-use Rattle.std.proofs.lemmas.Bool.{and_from, and_parts, both_ways, cases_Bool, eq-eqb, eqb-true, or_left, or_right}
-use Rattle.std.proofs.lemmas.Slice.Eq.{bytes_eq-Decides}
-use Rattle.std.specs.Prelude.{is_some}
-use Rattle.std.specs.Str.{bytes_eq}
-use Rattle.trio_rights.specs.Row.{Row, row_in}
-use Rattle.trio_lists.proofs.Filters.{some_one}
-use Rattle.trio_lists.proofs.Members.{is_among-In, list_all-each, In-is_among}
-use Rattle.trio_lists.specs.Lists.{In, is_among}
-use Rattle.trio_layout.specs.Accept.{is_accepted}
-use Rattle.trio_layout.specs.Allowed.{all_up_to, has_kind, has_owner, keeps_rows, lists_own, may_stand, same_row}
-use Rattle.trio_layout.specs.Case.{Case, case_of}
-use Rattle.trio_layout.specs.Core.{Core}
-use Rattle.trio_layout.specs.Image.{row_at, settled_body}
-use Rattle.trio_layout.specs.JudgedFiles.{judged_files}
-use Rattle.trio_rights.specs.Bundle.{Bundle, is_written}
-use Rattle.trio_layout.specs.Proposed.{proposed, proposed_pick}
-use Rattle.trio_layout.specs.Rules.{has_rights, meets_rules}
-use Rattle.trio_layout.specs.Sound.{is_sound}
-use Rattle.trio_layout.specs.Survey.{FileRead, Met, Pick, file_of, row_by, row_of, survey}
-use Rattle.trio_layout.specs.declared.body.Body.{Body}
-use Rattle.trio_surveys.proofs.Images.{read_met, row_met, some_of}
+use Rattle.trio_laws.proofs.Words.{◌&&◌, ◌<◌, ◌||◌, ◌∙◌, ◌≡◌, ◌≤◌, Body, Bool, Bundle, Case, Core, FileRead, In, In-is_among, IsJudgeable, List, Met, Ok, Option, Pick, Row, Some, State, all_up_to, and_from, and_parts, ap, arith, both_ways, bytes_eq, bytes_eq-Decides, case_of, cases_Bool, cond, creds_of, eq-eqb, eqb, eqb-true, false, file_of, has_kind, has_owner, has_rights, inl, inr, is_accepted, is_among, is_among-In, is_some, is_sound, is_written, judged_files, keeps_rows, list_all-each, lists_own, may_stand, meets_rules, not, or_left, or_right, proposed, proposed_pick, read_met, refl, row_at, row_by, row_in, row_met, row_of, same_row, settled, settled_body, some_of, some_one, subst, suc, survey, sym, true, zero, ℕ}
 use Rattle.trio_surveys.proofs.Sheets.{not_among}
-use Rattle.trio_state.specs.State.{State, creds_of, settled}
-use Rattle.trio_laws.specs.RuleLaws.{IsJudgeable}
 use Rattle.trio_laws.proofs.judgement.CaseFacts.{fit, new_dead, held_row, held_apart, kept_settled, written_find, written_row, is_written_from, new_not_live}
 use Rattle.trio_laws.proofs.judgement.Giving.{reads, sides, rules_sound, met_stands}
 use Rattle.trio_laws.proofs.judgement.JudgedFacts.{judged_from, new_from, written_ino}

@@ -1,29 +1,10 @@
 -- A bundle breaks a rule exactly where it doesn't meet all four; the lowest is named.
-use Rattle.std.proofs.Common.{Bool, Err, List, Ok, Option, Result, [], ap, arith, false, inl, inr, is_ok, length, refl, suc, sym, true, zero, ℕ, ◌&&◌, ◌++◌, ◌<◌, ◌∙◌, ◌∷◌, ◌≡◌, ◌≤◌}
-use Rattle.std.proofs.lemmas.Bool.{and_from, and_parts, both_ways, cases_Bool, cases_lt, false_from_ne_true, false≢true}
-use Rattle.std.proofs.lemmas.List.{get_or_past, map-append}
-use Rattle.std.specs.List.{flat_map, list_all}
-use Rattle.std.specs.Prelude.{map}
-use Rattle.trio_rights.specs.Row.{Row, row_in}
-use Rattle.trio_lists.proofs.Members.{In-flat, list_all-In, flat_map-In}
+use Rattle.trio_laws.proofs.Words.{◌&&◌, ◌++◌, ◌<◌, ◌∙◌, ◌∷◌, ◌≡◌, ◌≤◌, Bool, BreaksGrammar, BreaksOwning, BreaksRights, Case, EntryAt, Err, FileRead, In, In-flat, List, Listing, Location, Met, Ok, Option, Result, Row, [], all_up_to, and_from, and_parts, ap, are_new, arith, at_page, both_ways, bundle_core, bundle_pages, cases_Bool, cases_lt, comes_to_root, entry_in_grammar, entry_is_own, entry_keeps_rights, false, false_from_ne_true, false≢true, file_keeps_rights, file_within, flat_map, flat_map-In, get_or_past, inl, inr, is_among, is_ok, judged_entries, judged_files, judged_listings, judged_pages, keeps_children, leaves_none, length, list_all, list_all-In, listing, map, map-append, meets_edges, meets_grammar, meets_owning, meets_rights, meets_rules, ms, nowhere, numbers, pages_within, refl, row_in, stays_listed, suc, sym, true, up_to_at, zero, ℕ}
 use Rattle.trio_lists.proofs.Gathered.{repeated, not_new, and_false, all_false}
-use Rattle.trio_lists.specs.Lists.{In, are_new, is_among}
-use Rattle.trio_layout.specs.Allowed.{all_up_to}
-use Rattle.trio_layout.specs.Broken.{Breaks, BreaksEdges, BreaksGrammar, BreaksOwning, BreaksRights, EntryAt, judged_listings}
-use Rattle.trio_layout.specs.Case.{Case, bundle_core}
-use Rattle.trio_layout.specs.Core.{Location, at_page, nowhere}
-use Rattle.trio_layout.specs.Edges.{comes_to_root, keeps_children, leaves_none, meets_edges, stays_listed}
-use Rattle.trio_layout.specs.JudgedFiles.{judged_entries, judged_files, judged_pages, pages_within}
-use Rattle.trio_layout.specs.Listing.{Listing, listing}
-use Rattle.trio_rights.specs.Bundle.{bundle_pages}
+use Rattle.trio_layout.specs.Broken.{Breaks, BreaksEdges}
 use Rattle.trio_layout.specs.Rule.{rule_number}
 use Rattle.trio_layout.specs.declared.refusal.Rule.TheVariants.{Grammar, Owning, Edges, Rights}
-use Rattle.trio_layout.specs.Rules.{entry_in_grammar, entry_is_own, entry_keeps_rights, file_keeps_rights, meets_grammar, meets_owning, meets_rights, meets_rules}
 use Rattle.trio_layout.specs.Sound.{PageListing}
-use Rattle.trio_layout.specs.Survey.{FileRead, Met, numbers}
-use Rattle.trio_layout.specs.Within.{file_within}
-use Rattle.trio_surveys.proofs.Alike.{up_to_at}
-use Rattle.trio_surveys.proofs.ModedCore.{ms}
 use Rattle.trio_laws.proofs.Refusing.{pages}
 use Rattle.trio_laws.specs.RuleLaws.{BreaksWhereNotMet}
 

@@ -1,33 +1,9 @@
 -- What is known of a bundle that was given to its library, and of the files that it doesn't write.
-use Rattle.std.proofs.Common.{Bool, List, None, Ok, Option, Some, ap, arith, cond, eqb, inl, inr, not, refl, subst, sym, true, ℕ, ◌&&◌, ◌<◌, ◌∙◌, ◌≡◌, ◌≤◌, ◌⊎◌}
-use Rattle.std.proofs.lemmas.Bool.{and_from, both_ways, cases_Bool, eq-eqb, eqb-true}
-use Rattle.std.specs.Prelude.{is_some}
-use Rattle.std.specs.List.{find}
-use Rattle.std.specs.Option.{option_map_or}
-use Rattle.trio_rights.specs.Row.{Row}
-use Rattle.trio_rights.specs.declared.kind.Kind.TheVariants.{Directory}
-use Rattle.trio_lists.proofs.Filters.{find-In}
-use Rattle.trio_lists.proofs.Members.{In-is_among}
-use Rattle.trio_lists.specs.Lists.{In, is_among}
-use Rattle.trio_layout.specs.Core.{Core}
-use Rattle.trio_layout.specs.Edges.{row_parent}
-use Rattle.trio_layout.specs.Image.{IsFit, row_at, settled_body}
-use Rattle.trio_rights.specs.Bundle.{Bundle, Written, bundle_sheets, is_written}
-use Rattle.trio_layout.specs.Proposed.{kept_body, proposed}
-use Rattle.trio_rights.specs.Sheets.{with_pages}
-use Rattle.trio_layout.specs.Survey.{FileRead, Met, file_of, plain, root_of, row_by, survey}
-use Rattle.trio_surveys.proofs.Accepted.{fit_proposed}
-use Rattle.trio_surveys.proofs.Images.{MetAt, met_numbered, read_met, root_is_met, row_at_is, row_met, settled_body_met, some_of}
+use Rattle.trio_laws.proofs.Words.{◌&&◌, ◌<◌, ◌∙◌, ◌≡◌, ◌≤◌, ◌⊎◌, Bool, Bundle, Core, Directory, FileRead, In, In-is_among, IsFit, IsJudgeable, List, Met, MetAt, None, Ok, OpenGrant, Option, Row, Some, State, Written, and_from, ap, arith, both_ways, bundle_sheets, cases_Bool, cond, eq-eqb, eqb, eqb-true, file_of, file_same, find, find-In, fit_proposed, inl, inr, is_among, is_hold, is_parent_written, is_parted, is_some, is_written, kept_body, met_numbered, not, option_map_or, pages_are, plain, proposed, read_met, refl, root_is_met, root_of, row_at, row_at_is, row_by, row_met, row_parent, settled, settled_body, settled_body_met, some_of, subst, survey, sym, true, with_other, with_pages, ℕ}
 use Rattle.trio_surveys.proofs.Local.{file_local}
-use Rattle.trio_surveys.proofs.Owned.{pages_are}
-use Rattle.trio_surveys.specs.Reading.{with_other}
-use Rattle.trio_nodes.specs.GrantKinds.{is_hold}
-use Rattle.trio_state.specs.Bundles.{is_parent_written, is_parted}
-use Rattle.trio_state.specs.State.{OpenGrant, State, settled}
 use Rattle.trio_laws.proofs.Bundles.{Unwritten, finds_unwritten, held_unwritten, page_kept, unparted_at, unwritten_apart, unwritten_finds}
 use Rattle.trio_laws.proofs.StateFacts.{live_met, tables}
-use Rattle.trio_laws.specs.RuleLaws.{IsJudgeable}
-use Rattle.trio_surveys.proofs.Within.{read_pages, file_same, root_unread}
+use Rattle.trio_surveys.proofs.Within.{read_pages, root_unread}
 
 module _ (s : State) (lib : ℕ) (b : Bundle) (j : IsJudgeable s lib b) where
   abbrev pub core : Core

@@ -1,18 +1,7 @@
 -- A place at which a rule fails with the copied rows alone is one at which it fails.
-use Rattle.std.proofs.Common.{◌≡◌, ℕ, ◌||◌, sym, ap, subst, ◌∙◌, inl, inr, arith}
-use Rattle.std.specs.Prelude.{is_some}
-use Rattle.trio_lists.specs.Lists.{In}
-use Rattle.trio_layout.specs.Body.{body_of}
-use Rattle.trio_layout.specs.Broken.{BreaksGrammar, BreaksOwning, BreaksRights, EntryAt, FileAt, judged_listings}
-use Rattle.trio_layout.specs.Case.{Case, case_of, file_in}
-use Rattle.trio_layout.specs.Copied.{with_copied}
-use Rattle.trio_layout.specs.Core.{Location}
-use Rattle.trio_layout.specs.JudgedFiles.{judged_entries}
-use Rattle.trio_layout.specs.Rules.{entry_in_grammar}
-use Rattle.trio_layout.specs.Survey.{Met}
-use Rattle.trio_rights.specs.Bundle.{Bundle}
-use Rattle.trio_state.specs.State.{State, creds_of, settled}
-use Rattle.trio_laws.specs.RuleLaws.{IsJudgeable}
+use Rattle.trio_laws.proofs.Words.{◌||◌, ◌∙◌, ◌≡◌, BreaksGrammar, BreaksOwning, BreaksRights, Bundle, Case, EntryAt, In, IsJudgeable, Location, Met, State, ap, arith, body_of, case_of, creds_of, entry_in_grammar, inl, inr, is_some, judged_entries, judged_listings, settled, subst, sym, with_copied, ℕ}
+use Rattle.trio_layout.specs.Broken.{FileAt}
+use Rattle.trio_layout.specs.Case.{file_in}
 use Rattle.trio_laws.proofs.judgement.CopiedRows.{entries_same, entry_rights_same, file_rights_same, judged_same, kept_same}
 
 module _ (s : State) (lib : ℕ) (b : Bundle) (j : IsJudgeable s lib b) (ino : ℕ) (place : Location) where

@@ -1,40 +1,13 @@
 -- The rows that a case copies are all that I1, I2, I4 and the listing look at.
-use Rattle.std.proofs.Common.{Bool, Err, List, None, Ok, Option, Result, Some, [], ap, arith, cond, inl, inr, is_ok, refl, subst, suc, sym, true, ℕ, ◌&&◌, ◌<◌, ◌||◌, ◌∙◌, ◌∷◌, ◌≡◌, ◌⊎◌}
-use Rattle.std.proofs.lemmas.Bool.{both_ways, cases_Bool, cases_lt, or_left, or_right}
-use Rattle.std.proofs.lemmas.List.{get_or_past}
-use Rattle.std.specs.List.{flat_map, list_all}
-use Rattle.std.specs.Prelude.{map}
-use Rattle.trio_rights.specs.Row.{Row, row_in}
-use Rattle.trio_rights.specs.declared.kind.Kind.{Kind}
-use Rattle.trio_lists.proofs.Members.{is_among-In, In-is_among, map-In, result_then-Ok}
-use Rattle.trio_lists.specs.Lists.{In, is_among}
-use Rattle.trio_layout.specs.Case.{Case, bundle_core, case_of}
-use Rattle.trio_layout.specs.Copied.{copied_row, copied_rows, is_copied, with_copied}
-use Rattle.trio_layout.specs.Core.{Core, Location}
-use Rattle.trio_layout.specs.Entries.{Listed, body_in_slot, entries_on, listed_at, slot_bytes, slot_entries, unless_repeated}
-use Rattle.trio_layout.specs.Image.{row_at}
-use Rattle.trio_layout.specs.JudgedFiles.{entries_in, fronts, judged_entries, judged_files, new_entries, written_at, written_files, written_met}
-use Rattle.trio_layout.specs.Listing.{is_kept, listing}
-use Rattle.trio_rights.specs.Bundle.{Bundle, Written, is_written}
-use Rattle.trio_layout.specs.Proposed.{is_place_of}
-use Rattle.trio_layout.specs.Rules.{entry_keeps_rights, file_keeps_rights, meets_grammar, meets_owning, meets_rights}
-use Rattle.trio_layout.specs.Slot.{slot_of}
-use Rattle.trio_layout.specs.Survey.{FileRead, Met, children_in, met_in, numbers, plain}
-use Rattle.trio_layout.specs.Within.{entries_where, entries_within, file_within}
-use Rattle.trio_layout.specs.declared.slot.SlotRead.{SlotRead}
+use Rattle.trio_laws.proofs.Words.{◌&&◌, ◌<◌, ◌||◌, ◌∙◌, ◌∷◌, ◌≡◌, ◌⊎◌, Bool, Bundle, Case, Core, Err, FileRead, In, In-is_among, IsJudgeable, Kind, List, Listed, Location, Met, None, Ok, Option, Result, Row, SlotRead, Some, State, Written, [], ap, arith, below_from, body_in_slot, both_ways, bundle_core, case_of, cases_Bool, cases_lt, child_parent, children_in, cond, creds_of, entries_in, entries_where, entries_within, entry_keeps_rights, file_keeps_rights, file_within, flat_map, fronts, gathered_from, get_or_past, inl, inr, is_among, is_among-In, is_kept, is_ok, is_place_of, is_written, judged_entries, list_all, listed_at, listing, map, map-In, meets_grammar, meets_owning, meets_rights, met_cases, met_in, new_entries, numbers, or_left, or_right, place_parts, plain, read_met, refl, result_then-Ok, row_at, row_in, settled, slot_bytes, slot_entries, slot_of, sorted_by, sorted_in, subst, suc, sym, tabulated-get, tabulated-past, true, unless_repeated, with_copied, within_from, written_at, written_files, written_met, ℕ}
+use Rattle.trio_layout.specs.Copied.{copied_row, copied_rows, is_copied}
+use Rattle.trio_layout.specs.Entries.{entries_on}
+use Rattle.trio_layout.specs.JudgedFiles.{judged_files}
 use Rattle.trio_layout.specs.declared.slot.SlotRead.TheVariants.{Entry}
-use Rattle.trio_surveys.proofs.Images.{read_met}
-use Rattle.trio_lists.proofs.Tabulated.{tabulated-get, tabulated-past}
-use Rattle.trio_surveys.proofs.Places.{below_from, entry_numbered, gathered_from}
-use Rattle.trio_state.specs.State.{State, creds_of, settled}
-use Rattle.trio_laws.specs.RuleLaws.{CopiedRowsSuffice, IsJudgeable}
+use Rattle.trio_surveys.proofs.Places.{entry_numbered}
+use Rattle.trio_laws.specs.RuleLaws.{CopiedRowsSuffice}
 use Rattle.trio_laws.proofs.judgement.CaseFacts.{live, new_not_live, is_written_from, row_of_met}
 use Rattle.trio_laws.proofs.judgement.JudgedFacts.{judged_from, new_from, entry_from, written_ino}
-use Rattle.trio_lists.specs.Sorting.{sorted_by}
-use Rattle.trio_lists.proofs.Sorting.{sorted_in}
-use Rattle.trio_surveys.proofs.OwnFiles.{place_parts}
-use Rattle.trio_surveys.proofs.Reached.{met_cases, child_parent}
-use Rattle.trio_layout.proofs.WithinCore.{within_from}
 
 all_same : {X : Type 0} (p q : X → Bool) (xs : List X) → ((x : X) → In x xs → p x ≡ q x) → list_all p xs ≡ list_all q xs
 all_same p q [] h = refl

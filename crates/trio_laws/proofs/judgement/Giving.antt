@@ -1,32 +1,9 @@
 -- Where a bundle meets the four rules, the survey of the proposed core is sound.
-use Rattle.std.proofs.Common.{Some, [], ap, arith, cond, inl, inr, is_ok, refl, subst, sym, true, ℕ, ◌++◌, ◌<◌, ◌∙◌, ◌∷◌, ◌≡◌, ◌⊎◌}
-use Rattle.std.specs.List.{flat_map}
-use Rattle.trio_rights.specs.Row.{Row, row_in}
-use Rattle.trio_lists.proofs.Filters.{some_one}
-use Rattle.trio_lists.proofs.Members.{map-In}
-use Rattle.trio_lists.proofs.Gathered.{each_new, one_of}
-use Rattle.trio_lists.proofs.New.{are_new-fewer}
-use Rattle.trio_lists.specs.Lists.{In, are_new}
-use Rattle.trio_layout.specs.Case.{Case, case_of}
-use Rattle.trio_layout.specs.Core.{Core}
-use Rattle.trio_layout.specs.Image.{row_at}
-use Rattle.trio_layout.specs.JudgedFiles.{entries_in, judged_entries, judged_files, pages_within}
-use Rattle.trio_layout.specs.Listing.{is_kept}
-use Rattle.trio_rights.specs.Bundle.{Bundle, bundle_pages, is_written}
-use Rattle.trio_layout.specs.Proposed.{kept_body, proposed, proposed_pick}
-use Rattle.trio_layout.specs.Rules.{meets_rules}
-use Rattle.trio_layout.specs.Sound.{is_sound}
-use Rattle.trio_layout.specs.Survey.{Met, Pick, children, file_of, numbers, pages_of, plain, root_of, survey}
-use Rattle.trio_surveys.proofs.Owned.{sound_parts}
-use Rattle.trio_surveys.proofs.Tree.{child_numbered}
-use Rattle.trio_layout.proofs.Walks.{numbers-flat}
-use Rattle.trio_state.specs.State.{State, creds_of, settled}
-use Rattle.trio_laws.specs.RuleLaws.{IsJudgeable}
+use Rattle.trio_laws.proofs.Words.{◌++◌, ◌<◌, ◌∙◌, ◌∷◌, ◌≡◌, ◌⊎◌, Bundle, Case, Core, In, IsJudgeable, Met, Pick, Row, Some, State, [], ap, are_new, are_new-fewer, arith, bundle_pages, case_of, child_numbered, children, cond, creds_of, each_new, entries_in, file_of, flat_map, inl, inr, is_kept, is_ok, is_sound, is_written, judged_entries, judged_files, kept_body, lent_settled, map-In, meets_rules, met_same, numbers, numbers-flat, one_of, pages_of, pages_within, place_parts, plain, proposed, proposed_pick, refl, root_of, row_at, row_in, settled, some_one, sound_parts, subst, survey, sym, true, ℕ}
 use Rattle.trio_surveys.proofs.Sharing.{Shares, sound_by, survey_keeps}
 use Rattle.trio_laws.proofs.judgement.CaseFacts.{new_not_live, held_row, held_parent, held_apart, no_row_zero, root_row, root_unheld, kept_settled, written_row, written_find}
 use Rattle.trio_laws.proofs.judgement.JudgedFacts.{ReadOwn, entry_to, judged_from, new_from, new_judged, entries_are, written_ino}
-use Rattle.trio_surveys.proofs.OwnFiles.{place_parts, lent_settled, own_whole}
-use Rattle.trio_surveys.proofs.RowsLaw.{met_same}
+use Rattle.trio_surveys.proofs.OwnFiles.{own_whole}
 use Rattle.trio_laws.proofs.judgement.RuleParts.{has_kind_is, rule_file, rule_page, rule_pages_once, rule_once, rule_own, rule_kept_kind, rule_held}
 use Rattle.trio_laws.proofs.judgement.Sides.{Inside, Outside, live_sides, inside_read, inside_pages, inside_own, inside_numbers, inside_child, outside_met, outside_read, outside_pages, outside_apart, outside_numbers, outside_child}
 

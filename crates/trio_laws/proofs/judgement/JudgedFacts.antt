@@ -1,30 +1,7 @@
 -- The judged files: written ones, and new ones that a judged directory lists, each number once.
-use Rattle.std.proofs.Common.{List, None, Ok, Option, Some, [], ap, arith, inl, inr, refl, subst, suc, sym, true, ℕ, ◌++◌, ◌<◌, ◌∙◌, ◌∷◌, ◌≡◌, ◌≤◌, ◌⊎◌}
-use Rattle.std.proofs.lemmas.List.{append-nil}
-use Rattle.std.specs.List.{flat_map}
-use Rattle.std.specs.Prelude.{map}
-use Rattle.trio_rights.specs.Row.{Row, row_in}
-use Rattle.trio_lists.proofs.Filters.{filter-In, In-filter}
-use Rattle.trio_lists.proofs.Members.{is_among-In, In-flat, In-left, In-map, In-right, In-is_among, flat_map-In, map-In}
-use Rattle.trio_lists.proofs.Gathered.{each_new, filtered_in, filtered_new, gathered_new, new_beside, one_of}
-use Rattle.trio_lists.specs.Lists.{In, are_new, is_among}
-use Rattle.trio_layout.proofs.QueueLaws.{met_by}
-use Rattle.trio_layout.specs.Case.{Case, bundle_core, case_of}
-use Rattle.trio_layout.specs.Core.{Core}
-use Rattle.trio_layout.specs.Image.{row_at}
-use Rattle.trio_layout.specs.JudgedFiles.{entries_in, fronts, judged_entries, judged_files, new_entries, written_at, written_files, written_met}
-use Rattle.trio_rights.specs.Bundle.{Bundle, Written, bundle_pages}
-use Rattle.trio_layout.specs.Proposed.{proposed}
-use Rattle.trio_layout.specs.Survey.{FileRead, Front, Met, children, children_in, file_of, numbers, plain}
-use Rattle.trio_layout.specs.Within.{file_within}
-use Rattle.trio_surveys.proofs.Images.{same_met}
-use Rattle.trio_surveys.proofs.Tree.{child_numbered}
-use Rattle.trio_layout.proofs.Walks.{fronts_listed, numbers-flat}
-use Rattle.trio_state.specs.State.{State, creds_of, settled}
-use Rattle.trio_laws.specs.RuleLaws.{IsJudgeable}
-use Rattle.trio_layout.proofs.Walks.{fronts_keep, fronts_new, starts_met, fronts_closed, fronts_tree}
-use Rattle.trio_lists.specs.Sorting.{sorted_by}
-use Rattle.trio_lists.proofs.Sorting.{in_sorted, sorted_in, sorted_new}
+use Rattle.trio_laws.proofs.Words.{◌++◌, ◌<◌, ◌∙◌, ◌∷◌, ◌≡◌, ◌≤◌, ◌⊎◌, Bundle, Case, Core, FileRead, Front, In, In-filter, In-flat, In-is_among, In-left, In-map, In-right, IsJudgeable, List, Met, None, Ok, Option, Row, Some, State, Written, [], ap, append-nil, are_new, arith, bundle_core, bundle_pages, case_of, child_numbered, children, children_in, creds_of, each_new, entries_in, file_of, file_within, filter-In, filtered_in, filtered_new, flat_map, flat_map-In, fronts, fronts_keep, fronts_listed, fronts_new, fronts_tree, gathered_new, in_sorted, inl, inr, is_among, is_among-In, judged_entries, map, map-In, met_by, new_beside, new_entries, numbers, numbers-flat, one_of, plain, proposed, refl, row_at, row_in, same_met, settled, sorted_by, sorted_in, sorted_new, starts_met, subst, suc, sym, true, written_at, written_files, written_met, ℕ}
+use Rattle.trio_layout.specs.JudgedFiles.{judged_files}
+use Rattle.trio_layout.proofs.Walks.{fronts_closed}
 use Rattle.trio_laws.proofs.judgement.CaseFacts.{live_bounds, written_row, new_not_live}
 
 pub written_ino_at : (w : Written) (o : Option Row) → (written_at w o).ino ≡ w.ino

@@ -1,19 +1,5 @@
 -- What stands in the listing of a bundle.
-use Rattle.std.proofs.Common.{None, Ok, Option, Result, Some, ap, eqb, inl, inr, refl, subst, sym, true, ℕ, ◌∙◌, ◌≡◌, ◌⊎◌, arith}
-use Rattle.std.proofs.lemmas.Bool.{and_from, and_parts, eq-eqb, eqb-true}
-use Rattle.std.specs.List.{find}
-use Rattle.std.specs.Option.{option_map_or}
-use Rattle.trio_lists.proofs.Filters.{list_any-In, In-list_any, In-find, find-In}
-use Rattle.trio_lists.proofs.Members.{In-flat, In-map, flat_map-In, map-In}
-use Rattle.trio_lists.specs.Lists.{In}
-use Rattle.trio_layout.specs.Case.{Case, bundle_core}
-use Rattle.trio_layout.specs.Core.{Location}
-use Rattle.trio_layout.specs.Edges.{has_file, is_listed, is_listed_kept, proposed_parent, row_parent}
-use Rattle.trio_layout.specs.JudgedFiles.{judged_entries, judged_files}
-use Rattle.trio_layout.specs.Listing.{ListedEntry, ListedFile, entry_listed, file_listed, is_kept, listing}
-use Rattle.trio_layout.specs.Survey.{FileRead, Met, row_by}
-use Rattle.trio_layout.specs.Within.{file_within}
-use Rattle.trio_lists.proofs.Sorting.{in_sorted, sorted_in}
+use Rattle.trio_laws.proofs.Words.{◌∙◌, ◌≡◌, ◌⊎◌, Case, FileRead, In, In-find, In-flat, In-list_any, In-map, ListedEntry, ListedFile, Location, Met, None, Ok, Option, Result, Some, and_from, and_parts, ap, arith, bundle_core, entry_listed, eq-eqb, eqb, eqb-true, file_listed, file_within, find, find-In, flat_map-In, has_file, in_sorted, inl, inr, is_kept, is_listed, is_listed_kept, judged_entries, judged_files, list_any-In, listing, map-In, option_map_or, proposed_parent, refl, row_by, row_parent, sorted_in, subst, sym, true, ℕ}
 
 module _ (c : Case) where
   pub listed_from : (le : ListedEntry) → In le (listing c).entries → (e : Met) × In e (judged_entries c) × (le ≡ entry_listed c e)

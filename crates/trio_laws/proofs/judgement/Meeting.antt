@@ -1,40 +1,8 @@
 -- Where a bundle is accepted it meets I1, I2 and I4.
-use Rattle.std.proofs.Common.{Bool, List, Ok, Option, Some, [], ap, cond, eqb, false, inl, inr, is_ok, not, refl, subst, sym, true, ℕ, ◌&&◌, ◌||◌, ◌∙◌, ◌∷◌, ◌≡◌, arith}
-use Rattle.std.proofs.lemmas.Bool.{and_from, both_ways, cases_Bool, eq-eqb, or_left, or_right}
-use Rattle.std.proofs.lemmas.Slice.Eq.{bytes_eq-Decides}
-use Rattle.std.specs.List.{flat_map, list_all}
-use Rattle.std.specs.Prelude.{is_some}
-use Rattle.std.specs.Str.{bytes_eq}
-use Rattle.trio_rights.specs.Row.{Row, row_in}
-use Rattle.trio_lists.proofs.Filters.{some_one}
-use Rattle.trio_lists.proofs.Members.{is_among-In, list_all-each, In-is_among, flat_map-In}
+use Rattle.trio_laws.proofs.Words.{◌&&◌, ◌||◌, ◌∙◌, ◌∷◌, ◌≡◌, Body, Bool, Bundle, Case, Core, FileRead, In, In-is_among, IsJudgeable, List, Met, Ok, Option, Pick, Row, Some, State, [], and_from, ap, are_new, are_new-fewer, arith, body_of, both_ways, bundle_core, bundle_pages, bytes_eq, bytes_eq-Decides, case_of, cases_Bool, child_met, children, cond, creds_of, entries_in, entry_in_grammar, entry_is_own, entry_keeps_rights, eq-eqb, eqb, false, file_keeps_rights, file_within, flat_map, flat_map-In, has_kind, has_owner, has_rights, inl, inr, is_accepted, is_among, is_among-In, is_kept, is_ok, is_some, is_written, judged_entries, judged_files, judged_pages, lent_body, lent_settled, list_all, list_all-each, meets_grammar, meets_owning, meets_rights, not, numbers, numbers-flat, or_left, or_right, pages_in, pages_of, pages_within, place_from, place_parts, proposed, proposed_pick, read_met, reads_from, refl, row_at, row_in, row_met, settled, some_one, sound_parts, subst, survey, sym, true, ℕ}
 use Rattle.trio_lists.proofs.Gathered.{new_spread}
-use Rattle.trio_lists.proofs.New.{are_new-fewer}
-use Rattle.trio_lists.specs.Lists.{In, are_new, is_among}
-use Rattle.trio_layout.specs.Accept.{is_accepted}
-use Rattle.trio_layout.specs.Allowed.{has_kind, has_owner}
-use Rattle.trio_layout.specs.Body.{body_of}
-use Rattle.trio_layout.specs.Case.{Case, bundle_core, case_of}
-use Rattle.trio_layout.specs.Core.{Core}
-use Rattle.trio_layout.specs.Image.{row_at}
-use Rattle.trio_layout.specs.JudgedFiles.{entries_in, judged_entries, judged_files, judged_pages, pages_within}
-use Rattle.trio_layout.specs.Listing.{is_kept}
-use Rattle.trio_rights.specs.Bundle.{Bundle, bundle_pages, is_written}
-use Rattle.trio_layout.specs.Proposed.{proposed, proposed_pick}
-use Rattle.trio_layout.specs.Rules.{entry_in_grammar, entry_is_own, entry_keeps_rights, file_keeps_rights, has_rights, lent_body, meets_grammar, meets_owning, meets_rights}
-use Rattle.trio_layout.specs.Survey.{FileRead, Met, Pick, children, numbers, pages_in, pages_of, survey}
-use Rattle.trio_layout.specs.Within.{file_within}
-use Rattle.trio_layout.specs.declared.body.Body.{Body}
-use Rattle.trio_surveys.proofs.Images.{read_met, row_met}
-use Rattle.trio_surveys.proofs.Local.{reads_from}
-use Rattle.trio_surveys.proofs.Owned.{sound_parts}
-use Rattle.trio_layout.proofs.Walks.{numbers-flat}
-use Rattle.trio_state.specs.State.{State, creds_of, settled}
-use Rattle.trio_laws.specs.RuleLaws.{IsJudgeable}
 use Rattle.trio_laws.proofs.judgement.CaseFacts.{new_not_live, held_row, held_apart, written_find, written_row, is_written_from}
 use Rattle.trio_laws.proofs.judgement.JudgedFacts.{ReadOwn, written_ino, judged_new, judged_from, new_from, entry_from}
-use Rattle.trio_surveys.proofs.OwnFiles.{place_from, place_parts, lent_settled}
-use Rattle.trio_surveys.proofs.Reached.{child_met}
 use Rattle.trio_laws.proofs.judgement.RuleParts.{has_kind_from}
 use Rattle.trio_laws.proofs.judgement.Sides.{Inside, inside_has, inside_numbers}
 use Rattle.trio_laws.proofs.judgement.Taking.{fit, sound, classes, unheld_at, entry_is_child, judged_met, reads}

@@ -1,38 +1,10 @@
 -- Where a bundle is accepted it meets I3, and so all four rules.
-use Rattle.std.proofs.Common.{Bool, List, None, Option, Some, [], ap, arith, eqb, false, get_or, inl, inr, length, not, refl, subst, suc, sym, true, zero, ℕ, ◌&&◌, ◌+◌, ◌<◌, ◌||◌, ◌∙◌, ◌∷◌, ◌≡◌, ◌≤◌, ◌⊎◌}
-use Rattle.std.proofs.lemmas.Bool.{and_from, and_parts, both_ways, cases_Bool, eq-eqb, eqb-true, false≢true, or_left, or_right}
-use Rattle.std.specs.List.{list_all}
-use Rattle.trio_rights.specs.Row.{Row, row_in}
-use Rattle.trio_rights.specs.declared.kind.Kind.TheVariants.{Directory}
-use Rattle.trio_lists.proofs.Filters.{list_any-In}
-use Rattle.trio_lists.proofs.Members.{is_among-In, list_all-each, In-is_among}
-use Rattle.trio_lists.specs.Lists.{In, is_among}
-use Rattle.trio_layout.specs.Accept.{is_accepted}
-use Rattle.trio_layout.specs.Allowed.{has_kind}
-use Rattle.trio_layout.specs.Case.{Case, case_of}
-use Rattle.trio_layout.specs.Core.{Core}
-use Rattle.trio_layout.specs.Edges.{climbs, climbs_clear, comes_to_root, has_file, is_listed, is_listed_kept, is_moved, keeps_children, leaves_none, meets_edges, proposed_parent, stays_listed}
-use Rattle.trio_rights.specs.Row.{is_child}
-use Rattle.trio_layout.specs.Image.{row_at}
-use Rattle.trio_layout.specs.JudgedFiles.{judged_files}
-use Rattle.trio_layout.specs.Listing.{ListedEntry, listing}
-use Rattle.trio_rights.specs.Bundle.{Bundle, is_written}
-use Rattle.trio_layout.specs.Proposed.{proposed, proposed_pick}
-use Rattle.trio_layout.specs.Rules.{meets_rules}
-use Rattle.trio_layout.specs.Survey.{Met, Pick, children, plain, row_of, survey}
-use Rattle.trio_surveys.proofs.Images.{met_numbered, met_row, one_met}
-use Rattle.trio_lists.proofs.Tabulated.{tabulated-length}
-use Rattle.trio_surveys.specs.Tree.{Reaches}
-use Rattle.trio_state.specs.State.{State, creds_of, settled}
+use Rattle.trio_laws.proofs.Words.{◌&&◌, ◌+◌, ◌<◌, ◌||◌, ◌∙◌, ◌∷◌, ◌≡◌, ◌≤◌, ◌⊎◌, Bool, Bundle, Case, Core, Directory, In, In-is_among, IsJudgeable, List, ListedEntry, Met, None, Option, Pick, Reaches, Row, Some, State, [], and_from, and_parts, ap, arith, both_ways, case_of, cases_Bool, child_met, child_parent, children, climbs, climbs_clear, climbs_more, climbs_past, comes_to_root, creds_of, eq-eqb, eqb, eqb-true, false, false≢true, get_or, has_file, has_kind, inl, inr, is_accepted, is_among, is_among-In, is_child, is_listed, is_listed_kept, is_moved, is_written, judged_files, keeps_children, leaves_none, length, list_all, list_all-each, list_any-In, listing, meets_edges, meets_rules, met_cases, met_numbered, met_row, not, one_met, or_left, or_right, place_from, plain, proposed, proposed_parent, proposed_pick, reached_met, refl, row_at, row_in, row_of, settled, stays_listed, subst, suc, survey, survey_reached, sym, tabulated-length, true, zero, ℕ}
 use Rattle.trio_laws.proofs.Survivors.{unheld_row}
-use Rattle.trio_laws.specs.RuleLaws.{IsJudgeable}
 use Rattle.trio_laws.proofs.judgement.Allowing.{up_to_from}
-use Rattle.trio_surveys.proofs.Climbing.{climbs_more, climbs_past}
 use Rattle.trio_laws.proofs.judgement.CaseFacts.{parent_at, held_parent, held_row, held_apart, kept_settled, new_not_live, no_row_zero, root_row, root_unheld, unwritten_cases, written_find}
 use Rattle.trio_laws.proofs.judgement.JudgedFacts.{entry_to, new_judged, written_ino, written_judged}
 use Rattle.trio_laws.proofs.judgement.ListingFacts.{held_from, held_to, has_file_at, is_listed_by, kept_by, listed_from, parent_cases}
-use Rattle.trio_surveys.proofs.OwnFiles.{place_from}
-use Rattle.trio_surveys.proofs.Reached.{child_parent, child_met, met_cases, reached_met, survey_reached}
 use Rattle.trio_laws.proofs.judgement.Sides.{Outside, inside_child, outside_child}
 use Rattle.trio_laws.proofs.judgement.Taking.{fit, sound, classes, unheld_at, body_kept, judged_met, reads}
 use Rattle.trio_laws.proofs.judgement.Meeting.{itself, entry_met, grammar_met, owning_met, once_met, rights_met}

@@ -1,37 +1,7 @@
 -- Where a bundle meets the four rules, each live file that isn't held is met in the proposed core.
-use Rattle.std.proofs.Common.{Bool, List, None, Ok, Option, Some, [], ap, arith, eqb, false, get_or, inl, inr, length, not, refl, subst, suc, sym, true, zero, ℕ, ◌&&◌, ◌<◌, ◌||◌, ◌∙◌, ◌∷◌, ◌≡◌, ◌≤◌, ◌⊎◌}
-use Rattle.std.proofs.lemmas.Bool.{and_from, both_ways, cases_Bool, cases_eq, eq-eqb, eqb-true, false≢true, not-true, or_cases}
-use Rattle.std.specs.List.{list_any}
-use Rattle.std.specs.Prelude.{is_some}
-use Rattle.trio_rights.specs.Row.{Row, row_in}
-use Rattle.trio_rights.specs.declared.kind.Kind.{Kind}
-use Rattle.trio_rights.specs.declared.kind.Kind.TheVariants.{Directory}
-use Rattle.trio_lists.proofs.Filters.{In-list_any, some_one}
-use Rattle.trio_lists.proofs.Members.{is_among-In, In-is_among}
-use Rattle.trio_lists.specs.Lists.{In, is_among}
-use Rattle.trio_layout.specs.Allowed.{has_kind}
-use Rattle.trio_layout.specs.Case.{Case, case_of}
-use Rattle.trio_layout.specs.Core.{Core}
-use Rattle.trio_layout.specs.Edges.{climbs, climbs_clear, has_file, is_listed_kept, is_moved, proposed_parent, stays_listed}
-use Rattle.trio_rights.specs.Row.{is_child}
-use Rattle.trio_layout.specs.Entries.{Listed, entries_of_kind}
-use Rattle.trio_layout.specs.Image.{row_at}
-use Rattle.trio_layout.specs.JudgedFiles.{entries_in, judged_entries, judged_files}
-use Rattle.trio_layout.specs.Listing.{ListedEntry, entry_listed, is_kept, listing}
-use Rattle.trio_rights.specs.Bundle.{Bundle}
-use Rattle.trio_layout.specs.Proposed.{proposed, proposed_pick}
-use Rattle.trio_layout.specs.Rules.{meets_rules}
-use Rattle.trio_layout.specs.Survey.{Met, Pick, children, plain, root_of, survey}
-use Rattle.trio_surveys.proofs.Images.{one_met, read_met}
-use Rattle.trio_surveys.proofs.Local.{reads_from}
-use Rattle.trio_surveys.proofs.Sheets.{among_cases}
-use Rattle.trio_surveys.proofs.Tree.{child_from}
-use Rattle.trio_state.specs.State.{State, creds_of, settled}
-use Rattle.trio_laws.specs.RuleLaws.{IsJudgeable}
-use Rattle.trio_surveys.proofs.RowsLaw.{row_there}
+use Rattle.trio_laws.proofs.Words.{◌&&◌, ◌<◌, ◌||◌, ◌∙◌, ◌∷◌, ◌≡◌, ◌≤◌, ◌⊎◌, Bool, Bundle, Case, Core, Directory, In, In-is_among, In-list_any, IsJudgeable, Kind, List, Listed, ListedEntry, Met, None, Ok, Option, Pick, Reaches, Row, Some, State, [], among_cases, and_from, ap, arith, both_ways, case_of, cases_Bool, cases_eq, child_from, child_met, child_parent, children, climbs, climbs_clear, creds_of, entries_in, entries_of_kind, entry_listed, eq-eqb, eqb, eqb-true, false, false≢true, get_or, has_file, has_kind, inl, inr, is_among, is_among-In, is_child, is_kept, is_listed_kept, is_moved, is_some, judged_entries, judged_files, length, list_any, listing, meets_rules, met_cases, no_root_listed, not, not-true, one_met, or_cases, plain, proposed, proposed_parent, proposed_pick, reached_met, read_met, reads_from, refl, root_of, row_at, row_in, row_there, settled, some_one, stays_listed, subst, suc, survey, survey_reached, sym, true, zero, ℕ}
 use Rattle.trio_surveys.proofs.Climbing.{clear_climbs}
-use Rattle.trio_surveys.proofs.Reached.{child_parent, child_met, met_cases, root_met, no_root_listed, reached_met, survey_reached}
-use Rattle.trio_surveys.specs.Tree.{Reaches}
+use Rattle.trio_surveys.proofs.Reached.{root_met}
 use Rattle.trio_laws.proofs.judgement.CaseFacts.{parent_at, live, live_bounds, row_of_met, new_not_live, held_apart, written_row}
 use Rattle.trio_laws.proofs.judgement.JudgedFacts.{entry_from, entry_to, judged_from, new_from, one_judged, entries_are, written_ino}
 use Rattle.trio_laws.proofs.judgement.RuleParts.{rule_own, rule_stays, rule_leaves, rule_comes, has_kind_from}

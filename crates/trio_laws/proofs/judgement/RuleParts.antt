@@ -1,23 +1,6 @@
 -- What each rule says, clause by clause.
-use Rattle.std.proofs.Common.{Bool, None, Ok, Option, Some, [], ap, cond, false, is_ok, length, not, subst, sym, true, ℕ, ◌&&◌, ◌++◌, ◌<◌, ◌||◌, ◌∙◌, ◌≡◌, ◌≤◌, ◌⊎◌, arith}
-use Rattle.std.proofs.lemmas.Bool.{and_parts, both_ways, cases_Bool, false≢true, or_cases}
-use Rattle.std.proofs.lemmas.Slice.Eq.{bytes_eq-Decides}
-use Rattle.std.specs.List.{flat_map, list_all}
-use Rattle.trio_rights.specs.Row.{Row, row_in}
-use Rattle.trio_rights.specs.declared.kind.Kind.{Kind}
-use Rattle.trio_lists.proofs.Members.{is_among-In, In-flat, list_all-In, In-is_among, is_ok-Ok}
-use Rattle.trio_lists.specs.Lists.{In, are_new, is_among}
-use Rattle.trio_layout.specs.Allowed.{has_kind}
+use Rattle.trio_laws.proofs.Words.{◌&&◌, ◌++◌, ◌<◌, ◌||◌, ◌∙◌, ◌≡◌, ◌≤◌, ◌⊎◌, Bool, Case, FileRead, In, In-flat, In-is_among, Kind, ListedEntry, Listing, Met, None, Ok, Option, Row, Some, [], and_parts, ap, are_new, arith, both_ways, bundle_core, bundle_pages, bytes_eq-Decides, cases_Bool, comes_to_root, cond, entry_is_own, entry_keeps_rights, false, false≢true, file_keeps_rights, file_within, flat_map, has_kind, is_among, is_among-In, is_kept, is_ok, is_ok-Ok, judged_entries, judged_files, judged_pages, keeps_children, leaves_none, length, lent_body, list_all, list_all-In, listing, meets_edges, meets_grammar, meets_owning, meets_rights, meets_rules, not, numbers, or_cases, pages_in, pages_within, row_in, same_kind_is, stays_listed, subst, sym, true, up_to_at, ℕ}
 use Rattle.trio_rights.specs.Kind.{same_kind}
-use Rattle.trio_layout.specs.Case.{Case, bundle_core}
-use Rattle.trio_layout.specs.Edges.{comes_to_root, keeps_children, leaves_none, meets_edges, stays_listed}
-use Rattle.trio_layout.specs.JudgedFiles.{judged_entries, judged_files, judged_pages, pages_within}
-use Rattle.trio_layout.specs.Listing.{ListedEntry, Listing, is_kept, listing}
-use Rattle.trio_rights.specs.Bundle.{bundle_pages}
-use Rattle.trio_layout.specs.Rules.{entry_is_own, entry_keeps_rights, file_keeps_rights, lent_body, meets_grammar, meets_owning, meets_rights, meets_rules}
-use Rattle.trio_layout.specs.Survey.{FileRead, Met, numbers, pages_in}
-use Rattle.trio_layout.specs.Within.{file_within}
-use Rattle.trio_surveys.proofs.Alike.{same_kind_is, up_to_at}
 
 pub has_kind_is : (kind : Kind) (o : Option Row) (r : Row) → o ≡ Some r → has_kind kind o ≡ true → kind ≡ r.kind
 has_kind_is kind None r e h = absurd cc

@@ -1,28 +1,10 @@
 -- The files of the proposed core, on either side of the bundle: those that read as a judged file does, and those that read as in
 -- the settled image.
-use Rattle.std.proofs.Common.{Ok, Some, ap, cond, inl, inr, refl, subst, sym, true, ℕ, ◌∙◌, ◌≡◌, ◌⊎◌, arith}
-use Rattle.std.specs.Option.{option_map_or}
-use Rattle.trio_rights.specs.Row.{Row}
-use Rattle.trio_lists.proofs.Filters.{some_one}
-use Rattle.trio_lists.specs.Lists.{In}
-use Rattle.trio_layout.specs.Case.{Case, case_of}
-use Rattle.trio_layout.specs.Core.{Core}
-use Rattle.trio_layout.specs.Entries.{Listed}
-use Rattle.trio_layout.specs.Image.{row_at, settled_body}
-use Rattle.trio_layout.specs.JudgedFiles.{entries_in, judged_files, pages_within, written_met}
-use Rattle.trio_rights.specs.Bundle.{Bundle, Written, bundle_pages}
-use Rattle.trio_layout.specs.Proposed.{is_place_of, kept_body, proposed, proposed_pick}
-use Rattle.trio_layout.specs.Survey.{FileRead, Met, Pick, children, file_of, met_in, numbers, pages_in, pages_of, plain, row_by, survey}
-use Rattle.trio_surveys.proofs.Images.{MetAt, read_met}
-use Rattle.trio_surveys.proofs.Tree.{child_from, child_has}
-use Rattle.trio_state.specs.State.{State, creds_of, settled}
+use Rattle.trio_laws.proofs.Words.{◌∙◌, ◌≡◌, ◌⊎◌, Bundle, Case, Core, FileRead, In, IsJudgeable, Listed, Met, MetAt, Ok, Pick, Row, Some, State, Written, ap, arith, bundle_pages, case_of, child_from, child_has, child_met, children, cond, creds_of, entries_in, file_of, file_same, inl, inr, is_place_of, judged_files, kept_body, met_in, numbers, option_map_or, pages_in, pages_of, pages_within, place_from, plain, proposed, proposed_pick, read_met, refl, row_at, row_by, settled, settled_body, some_one, subst, survey, sym, true, written_met, ℕ}
 use Rattle.trio_laws.proofs.Bundles.{Unwritten, unwritten_apart}
-use Rattle.trio_laws.specs.RuleLaws.{IsJudgeable}
-use Rattle.trio_surveys.proofs.Within.{file_same}
 use Rattle.trio_laws.proofs.judgement.CaseFacts.{live, row_of_met, written_row, written_find, unwritten_cases, kept_settled, outside}
 use Rattle.trio_laws.proofs.judgement.JudgedFacts.{ReadOwn, written_ino, written_kind, written_body, written_judged, entries_are}
-use Rattle.trio_surveys.proofs.OwnFiles.{place_from, numbers_met}
-use Rattle.trio_surveys.proofs.Reached.{child_met}
+use Rattle.trio_surveys.proofs.OwnFiles.{numbers_met}
 
 module _ (s : State) (lib : ℕ) (b : Bundle) (j : IsJudgeable s lib b) (reads : (m : Met) → In m (judged_files (case_of (settled s) (creds_of s lib) b)) → ReadOwn (case_of (settled s) (creds_of s lib) b) (proposed (settled s) b) m) where
   abbrev c : Case

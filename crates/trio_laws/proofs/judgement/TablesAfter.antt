@@ -1,36 +1,15 @@
 -- The rows and owners after an accepted bundle are those that its listing says.
-use Rattle.std.proofs.Common.{Bool, List, None, Ok, Option, Result, Some, [], ap, cond, eqb, false, inl, inr, leb, ltb, not, refl, subst, sym, true, ℕ, ◌&&◌, ◌++◌, ◌∙◌, ◌∷◌, ◌≡◌, ◌⊎◌, arith}
-use Rattle.std.proofs.lemmas.Bool.{and_from, and_parts, both_ways, cases_Bool, eq-eqb, eqb-true, le-ltb, leb-true, ltb-true, not-true, or_cases, or_left, or_right}
-use Rattle.std.specs.List.{find}
-use Rattle.std.specs.Option.{option_map, option_map_or}
-use Rattle.std.specs.Prelude.{slice_index}
-use Rattle.trio_rights.specs.Row.{Row}
-use Rattle.trio_lists.proofs.Filters.{In-find, find-In}
-use Rattle.trio_lists.proofs.Members.{is_among-In, In-flat, In-is_among, flat_map-In}
-use Rattle.trio_lists.specs.Lists.{In, is_among}
-use Rattle.trio_layout.specs.Accept.{is_accepted, next}
-use Rattle.trio_layout.specs.Case.{Case, bundle_core, case_of}
-use Rattle.trio_layout.specs.Core.{Core, Location}
-use Rattle.trio_layout.specs.Edges.{has_file, is_listed}
-use Rattle.trio_layout.specs.Image.{Image, row_at}
-use Rattle.trio_layout.specs.JudgedFiles.{judged_entries, judged_files}
-use Rattle.trio_layout.specs.Listing.{ListedEntry, ListedFile, Listing, entry_listed, file_listed, listing}
-use Rattle.trio_rights.specs.Bundle.{Bundle, is_written}
-use Rattle.trio_layout.specs.Proposed.{proposed, proposed_pick}
-use Rattle.trio_layout.specs.Range.{is_core}
-use Rattle.trio_layout.specs.Survey.{FileRead, Met, Pick, owner_of, pages_in, pages_of, plain, row_by, row_of, survey}
-use Rattle.trio_layout.specs.Tables.{gives_up, owner_after, placed_row, row_after}
-use Rattle.trio_layout.specs.Within.{file_within}
-use Rattle.trio_surveys.proofs.Images.{met_row, one_met, owner_at, owner_listed, owner_none, read_met, row_at_is, row_met}
-use Rattle.trio_surveys.proofs.Owned.{owner_is, sound_parts}
-use Rattle.trio_state.specs.State.{State, creds_of, settled}
+use Rattle.trio_laws.proofs.Words.{◌&&◌, ◌++◌, ◌∙◌, ◌∷◌, ◌≡◌, ◌⊎◌, Bool, Bundle, Case, Core, FileRead, Image, In, In-find, In-flat, In-is_among, IsJudgeable, List, ListedEntry, ListedFile, Listing, Location, Met, None, Ok, Option, Pick, Result, Row, Some, State, [], and_from, and_parts, ap, arith, both_ways, bundle_core, case_of, cases_Bool, cond, creds_of, entry_listed, eq-eqb, eqb, eqb-true, false, file_listed, file_within, find, find-In, flat_map-In, has_file, inl, inr, is_accepted, is_among, is_among-In, is_core, is_listed, is_written, judged_entries, judged_files, le-ltb, leb, leb-true, listing, ltb, ltb-true, met_cases, met_row, next, not, not-true, one_met, option_map, option_map_or, or_cases, or_left, or_right, owner_listed, pages_in, pages_of, plain, proposed, proposed_pick, read_met, refl, row_after, row_at, row_at_is, row_by, row_met, row_of, settled, slice_index, sound_parts, subst, survey, sym, true, ℕ}
+use Rattle.trio_layout.specs.Survey.{owner_of}
+use Rattle.trio_layout.specs.Tables.{gives_up, owner_after, placed_row}
+use Rattle.trio_surveys.proofs.Images.{owner_at, owner_none}
+use Rattle.trio_surveys.proofs.Owned.{owner_is}
 use Rattle.trio_laws.proofs.StateFacts.{tables}
 use Rattle.trio_laws.proofs.Survivors.{held_rights, stays, unheld_row}
-use Rattle.trio_laws.specs.RuleLaws.{IsJudgeable, ListingGivesTables}
+use Rattle.trio_laws.specs.RuleLaws.{ListingGivesTables}
 use Rattle.trio_laws.proofs.judgement.CaseFacts.{row_of_met, held_parent, written_find, root_unheld, no_row_zero}
 use Rattle.trio_laws.proofs.judgement.JudgedFacts.{entry_to, new_judged}
 use Rattle.trio_laws.proofs.judgement.ListingFacts.{has_file_by, held_from, held_to, has_file_at, is_listed_at, is_listed_by, listed_from, listed_to}
-use Rattle.trio_surveys.proofs.Reached.{met_cases}
 use Rattle.trio_laws.proofs.judgement.Sides.{Outside, inside_child, outside_child, outside_met, outside_pages}
 use Rattle.trio_laws.proofs.judgement.Taking.{fit, sound, classes, unheld_at, judged_met, reads}
 use Rattle.trio_laws.proofs.judgement.Meeting.{itself, entry_met, once_met}

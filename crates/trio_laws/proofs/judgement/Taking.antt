@@ -1,38 +1,9 @@
 -- Where a bundle is accepted: its judged files are met, and every file met is judged or as it was.
-use Rattle.std.proofs.Common.{Bool, List, None, Ok, Option, Some, ap, cond, eqb, false, inl, inr, refl, subst, sym, true, ℕ, ◌&&◌, ◌++◌, ◌∙◌, ◌≡◌, ◌⊎◌, arith}
-use Rattle.std.proofs.lemmas.Bool.{and_parts, both_ways}
-use Rattle.std.proofs.lemmas.Slice.Eq.{bytes_eq-Decides}
-use Rattle.std.specs.List.{find, list_all}
-use Rattle.std.specs.Option.{option_map_or}
-use Rattle.std.specs.Prelude.{is_some}
-use Rattle.std.specs.Str.{bytes_eq}
-use Rattle.trio_rights.specs.Row.{Row}
-use Rattle.trio_lists.proofs.Filters.{some_one}
-use Rattle.trio_lists.proofs.Members.{is_among-In, list_all-In, In-is_among}
-use Rattle.trio_lists.proofs.Gathered.{one_keyed}
-use Rattle.trio_lists.specs.Lists.{In, is_among}
-use Rattle.trio_layout.specs.Accept.{is_accepted}
-use Rattle.trio_layout.specs.Allowed.{has_kind, has_owner, lists_own, may_stand}
-use Rattle.trio_layout.specs.Case.{Case, case_of}
-use Rattle.trio_layout.specs.Core.{Core}
-use Rattle.trio_layout.specs.Entries.{Listed}
-use Rattle.trio_layout.specs.Image.{IsFit, row_at, settled_body}
-use Rattle.trio_layout.specs.JudgedFiles.{entries_in, judged_files, written_at, written_met}
-use Rattle.trio_rights.specs.Bundle.{Bundle, Written, bundle_pages, is_written}
-use Rattle.trio_layout.specs.Proposed.{is_place_of, kept_body, proposed, proposed_pick}
-use Rattle.trio_layout.specs.Sound.{is_sound}
-use Rattle.trio_layout.specs.Survey.{FileRead, Met, Pick, children, file_of, met_in, pages_of, plain, row_by, row_of, survey}
-use Rattle.trio_surveys.proofs.Images.{met_row, read_met, row_met, some_of}
-use Rattle.trio_surveys.proofs.Owned.{pages_are}
-use Rattle.trio_surveys.proofs.Tree.{child_from, child_has}
-use Rattle.trio_state.specs.State.{State, creds_of, settled}
+use Rattle.trio_laws.proofs.Words.{◌&&◌, ◌++◌, ◌∙◌, ◌≡◌, ◌⊎◌, Bool, Bundle, Case, Core, FileRead, In, In-is_among, IsFit, IsJudgeable, List, Listed, Met, None, Ok, Option, Pick, Row, Some, State, Written, and_parts, ap, arith, both_ways, bundle_pages, bytes_eq, bytes_eq-Decides, case_of, child_from, child_has, child_met, children, cond, creds_of, entries_in, eqb, false, file_of, find, has_kind, has_owner, inl, inr, is_accepted, is_among, is_among-In, is_place_of, is_some, is_sound, is_written, judged_files, kept_body, list_all, list_all-In, lists_own, may_stand, met_cases, met_in, met_row, met_same, one_keyed, option_map_or, pages_are, pages_of, place_from, plain, proposed, proposed_pick, read_met, refl, row_at, row_by, row_met, row_of, settled, settled_body, some_of, some_one, subst, survey, sym, true, written_at, written_met, ℕ}
 use Rattle.trio_laws.proofs.Survivors.{fit_now, has_kind_is, sound_now, stand_cases, unheld_row}
-use Rattle.trio_laws.specs.RuleLaws.{IsJudgeable}
 use Rattle.trio_laws.proofs.judgement.CaseFacts.{new_dead, new_not_live, held_apart, written_find, written_row, is_written_from}
 use Rattle.trio_laws.proofs.judgement.JudgedFacts.{ReadOwn, judged_keep, new_from, entries_are}
-use Rattle.trio_surveys.proofs.OwnFiles.{place_from, own_within}
-use Rattle.trio_surveys.proofs.RowsLaw.{met_same}
-use Rattle.trio_surveys.proofs.Reached.{child_met, met_cases}
+use Rattle.trio_surveys.proofs.OwnFiles.{own_within}
 
 module _ (s : State) (lib : ℕ) (b : Bundle) (j : IsJudgeable s lib b) (acc : is_accepted (settled s) (creds_of s lib) b ≡ true) where
   abbrev c : Case

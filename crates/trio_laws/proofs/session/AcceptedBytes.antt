@@ -1,36 +1,7 @@
 -- After an accepted bundle: the bytes of its own files, and of those that stay as they were.
-use Rattle.std.proofs.Common.{◌≡◌, ℕ, true, false, eqb, Option, Some, None, Ok, sym, refl, ap, ◌∙◌, subst, inl, inr, take, List, [], arith}
-use Rattle.std.specs.Prelude.{is_some, map}
-use Rattle.std.specs.List.{find}
-use Rattle.std.specs.Option.{option_and_then, unwrap_or}
-use Rattle.std.proofs.lemmas.Bool.{eqb-true, eq-eqb, false_from_ne_true}
-use Rattle.trio_rights.specs.Row.{Row}
-use Rattle.trio_rights.specs.Bundle.{Bundle, Written, is_written}
-use Rattle.trio_rights.specs.declared.kind.Kind.{Kind}
-use Rattle.trio_rights.specs.declared.kind.Kind.TheVariants.{Regular, Directory}
-use Rattle.trio_lists.specs.Lists.{In}
-use Rattle.trio_lists.proofs.Members.{In-right, flat_map-same, map-In}
-use Rattle.trio_lists.proofs.Filters.{find-In, In-find, some_one}
-use Rattle.trio_layout.specs.Core.{Core, page_of}
-use Rattle.trio_layout.specs.Survey.{Met, Pick, FileRead, plain, survey, file_of}
-use Rattle.trio_layout.specs.Sound.{is_sound}
-use Rattle.trio_layout.specs.Image.{Image, IsFit, row_at, settled_body}
-use Rattle.trio_layout.specs.Pages.{block_sheets, settled_chain, sheets_of}
-use Rattle.trio_layout.specs.Verifies.{Verifies}
-use Rattle.trio_layout.specs.Accept.{is_accepted, next}
-use Rattle.trio_layout.specs.Proposed.{proposed, proposed_pick}
-use Rattle.trio_layout.specs.Case.{Case, case_of, bundle_core}
-use Rattle.trio_layout.specs.Within.{file_within}
-use Rattle.trio_layout.specs.JudgedFiles.{judged_files}
+use Rattle.trio_laws.proofs.Words.{◌∙◌, ◌≡◌, Bundle, Case, Core, Directory, Ends, FileRead, Image, In, In-find, In-right, IsFit, IsJudgeable, Kind, List, Met, None, Ok, Option, Pick, Regular, Row, Some, State, Verifies, Written, [], ap, arith, block_sheets, blocks_of, bundle_core, bytes_now, bytes_of, bytes_of_sheets, bytes_read, case_of, creds_of, eq-eqb, eqb, eqb-true, false, false_from_ne_true, file_of, file_put, file_within, find, find-In, flat_map-same, inl, inr, is_accepted, is_some, is_sound, is_written, judged_files, map, map-In, next, option_and_then, page_of, picked_entry, plain, proposed, proposed_pick, refl, row_at, settled, settled_body, settled_chain, sheets_of, size_of, some_one, subst, survey, survey_put, sym, take, there_same, true, writer_of, ℕ}
+use Rattle.std.specs.Option.{unwrap_or}
 use Rattle.trio_layout.proofs.WithinCore.{listed_within_core}
-use Rattle.trio_state.specs.State.{State, settled, creds_of}
-use Rattle.trio_state.specs.Bundles.{Ends}
-use Rattle.trio_surveys.specs.Reading.{picked_entry}
-use Rattle.trio_surveys.proofs.BundlePages.{there_same}
-use Rattle.trio_surveys.proofs.Picked.{file_put, survey_put}
-use Rattle.trio_desk.specs.Shows.{bytes_read, bytes_now}
-use Rattle.trio_laws.specs.RuleLaws.{IsJudgeable}
-use Rattle.trio_laws.specs.history.Stands.{size_of, blocks_of, bytes_of, bytes_of_sheets, writer_of}
 use Rattle.trio_laws.proofs.Bundles.{Unwritten, unwritten_finds, written_from}
 use Rattle.trio_laws.proofs.history.AcceptedFiles.{fitJ, verifiesJ, now, kept_follows, plain_block, plain_page}
 use Rattle.trio_laws.proofs.history.Blocks.{flat_sheets}

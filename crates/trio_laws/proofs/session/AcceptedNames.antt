@@ -1,31 +1,5 @@
 -- After an accepted bundle: the names and places of what its directories list, and of what none lists.
-use Rattle.std.proofs.Common.{true, ◌≡◌, ℕ, Some, None, Ok, sym, refl, ap, ◌∙◌, subst, inl, inr, eqb}
-use Rattle.std.specs.Prelude.{map}
-use Rattle.std.proofs.lemmas.Bool.{eq-eqb}
-use Rattle.trio_rights.specs.Row.{Row}
-use Rattle.trio_rights.specs.Bundle.{Bundle, Written}
-use Rattle.trio_lists.specs.Lists.{In}
-use Rattle.trio_lists.proofs.Members.{In-map, In-flat, map-In}
-use Rattle.trio_lists.proofs.Filters.{In-find, Ok-one}
-use Rattle.trio_layout.specs.Core.{Core}
-use Rattle.trio_layout.specs.Entries.{Listed}
-use Rattle.trio_layout.specs.Survey.{Met, Pick, FileRead, met_in, survey, file_of, row_by}
-use Rattle.trio_layout.specs.Sound.{is_sound}
-use Rattle.trio_layout.specs.Image.{Image, IsFit, row_at}
-use Rattle.trio_layout.specs.Accept.{is_accepted, next}
-use Rattle.trio_layout.specs.Proposed.{proposed, proposed_pick}
-use Rattle.trio_layout.specs.Case.{Case, case_of, bundle_core}
-use Rattle.trio_layout.specs.Within.{file_within}
-use Rattle.trio_layout.specs.JudgedFiles.{judged_files}
-use Rattle.trio_state.specs.State.{State, settled, creds_of}
-use Rattle.trio_surveys.specs.Reading.{picked_entry}
-use Rattle.trio_surveys.proofs.Images.{read_met, row_met, row_at_is}
-use Rattle.trio_surveys.proofs.Picked.{file_put}
-use Rattle.trio_surveys.proofs.Reached.{child_met, met_cases, no_root_listed}
-use Rattle.trio_surveys.proofs.Tree.{child_from, child_has}
-use Rattle.trio_desk.specs.Shows.{Naming, namings_in, namings, naming_of}
-use Rattle.trio_laws.specs.RuleLaws.{IsJudgeable}
-use Rattle.trio_laws.specs.history.Stands.{name_of}
+use Rattle.trio_laws.proofs.Words.{◌∙◌, ◌≡◌, Bundle, Case, Core, FileRead, Image, In, In-find, In-flat, In-map, IsFit, IsJudgeable, Listed, Met, Naming, None, Ok, Ok-one, Pick, Row, Some, State, Written, ap, bundle_core, case_of, child_from, child_has, child_met, creds_of, eq-eqb, eqb, file_of, file_put, file_within, inl, inr, is_accepted, is_sound, judged_files, map, map-In, met_cases, met_in, name_of, naming_of, namings, namings_in, next, no_root_listed, picked_entry, proposed, proposed_pick, read_met, refl, row_at, row_at_is, row_by, row_met, settled, subst, survey, sym, true, ℕ}
 use Rattle.trio_laws.proofs.Survivors.{unheld_row}
 use Rattle.trio_laws.proofs.Bundles.{Unwritten}
 use Rattle.trio_laws.proofs.history.Follows.{name_at_entry}

@@ -1,32 +1,5 @@
 -- What an accepted bundle makes of the nodes is just what it shows.
-use Rattle.std.proofs.Common.{◌≡◌, ℕ, Bool, true, false, cond, Option, Some, None, sym, refl, ap, ◌∙◌, subst, inl, inr, List, [], arith}
-use Rattle.std.specs.Option.{option_map}
-use Rattle.std.proofs.lemmas.Bool.{cases_Bool, both_ways}
-use Rattle.trio_rights.specs.Row.{Row}
-use Rattle.trio_rights.specs.Bundle.{Bundle}
-use Rattle.trio_lists.specs.Lists.{In, is_among}
-use Rattle.trio_lists.proofs.Members.{In-is_among, is_among-In}
-use Rattle.trio_lists.proofs.Filters.{some_one}
-use Rattle.trio_lists.proofs.New.{is_among-not}
-use Rattle.trio_layout.specs.declared.body.Body.{Body}
-use Rattle.trio_layout.specs.Body.{body_at}
-use Rattle.trio_layout.specs.Core.{Core}
-use Rattle.trio_layout.specs.Survey.{Met, Pick, survey, row_by, row_of}
-use Rattle.trio_layout.specs.Sound.{is_sound}
-use Rattle.trio_layout.specs.Image.{Image, IsFit, row_at}
-use Rattle.trio_layout.specs.Accept.{is_accepted, next}
-use Rattle.trio_layout.specs.Proposed.{proposed, proposed_pick, kept_body, is_place_of}
-use Rattle.trio_layout.specs.Case.{Case, case_of}
-use Rattle.trio_state.specs.State.{State, settled, creds_of}
-use Rattle.trio_state.specs.Bundles.{Ends}
-use Rattle.trio_state.specs.Kept.{Kept}
-use Rattle.trio_surveys.proofs.Images.{met_row, row_met, row_at_is}
-use Rattle.trio_surveys.proofs.Local.{reads_from}
-use Rattle.trio_nodes.specs.declared.node.Node.{Node}
-use Rattle.trio_nodes.specs.Nodes.{node_at}
-use Rattle.trio_desk.specs.Shows.{Naming, naming_of, bytes_now, with_bytes, placed, made_by, node_left, node_now}
-use Rattle.trio_laws.specs.RuleLaws.{IsJudgeable}
-use Rattle.trio_laws.specs.history.Stands.{name_of, node_of, node_by, writer_of, nodes_of}
+use Rattle.trio_laws.proofs.Words.{◌∙◌, ◌≡◌, Body, Bool, Bundle, Case, Core, Ends, Image, In, In-is_among, IsFit, IsJudgeable, Kept, List, Met, Naming, Node, None, Option, Pick, Row, Some, State, [], ap, arith, body_at, both_ways, bytes_now, case_of, cases_Bool, cond, creds_of, false, inl, inr, is_accepted, is_among, is_among-In, is_among-not, is_place_of, is_sound, kept_body, made_by, met_row, name_of, naming_of, next, node_at, node_by, node_left, node_now, node_of, nodes_of, option_map, placed, proposed, proposed_pick, reads_from, refl, row_at, row_at_is, row_by, row_met, row_of, settled, some_one, subst, survey, sym, true, with_bytes, writer_of, ℕ}
 use Rattle.trio_laws.specs.session.Settles.{AcceptedIsShown}
 use Rattle.trio_laws.proofs.Accepting.{accepted_kept}
 use Rattle.trio_laws.proofs.Bundles.{closed_unparted}

@@ -1,37 +1,9 @@
 -- What is ready is accepted.
-use Rattle.std.proofs.Common.{◌≡◌, ℕ, true, List, Some, sym, ap, ◌∙◌, subst, arith}
-use Rattle.std.specs.Prelude.{map, is_some, IsTrue}
-use Rattle.std.proofs.lemmas.Bool.{and_from}
-use Rattle.trio_rights.specs.Row.{Row}
-use Rattle.trio_rights.specs.declared.rights.Creds.{Creds}
-use Rattle.trio_nodes.specs.declared.grant.GrantKind.TheVariants.{Write}
-use Rattle.trio_lists.specs.Lists.{In}
-use Rattle.trio_lease.specs.Shown.{Shown}
-use Rattle.trio_desk.specs.Out.{Parcel, ino_numbers}
-use Rattle.trio_lease.specs.declared.parts.HoldParts.{HoldParts}
-use Rattle.trio_layout.specs.Image.{Image, row_at, settled_body}
-use Rattle.trio_rights.specs.Bundle.{Bundle, Written}
-use Rattle.trio_state.specs.State.{State, settled, creds_of}
-use Rattle.trio_desk.specs.Call.{DeskSeen}
-use Rattle.trio_desk.specs.Ready.{bundle_of, Ready, ArePossible, HasNone, parcel_case}
-use Rattle.trio_state.specs.Given.{HasGrant}
-use Rattle.trio_lists.proofs.Members.{In-map, map-In}
-use Rattle.trio_layout.specs.Case.{Case, Held, case_of}
-use Rattle.trio_layout.specs.Listing.{listing}
-use Rattle.trio_layout.specs.Edges.{meets_edges}
-use Rattle.trio_layout.specs.Rules.{meets_rules}
-use Rattle.trio_laws.specs.RuleLaws.{IsJudgeable}
+use Rattle.trio_laws.proofs.Words.{◌∙◌, ◌≡◌, ArePossible, Bundle, Case, Creds, DeskSeen, Done, HasGrant, Held, HoldParts, Image, In, In-map, IsAmong, IsJudgeable, IsMoment, IsTree, LegalCalls, List, Parcel, Ready, Row, Shown, Shows, Some, State, WasHeld, Write, Written, and_from, ap, arith, batch_nodes, bundle_of, case_of, creds_of, ino_numbers, is_some, listing, map, map-In, map-map, meets_edges, meets_rules, node_by, nodes_of, parcel_case, row_at, settled, settled_body, subst, sym, tree_stays_through, true, writer_of, ℕ}
+use Rattle.std.specs.Prelude.{IsTrue}
+use Rattle.trio_desk.specs.Ready.{HasNone}
 use Rattle.trio_laws.proofs.judgement.Allowing.{rules_allow}
-use Rattle.trio_nodes.specs.declared.call.Done.{Done}
-use Rattle.trio_nodes.specs.After.{batch_nodes}
-use Rattle.trio_laws.specs.history.Stands.{node_by, writer_of, nodes_of}
-use Rattle.trio_nodes.specs.Tree.{IsTree}
-use Rattle.trio_desk.specs.Shows.{Shows}
-use Rattle.trio_nodes.specs.Legal.{LegalCalls}
-use Rattle.trio_desk.specs.Among.{IsAmong}
-use Rattle.trio_laws.specs.session.Settles.{WasHeld, IsMoment, ReadyIsAccepted}
-use Rattle.trio_onetree.proofs.TreeStays.{tree_stays_through}
-use Rattle.std.proofs.lemmas.Simd.{map-map}
+use Rattle.trio_laws.specs.session.Settles.{ReadyIsAccepted}
 use Rattle.trio_laws.proofs.session.Edges.{edges_follow}
 use Rattle.trio_laws.proofs.session.Starts.{map-each}
 use Rattle.trio_laws.proofs.history.StandsTree.{states_are_trees}

@@ -1,37 +1,6 @@
 -- What is judged reads the same where the bundle has more pages; and what is possible with more in hand was possible with less.
-use Rattle.std.proofs.Common.{◌≡◌, ℕ, true, is_ok, List, [], ◌++◌, Option, Some, Ok, sym, ap, ◌∙◌, subst, arith}
-use Rattle.std.specs.Prelude.{map}
-use Rattle.std.specs.Option.{option_map}
-use Rattle.std.proofs.lemmas.Bool.{and_parts, and_from}
-use Rattle.trio_rights.specs.Row.{Row, row_in}
-use Rattle.trio_rights.specs.declared.rights.Creds.{Creds}
-use Rattle.trio_rights.specs.Bundle.{Bundle, Written, bundle_pages, bundle_sheets}
-use Rattle.trio_rights.specs.Sheets.{Sheet}
-use Rattle.trio_lists.specs.Lists.{In, is_among, are_new}
-use Rattle.trio_lists.proofs.Members.{In-flat, In-left, In-right, In-map, In-cases, is_among-In, is_ok-Ok, list_all-In, map-In}
-use Rattle.trio_lists.proofs.Marked.{are_new-append}
+use Rattle.trio_laws.proofs.Words.{◌++◌, ◌∙◌, ◌≡◌, ArePossible, Bundle, Case, Creds, DeskSeen, FileRead, Held, HoldParts, In, In-cases, In-flat, In-left, In-map, In-right, InHand, IsInOrder, LentFile, List, Met, Node, Nodes, Ok, Option, Parcel, Row, SaySame, Sheet, Shown, Shows, Sizes, Some, Written, [], and_from, and_parts, ap, are_new, are_new-append, arith, bundle_core, bundle_of, bundle_pages, bundle_sheets, children_in, entries_in, entry_is_own, file_within, ino_numbers, is_among, is_among-In, is_ok, is_ok-Ok, judged_entries, judged_files, judged_pages, lent_files, list_all-In, map, map-In, map-map, new_beside, node_at, node_says, option_map, page_of, pages_in, pages_within, plain, row_in, row_says, subst, sym, true, written_in, ℕ}
 use Rattle.trio_lists.proofs.New.{are_new-joined}
-use Rattle.trio_lists.proofs.Gathered.{new_beside}
-use Rattle.trio_lease.specs.Shown.{Shown, LentFile}
-use Rattle.trio_lease.specs.declared.parts.HoldParts.{HoldParts}
-use Rattle.trio_layout.specs.Core.{page_of}
-use Rattle.trio_layout.specs.Survey.{Met, FileRead, plain, pages_in, children_in}
-use Rattle.trio_layout.specs.Case.{Case, Held, bundle_core}
-use Rattle.trio_layout.specs.Within.{file_within}
-use Rattle.trio_layout.specs.JudgedFiles.{entries_in, judged_entries, judged_files, judged_pages, pages_within}
-use Rattle.trio_layout.specs.Rules.{entry_is_own}
-use Rattle.trio_nodes.specs.declared.node.Node.{Node}
-use Rattle.trio_nodes.specs.Nodes.{Nodes, node_at}
-use Rattle.trio_desk.specs.Contents.{Sizes}
-use Rattle.trio_desk.specs.Out.{Parcel, ino_numbers}
-use Rattle.trio_desk.specs.Agrees.{row_says, node_says, SaySame}
-use Rattle.trio_desk.specs.Call.{DeskSeen}
-use Rattle.trio_desk.specs.Shows.{Shows}
-use Rattle.trio_desk.specs.Ready.{ArePossible, bundle_of, lent_files}
-use Rattle.trio_desk.specs.Edits.{InHand}
-use Rattle.trio_laws.specs.session.Takes.{IsInOrder}
-use Rattle.std.proofs.lemmas.Simd.{map-map}
-use Rattle.trio_lease.specs.Views.{written_in}
 use Rattle.trio_laws.proofs.session.Reading.{file_as_before, page_kept}
 use Rattle.trio_laws.proofs.session.Ruled.{case_with, owning_parts}
 

@@ -1,13 +1,6 @@
 -- Two walks that begin with other files, but with the same children.
-use Rattle.std.proofs.Common.{◌≡◌, ℕ, suc, zero, ◌≤◌, ◌||◌, eqb, List, [], ◌∷◌, ◌++◌, append_assoc, sym, refl, ap, ◌∙◌, subst, inl, inr, arith}
-use Rattle.std.specs.List.{flat_map}
-use Rattle.std.proofs.lemmas.Bool.{cases_eq}
-use Rattle.std.proofs.lemmas.List.{append-nil, map-append}
-use Rattle.trio_lists.specs.Lists.{In, is_among}
-use Rattle.trio_lists.proofs.Members.{In-left, In-right, In-cases, flat_map-In, flat_map-same}
-use Rattle.trio_lists.proofs.Marked.{is_among-append, is_among-push}
-use Rattle.trio_layout.specs.Survey.{Met, Front, numbers, first_listed, descend}
-use Rattle.trio_layout.specs.JudgedFiles.{fronts}
+use Rattle.trio_laws.proofs.Words.{◌++◌, ◌||◌, ◌∙◌, ◌∷◌, ◌≡◌, ◌≤◌, Front, In, In-cases, In-left, In-right, List, Met, [], ap, append-nil, append_assoc, arith, cases_eq, descend, eqb, first_listed, flat_map, flat_map-In, flat_map-same, fronts, inl, inr, is_among, is_among-push, map-append, numbers, refl, subst, suc, sym, zero, ℕ}
+use Rattle.trio_lists.proofs.Marked.{is_among-append}
 use Rattle.trio_layout.proofs.Walks.{first_are_listed}
 
 -- what is first listed goes by which of these numbers were seen

@@ -1,27 +1,7 @@
 -- A call that is noted keeps what a session would hand in ready.
-use Rattle.std.proofs.Common.{◌≡◌, ℕ, suc, zero, is_ok, List, [], ◌∷◌, ◌++◌, Option, Some, None, sym, refl, ap, ◌∙◌, subst, inl, inr, arith}
-use Rattle.std.specs.Option.{option_map}
-use Rattle.std.proofs.lemmas.Bool.{false≢true}
-use Rattle.trio_rights.specs.Row.{Row}
-use Rattle.trio_rights.specs.declared.rights.Creds.{Creds}
-use Rattle.trio_lists.specs.Lists.{In}
-use Rattle.trio_lists.proofs.Members.{In-left}
-use Rattle.trio_layout.specs.Survey.{Met, Front, descend}
-use Rattle.trio_lease.specs.Shown.{Shown}
-use Rattle.trio_layout.specs.Case.{Case}
-use Rattle.trio_layout.specs.JudgedFiles.{fronts, new_entries, judged_files}
-use Rattle.trio_nodes.specs.declared.node.Node.{Node}
-use Rattle.trio_nodes.specs.declared.call.Done.{Done}
-use Rattle.trio_nodes.specs.Nodes.{Nodes}
-use Rattle.trio_nodes.specs.Apply.{Apply}
-use Rattle.trio_nodes.specs.After.{call_nodes, batch_nodes}
-use Rattle.trio_nodes.specs.Legal.{MadeFits, LegalCalls}
-use Rattle.trio_desk.specs.Shows.{with_bytes, Shows}
-use Rattle.trio_desk.specs.Call.{DeskSeen}
-use Rattle.trio_desk.specs.Ready.{ArePossible, lent_files, parcel_case}
-use Rattle.trio_nodes.specs.Tree.{IsTree}
-use Rattle.trio_onetree.proofs.TreeStays.{tree_stays_through}
-use Rattle.trio_desk.specs.Edits.{InHand, MayShow, nothing}
+use Rattle.trio_laws.proofs.Words.{◌++◌, ◌∙◌, ◌∷◌, ◌≡◌, Apply, ArePossible, Case, Creds, DeskSeen, Done, Front, In, In-left, InHand, IsTree, LegalCalls, List, MadeFits, MayShow, Met, Node, Nodes, None, Option, Row, Shown, Shows, Some, [], ap, arith, batch_nodes, call_nodes, descend, false≢true, fronts, inl, inr, is_ok, lent_files, new_entries, option_map, parcel_case, refl, subst, suc, sym, tree_stays_through, with_bytes, zero, ℕ}
+use Rattle.trio_layout.specs.JudgedFiles.{judged_files}
+use Rattle.trio_desk.specs.Edits.{nothing}
 use Rattle.trio_laws.specs.session.Calls.{CallKeeps, LookKeeps, NothingIsReady}
 use Rattle.trio_laws.proofs.session.Again.{possible_with_less}
 

@@ -1,27 +1,10 @@
 -- What a file reads, by its index pages and its blocks.
-use Rattle.std.proofs.Common.{◌≡◌, ℕ, suc, zero, ◌+◌, ◌-◌, ◌*◌, ◌<◌, ◌≤◌, Bool, true, eqb, min, List, [], ◌∷◌, ◌++◌, length, take, drop, append_assoc, Option, Some, None, Ok, sym, refl, ap, ◌∙◌, subst, inl, inr, ◌⊎◌, arith, take-append-drop}
-use Rattle.std.specs.Prelude.{slice_index_or, is_some}
+use Rattle.trio_laws.proofs.Words.{◌*◌, ◌++◌, ◌+◌, ◌-◌, ◌<◌, ◌∙◌, ◌∷◌, ◌≡◌, ◌≤◌, ◌⊎◌, Body, Bool, Chain, Core, CoreRange, In, Index, Kind, List, None, Ok, Option, Some, [], and_parts, ap, append-nil, append_assoc, are_new-first, arith, at_page, block_count, cases_lt, chain_within, cond_some, drop, drop-take, entries_within, eq-eqb, eqb, eqb-true, false≢true, flat_map-append, flat_map-same, get_or-In, index_count, index_within, inl, inr, is_some, length, length-append, min, nat_tests, nil_from_length, page_of, pages_bytes, refl, rest_of, result_map, result_map-Ok, result_then, result_then-Ok, slice_index_or, subst, suc, sym, take, take-append-drop, there_or, there_or-Ok, true, with_index, within_from, within_to, zero, ℕ}
 use Rattle.std.specs.Option.{unwrap_or}
-use Rattle.std.proofs.lemmas.Bool.{and_parts, cases_lt, eqb-true, eq-eqb, false≢true}
-use Rattle.std.proofs.lemmas.Bool.Decides.{nat_tests}
-use Rattle.std.proofs.lemmas.List.{append-nil, drop-drop, drop-take, drop_all, length-append, length-drop, nil_from_length, take_all}
-use Rattle.std.proofs.lemmas.List.Concat.{flat_map-append}
-use Rattle.std.proofs.lemmas.Option.{cond_some}
+use Rattle.std.proofs.lemmas.List.{drop-drop, drop_all, length-drop, take_all}
 use Rattle.std.proofs.Math.Seq.{drop-append-add, take-append-add, take-append_seam}
-use Rattle.trio_rights.specs.declared.kind.Kind.{Kind}
-use Rattle.trio_lists.specs.Lists.{In, result_map, result_then, there_or}
-use Rattle.trio_lists.proofs.Members.{flat_map-same, result_map-Ok, result_then-Ok, there_or-Ok}
-use Rattle.trio_lists.proofs.New.{are_new-first}
-use Rattle.trio_lists.proofs.Filters.{get_or-In}
-use Rattle.trio_layout.specs.declared.body.Body.{Body}
-use Rattle.trio_layout.specs.declared.range.CoreRange.{CoreRange}
-use Rattle.trio_layout.specs.Body.{block_count, body_of}
-use Rattle.trio_layout.specs.Chain.{Chain, index_count, with_index}
-use Rattle.trio_layout.specs.Core.{Core, at_page, page_of}
-use Rattle.trio_layout.specs.Index.{Index, index_of, link_fits}
-use Rattle.trio_layout.specs.Within.{chain_within, entries_within, index_within}
-use Rattle.trio_layout.proofs.WithinCore.{rest_of, within_from, within_to}
-use Rattle.trio_desk.specs.Shows.{pages_bytes}
+use Rattle.trio_layout.specs.Body.{body_of}
+use Rattle.trio_layout.specs.Index.{index_of, link_fits}
 use Rattle.trio_laws.specs.session.Chains.{BytesCut, BytesGrow, BytesMany, BytesPut, NamedReads, NamesShare, ReadsNamed, SharesStay}
 
 -- ---- from index pages to what is read

@@ -1,36 +1,14 @@
 -- A chmod whose walk comes to a file is done for the owner or uid 0, and denied to all others; so it is replied as a change of mode is
 -- answered.
-use Rattle.std.proofs.Common.{◌≡◌, ◌≢◌, ℕ, Bool, true, false, not, ◌==◌, ◌&&◌, ◌||◌, List, [], Option, Some, None, Result, Ok, Err, sym, refl, ap, ◌∙◌, subst, inl, inr, arith}
+use Rattle.trio_laws.proofs.Words.{◌&&◌, ◌||◌, ◌∙◌, ◌≡◌, ◌≢◌, Applied, Apply, ArePossible, BadMode, Beside, Bool, Busy, Call, CallFits, Creds, CtlAnswer, Denied, DeskSeen, Err, IsTree, Kept, LegalChmod, List, Mode, ModeFault, Need, NoMemory, Node, Nodes, None, NotDir, NotFound, NotLive, NotModeSet, NotOwner, Ok, Option, OutOfMemory, Path, Reply, Result, Row, SetMode, Shown, Some, State, Step, [], and_then, ap, applied, arith, creds_of, dir_of, done, false, false≢true, find_named, find_named-Child, inl, inr, is_directory, is_owner, lacks, listed_in, moded_nodes, ne_eqb, node_at, nodes_of, not, of_node, ok_or, option_map, past_of, reached, refl, refused, subst, sym, true, walk, walk_into, with_node, ℕ}
+use Rattle.std.proofs.Common.{◌==◌}
 use Rattle.std.specs.Prelude.{if◌then◌else◌}
-use Rattle.std.specs.Option.{ok_or, option_map}
-use Rattle.std.proofs.lemmas.Bool.{ne_eqb, false≢true}
-use Rattle.trio_rights.specs.Row.{Row}
-use Rattle.trio_rights.specs.declared.rights.Creds.{Creds}
-use Rattle.trio_rights.specs.declared.rights.Mode.{Mode}
-use Rattle.trio_rights.specs.declared.rights.Need.{Need}
-use Rattle.trio_nodes.specs.declared.node.Node.{Node}
 use Rattle.trio_nodes.specs.declared.call.Answer.TheVariants.{Done}
-use Rattle.trio_nodes.specs.declared.call.Call.{Call}
-use Rattle.trio_nodes.specs.declared.call.Reply.{Reply}
-use Rattle.trio_nodes.specs.declared.call.Reply.TheVariants.{Ok as Replied, NotFound, NotDir, Denied}
-use Rattle.trio_nodes.specs.Apply.{Applied, Apply, applied, done, listed_in, of_node, reached, refused}
-use Rattle.trio_nodes.specs.After.{moded_nodes}
-use Rattle.trio_nodes.specs.Nodes.{Nodes, find_named, node_at, with_node}
-use Rattle.trio_nodes.specs.Tree.{IsTree}
-use Rattle.trio_nodes.specs.Walk.{Path, and_then, dir_of, enter, enter_node, is_directory, lacks, name_of, need_at, walk, walk_into}
-use Rattle.trio_onetree.proofs.Children.{find_named-Child}
-use Rattle.trio_nodes.specs.Legal.{LegalChmod, is_owner}
-use Rattle.trio_nodes.specs.declared.answers.ModeFault.{ModeFault}
-use Rattle.trio_nodes.specs.declared.answers.ModeFault.TheVariants.{NotLive, NotOwner, BadMode, Busy, NoMemory as OutOfMemory}
-use Rattle.trio_lease.specs.Shown.{Shown}
-use Rattle.trio_desk.specs.Call.{DeskSeen}
-use Rattle.trio_desk.specs.Ready.{ArePossible, Moded, TellsChmod, chmod_walk, moded_in}
-use Rattle.trio_state.specs.Kept.{Kept}
-use Rattle.trio_state.specs.State.{State, creds_of}
-use Rattle.trio_state.specs.Step.{CtlAnswer, ModeSet, NoMemory, NotModeSet, SetMode, Step}
-use Rattle.trio_laws.specs.history.Entries.{Beside, mode_said}
-use Rattle.trio_laws.specs.history.Recorded.{CallFits}
-use Rattle.trio_laws.specs.history.Stands.{nodes_of, past_of}
+use Rattle.trio_nodes.specs.declared.call.Reply.TheVariants.{Ok as Replied}
+use Rattle.trio_nodes.specs.Walk.{enter, enter_node, name_of, need_at}
+use Rattle.trio_desk.specs.Ready.{Moded, TellsChmod, chmod_walk, moded_in}
+use Rattle.trio_state.specs.Step.{ModeSet}
+use Rattle.trio_laws.specs.history.Entries.{mode_said}
 use Rattle.trio_laws.proofs.history.Extends.{Extends}
 use Rattle.trio_laws.proofs.history.ModeStep.{mode_extends}
 use Rattle.trio_laws.proofs.history.StandsTree.{states_are_trees}

@@ -1,17 +1,6 @@
 -- A way up to the root is a climb, of no more steps than there are numbers.
-use Rattle.std.proofs.Common.{◌≡◌, ℕ, suc, ◌<◌, ◌≤◌, true, not, eqb, List, [], ◌∷◌, ◌++◌, length, Some, sym, refl, ap, ◌∙◌, subst, inl, inr, arith}
-use Rattle.std.proofs.lemmas.Bool.{and_from, or_right, eq-eqb, not_from_false}
-use Rattle.trio_lists.specs.Lists.{In, is_among, are_new}
-use Rattle.trio_lists.proofs.Members.{In-cases}
-use Rattle.trio_lists.proofs.Filters.{some_one}
-use Rattle.trio_lists.proofs.New.{is_among-not}
-use Rattle.trio_layout.proofs.Walks.{pigeons}
-use Rattle.trio_layout.specs.Edges.{climbs}
-use Rattle.trio_nodes.specs.declared.node.Node.{Node}
-use Rattle.trio_nodes.specs.Nodes.{Nodes, node_at}
-use Rattle.trio_nodes.specs.Tree.{IsTree}
-use Rattle.trio_nodes.specs.Walk.{Path}
-use Rattle.trio_onetree.proofs.Children.{Up, turned, found-up, root_unlisted, up_one, path_found-is}
+use Rattle.trio_laws.proofs.Words.{◌++◌, ◌<◌, ◌∙◌, ◌∷◌, ◌≡◌, ◌≤◌, In, In-cases, IsTree, List, Node, Nodes, Path, Some, Up, [], and_from, ap, are_new, arith, climbs, eq-eqb, eqb, inl, inr, is_among, is_among-not, length, node_at, not, not_from_false, or_right, pigeons, refl, some_one, subst, suc, sym, true, ℕ}
+use Rattle.trio_onetree.proofs.Children.{turned, found-up, root_unlisted, up_one, path_found-is}
 
 module _ (nodes : Nodes) (tree : IsTree nodes) where
   -- each node has a way up

@@ -1,26 +1,6 @@
 -- The judged files are closed: an entry of one that names one of the bundle's numbers is one.
-use Rattle.std.proofs.Common.{◌≡◌, ℕ, suc, zero, ◌<◌, ◌≤◌, ◌+◌, true, ltb, List, [], ◌∷◌, ◌++◌, length, append_assoc, Ok, sym, refl, ap, ◌∙◌, subst, inl, inr, ◌⊎◌, arith}
-use Rattle.std.specs.Prelude.{map}
-use Rattle.std.specs.List.{flat_map}
-use Rattle.std.proofs.lemmas.Bool.{and_parts, ltb-true}
-use Rattle.std.proofs.lemmas.List.{append-nil, length-append, length-map, map-append, nil_from_length}
-use Rattle.trio_rights.specs.Bundle.{Written}
-use Rattle.trio_lists.specs.Lists.{In, is_among, are_new}
-use Rattle.trio_lists.proofs.Members.{In-flat, In-map, In-right, In-is_among, flat_map-In, list_all-In, map-In}
-use Rattle.trio_lists.proofs.Filters.{In-filter}
-use Rattle.trio_lists.proofs.Gathered.{each_new, filtered_in, filtered_new, gathered_new, new_beside, one_of}
-use Rattle.trio_lists.proofs.Marked.{are_new-append}
-use Rattle.trio_lists.proofs.New.{are_new-before, are_new-fewer}
-use Rattle.trio_layout.specs.Core.{Core}
-use Rattle.trio_layout.specs.Entries.{Listed}
-use Rattle.trio_layout.specs.Survey.{FileRead, Front, Met, descend, first_listed, met_in, numbers, plain}
-use Rattle.trio_layout.specs.Case.{Case, bundle_core}
-use Rattle.trio_layout.specs.Within.{entries_within, file_within}
-use Rattle.trio_layout.specs.JudgedFiles.{entries_in, fronts, judged_entries, judged_files, new_entries, written_files}
-use Rattle.trio_layout.proofs.EntryNumbers.{AreInodes, if_ok_at, is_inode, within_fit}
-use Rattle.trio_layout.proofs.QueueLaws.{met_by}
-use Rattle.trio_layout.proofs.Walks.{fronts_listed, fronts_new, fronts_tree, numbers-flat, pigeons}
-use Rattle.trio_layout.proofs.WithinCore.{within_from}
+use Rattle.trio_laws.proofs.Words.{◌++◌, ◌+◌, ◌<◌, ◌∙◌, ◌∷◌, ◌≡◌, ◌≤◌, ◌⊎◌, AreInodes, Case, Core, FileRead, Front, In, In-filter, In-flat, In-is_among, In-map, In-right, List, Listed, Met, Ok, Written, [], and_parts, ap, append-nil, append_assoc, are_new, are_new-append, are_new-before, are_new-fewer, arith, bundle_core, descend, each_new, entries_in, entries_within, file_within, filtered_in, filtered_new, first_listed, flat_map, flat_map-In, fronts, fronts_listed, fronts_new, fronts_tree, gathered_new, if_ok_at, inl, inr, is_among, is_inode, judged_entries, length, length-append, length-map, list_all-In, ltb, ltb-true, map, map-In, map-append, met_by, met_in, new_beside, new_entries, nil_from_length, numbers, numbers-flat, one_of, pigeons, plain, refl, subst, suc, sym, true, within_fit, within_from, written_files, zero, ℕ}
+use Rattle.trio_layout.specs.JudgedFiles.{judged_files}
 use Rattle.trio_laws.proofs.session.Starts.{judged_once, new_entry, start_number, starts_once}
 
 -- ---- walks

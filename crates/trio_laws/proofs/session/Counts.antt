@@ -1,11 +1,5 @@
 -- How many elements of a list pass a test.
-use Rattle.std.proofs.Common.{◌≡◌, ℕ, suc, zero, ◌+◌, ◌<◌, ◌≤◌, Bool, true, false, cond, List, [], ◌∷◌, length, get_or, set, Option, None, sym, ap, ◌∙◌, refl, subst, inl, inr, arith}
-use Rattle.std.specs.List.{count_by}
-use Rattle.std.proofs.lemmas.Bool.{cases_eq, cases_lt, false_from_ne_true, false≢true}
-use Rattle.std.proofs.lemmas.List.{get_or-set_other, get_or-set_same}
-use Rattle.std.proofs.lemmas.List.Sums.{sum_by-cons}
-use Rattle.trio_lists.specs.Lists.{In, are_new}
-use Rattle.trio_lists.proofs.New.{are_new-first}
+use Rattle.trio_laws.proofs.Words.{◌+◌, ◌<◌, ◌∙◌, ◌∷◌, ◌≡◌, ◌≤◌, Bool, In, List, None, Option, [], ap, are_new, are_new-first, arith, cases_eq, cases_lt, cond, count_by, false, false_from_ne_true, false≢true, get_or, get_or-set_other, get_or-set_same, inl, inr, length, refl, set, subst, suc, sum_by-cons, sym, true, zero, ℕ}
 
 -- Two lists of which the elements pass two tests alike have as many that pass, where a number beyond the end passes neither.
 pub count_pair : {X Y : Type 0} (p : Option X → Bool) (q : Option Y → Bool) → p None ≡ false → q None ≡ false → (xs : List (Option X)) (ys : List (Option Y))

@@ -1,31 +1,13 @@
 -- How the calls on directories are decided by what a session sees.
-use Rattle.std.proofs.Common.{◌≡◌, ℕ, Bool, true, false, cond, not, ◌&&◌, ◌||◌, eqb, ltb, List, [], ◌∷◌, take, drop, Option, Some, None, is_some, Result, Err, sym, refl, ap, ◌∙◌, subst, inl, inr, arith}
-use Rattle.std.specs.Prelude.{MatchBool}
-use Rattle.std.specs.Option.{ok_or}
-use Rattle.std.proofs.lemmas.Bool.{false≢true, and_right}
-use Rattle.std.proofs.lemmas.Slice.Eq.{bytes_eq-Decides}
-use Rattle.trio_rights.specs.declared.kind.Kind.TheVariants.{Regular, Directory}
-use Rattle.trio_rights.specs.declared.rights.Creds.{Creds}
-use Rattle.trio_rights.specs.declared.rights.Need.TheVariants.{Read as ToRead, Write as ToWrite}
-use Rattle.trio_lists.proofs.Filters.{In-list_any}
-use Rattle.trio_nodes.specs.declared.node.Node.{Node}
-use Rattle.trio_nodes.specs.declared.call.Answer.TheVariants.{Done as IsDone, Names}
-use Rattle.trio_nodes.specs.declared.call.Call.{Call}
-use Rattle.trio_nodes.specs.declared.call.Call.TheVariants.{Mkdir, Create, Write, Read, Truncate, Unlink, Rmdir, Rename, List as ListNames, Stat, Chmod}
-use Rattle.trio_nodes.specs.declared.call.Done.{Done}
-use Rattle.trio_nodes.specs.declared.call.Reply.{Reply}
-use Rattle.trio_nodes.specs.declared.call.Reply.TheVariants.{NotFound, Exists, NotDir, IsDir, NotEmpty, Denied}
-use Rattle.trio_nodes.specs.Nodes.{Nodes, node_at, with_node, find_named, count_in, names_in}
-use Rattle.trio_nodes.specs.Walk.{Path, and_then, dir_of, is_directory, lacks, name_of, same_path, walk, walk_into}
-use Rattle.trio_nodes.specs.Apply.{Applied, LacksRoom, applied, done, in_directory, is_done, listed_in, makes_file, new_node, of_node, reached, refused}
-use Rattle.trio_nodes.specs.After.{call_nodes, lacks_room}
-use Rattle.trio_nodes.specs.Legal.{MadeFits}
-use Rattle.trio_nodes.specs.Tree.{IsTree}
-use Rattle.trio_desk.specs.Contents.{Rights, rights_of}
-use Rattle.trio_desk.specs.Call.{DeskSeen}
-use Rattle.trio_desk.specs.Edits.{DoesCall}
+use Rattle.trio_laws.proofs.Words.{◌&&◌, ◌||◌, ◌∙◌, ◌∷◌, ◌≡◌, Applied, Bool, Call, Creds, Denied, DeskSeen, Directory, DoesCall, Done, Err, In-list_any, IsDir, IsDone, IsTree, LacksRoom, List, MadeFits, MatchBool, Node, Nodes, None, NotDir, NotFound, Option, Path, Regular, Reply, Result, Rights, Some, Stat, ToRead, ToWrite, Truncate, [], and_right, and_then, ap, applied, arith, bytes_eq-Decides, call_nodes, cond, dir_of, done, drop, eqb, false, false≢true, find_named, find_named-Child, inl, inr, is_directory, is_done, lacks, lacks_room, listed_in, ltb, makes_file, node_at, not, of_node, ok_or, reached, refl, refused, rights_of, subst, sym, take, true, walk, walk_into, with_node, ℕ}
+use Rattle.std.proofs.Common.{is_some}
+use Rattle.trio_nodes.specs.declared.call.Answer.TheVariants.{Names}
+use Rattle.trio_nodes.specs.declared.call.Call.TheVariants.{Mkdir, Create, Write, Read, Unlink, Rmdir, Rename, List as ListNames, Chmod}
+use Rattle.trio_nodes.specs.declared.call.Reply.TheVariants.{Exists, NotEmpty}
+use Rattle.trio_nodes.specs.Nodes.{count_in, names_in}
+use Rattle.trio_nodes.specs.Walk.{name_of, same_path}
+use Rattle.trio_nodes.specs.Apply.{in_directory, new_node}
 use Rattle.trio_onetree.proofs.CallCases.{walk_into-Undone}
-use Rattle.trio_onetree.proofs.Children.{find_named-Child}
 use Rattle.trio_onetree.proofs.TreeStays.{tree_stays}
 use Rattle.trio_laws.specs.session.DirCalls.{ComesAcross, ComesInto, DoneIsTree, EntersWalked, ListRefusedByCheck, ListRefusedByWalk, ListsNames, MakesEntry, MovesEntry, NameRefusedByWalk, NeedsWrite}
 use Rattle.trio_laws.specs.session.DirCalls.{NoRoomToMake, NoRoomToMove, RefusedAtEntry, RefusedByName, RefusedByPath, RemovesEntry, RenameRefusedByName, RenameRefusedByWalk, RetitlesEntry, ShownIsTree}

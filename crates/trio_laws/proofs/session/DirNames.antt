@@ -1,23 +1,15 @@
 -- The names of a directory in their order, from the entries that it lists.
-use Rattle.std.proofs.Common.{◌≡◌, ℕ, zero, suc, ◌+◌, Bool, true, false, cond, not, List, [], ◌∷◌, ◌++◌, length, map, Option, Some, None, sym, refl, ap, ◌∙◌, subst, inl, inr, arith}
-use Rattle.std.specs.List.{cons_option, count_by, filter_map}
+use Rattle.trio_laws.proofs.Words.{◌++◌, ◌+◌, ◌∙◌, ◌∷◌, ◌≡◌, Bool, In, In-cases, In-left, In-map, In-right, Kind, List, Node, Nodes, None, Option, Some, [], ap, arith, bytes_eq-Decides, cond, cons_option, count_by, entry_in, eqb-true, false, false≢true, inl, inr, is_in, length, length-append, length-map, node_at, not, not-true, refl, some_one, subst, suc, sum_by-cons, sym, true, zero, ℕ}
+use Rattle.std.proofs.Common.{map}
+use Rattle.std.specs.List.{filter_map}
 use Rattle.std.specs.Cmp.Lexicographic.{slice_cmp, texts_ties}
 use Rattle.std.specs.Ordering.{nat_cmp, is_le, is_lt, is_eq, ordering_reverse}
 use Rattle.std.specs.declared.cmp.Ordering.{Ordering}
 use Rattle.std.specs.declared.cmp.Ordering.TheVariants.{Equal}
-use Rattle.std.proofs.lemmas.Bool.{eqb-true, false≢true, not-true}
 use Rattle.std.proofs.lemmas.Cmp.{nat_list_cmp_total}
-use Rattle.std.proofs.lemmas.List.{length-append, length-map}
 use Rattle.std.proofs.lemmas.List.Sorted.{ranks_by}
-use Rattle.std.proofs.lemmas.List.Sums.{sum_by-cons}
-use Rattle.std.proofs.lemmas.Slice.Eq.{bytes_eq-Decides}
-use Rattle.trio_rights.specs.declared.kind.Kind.{Kind}
-use Rattle.trio_lists.specs.Lists.{In}
 use Rattle.trio_lists.specs.Sorting.{inserted_by_name, sorted_by_name}
-use Rattle.trio_lists.proofs.Members.{In-cases, In-left, In-right, In-map}
-use Rattle.trio_lists.proofs.Filters.{some_one}
-use Rattle.trio_nodes.specs.declared.node.Node.{Node}
-use Rattle.trio_nodes.specs.Nodes.{Nodes, node_at, is_in, entry_in, entry_name}
+use Rattle.trio_nodes.specs.Nodes.{entry_name}
 use Rattle.trio_laws.specs.session.DirCalls.{NamesInOrder, name_and_kind}
 
 -- ---- the order of names

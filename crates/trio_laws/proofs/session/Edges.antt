@@ -1,39 +1,11 @@
 -- Where a bundle shows a tree in the place of a tree, it meets rule I3.
-use Rattle.std.proofs.Common.{◌≡◌, ℕ, suc, ◌<◌, ◌≤◌, Bool, true, false, cond, not, ◌&&◌, ltb, ltb-true, ◌+◌, List, [], ◌∷◌, length, Option, Some, None, Ok, sym, refl, ap, ◌∙◌, subst, inl, inr, ◌⊎◌, arith}
-use Rattle.std.specs.Prelude.{is_some}
-use Rattle.std.specs.List.{list_all}
-use Rattle.std.specs.Option.{option_map}
-use Rattle.std.proofs.lemmas.Bool.{cases_Bool, cases_eq, and_parts, and_from, or_cases, or_left, or_right, eqb-true, false≢true, not_from_false, false_from_ne_true}
-use Rattle.trio_rights.specs.Row.{Row, row_in, is_child}
-use Rattle.trio_lists.specs.Lists.{In, is_among}
-use Rattle.trio_layout.specs.Core.{Core}
-use Rattle.trio_layout.specs.Survey.{Met, FileRead, numbers}
-use Rattle.trio_lists.proofs.Members.{In-map, In-is_among, is_among-In, list_all-In, list_all-each}
-use Rattle.trio_surveys.proofs.Images.{some_of}
-use Rattle.trio_layout.specs.Case.{Case, bundle_core}
-use Rattle.trio_layout.specs.Within.{file_within, entries_within}
-use Rattle.trio_layout.specs.JudgedFiles.{judged_files, judged_entries}
-use Rattle.trio_layout.specs.Listing.{ListedEntry, listing, is_kept}
-use Rattle.trio_layout.specs.Rules.{entry_is_own}
-use Rattle.trio_layout.specs.Edges.{climbs, climbs_clear, proposed_parent, is_listed, is_listed_kept, has_file, stays_listed, keeps_children, leaves_none, is_moved, comes_to_root, meets_edges}
-use Rattle.trio_nodes.specs.declared.node.Node.{Node}
-use Rattle.trio_nodes.specs.Nodes.{Nodes, node_at}
-use Rattle.trio_nodes.specs.Tree.{IsTree}
-use Rattle.trio_desk.specs.Agrees.{row_says, node_says}
-use Rattle.trio_desk.specs.Shows.{Naming, naming_of, bytes_now, with_bytes, placed, made_by, node_listed, node_left, Shows}
-use Rattle.trio_desk.specs.Among.{written_numbers, IsAmong}
+use Rattle.trio_laws.proofs.Words.{◌&&◌, ◌+◌, ◌<◌, ◌∙◌, ◌∷◌, ◌≡◌, ◌≤◌, ◌⊎◌, AreInodes, Bool, Case, Core, FileRead, In, In-is_among, In-map, IsAmong, IsTree, List, Listed, ListedEntry, Met, Naming, Node, Nodes, None, Ok, Option, Row, Shows, Some, [], and_from, and_parts, ap, arith, bundle_core, bytes_now, cases_Bool, cases_eq, climbs, climbs_clear, climbs_more, climbs_past, comes_to_root, cond, entries_within, entry_is_own, eqb-true, false, false_from_ne_true, false≢true, file_within, has_file, if_ok_at, inl, inr, is_among, is_among-In, is_child, is_inode, is_kept, is_listed, is_listed_kept, is_moved, is_some, judged_entries, judged_files, keeps_children, leaves_none, length, list_all, list_all-In, list_all-each, list_any-In, listing, ltb, made_by, meets_edges, naming_of, node_at, node_left, node_listed, node_says, not, not_from_false, numbers, option_map, or_cases, or_left, or_right, place_parts, placed, proposed_parent, refl, row_in, row_says, row_there, some_of, some_one, stays_listed, subst, suc, sym, true, with_bytes, within_fit, within_from, written_numbers, ℕ}
+use Rattle.std.proofs.Common.{ltb-true}
 use Rattle.trio_laws.specs.session.Bundles.{EdgesFollow}
 use Rattle.trio_laws.proofs.session.Namings.{met_of, naming_is, listed_naming, parent_listed, parent_unlisted}
-use Rattle.trio_layout.proofs.EntryNumbers.{AreInodes, if_ok_at, is_inode, within_fit}
-use Rattle.trio_layout.proofs.WithinCore.{within_from}
-use Rattle.trio_layout.specs.Entries.{Listed}
-use Rattle.trio_surveys.proofs.OwnFiles.{place_parts}
-use Rattle.trio_surveys.proofs.RowsLaw.{row_there}
-use Rattle.trio_lists.proofs.Filters.{list_any-In, some_one}
 use Rattle.trio_laws.proofs.judgement.Allowing.{up_to_from}
 use Rattle.trio_laws.proofs.judgement.ListingFacts.{held_from, held_to, has_file_at, is_listed_by, kept_by}
 use Rattle.trio_laws.proofs.session.Climbing.{way_of, way_short, way_climbs}
-use Rattle.trio_surveys.proofs.Climbing.{climbs_past, climbs_more}
 
 -- an option in a list stands at a number
 in_rows : (rows : List (Option Row)) (r : Row) → In (Some r) rows → (n : ℕ) × (row_in rows n ≡ Some r)

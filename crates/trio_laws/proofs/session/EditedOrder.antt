@@ -1,19 +1,5 @@
 -- What is in hand stays in order where bodies and bytes alone are exchanged: its files, holds and numbers are those that it had.
-use Rattle.std.proofs.Common.{◌≡◌, List, [], Option, sym, ap, ◌∙◌, subst, arith}
-use Rattle.std.specs.Prelude.{map}
-use Rattle.std.proofs.lemmas.Simd.{map-map}
-use Rattle.trio_rights.specs.Row.{Row}
-use Rattle.trio_rights.specs.Bundle.{Bundle, Written}
-use Rattle.trio_lists.specs.Lists.{In, are_new}
-use Rattle.trio_layout.specs.Case.{Case}
-use Rattle.trio_lease.specs.Shown.{LentFile}
-use Rattle.trio_lease.specs.Views.{written_in}
-use Rattle.trio_nodes.specs.Nodes.{Nodes}
-use Rattle.trio_desk.specs.Call.{DeskSeen}
-use Rattle.trio_desk.specs.Among.{IsAmong}
-use Rattle.trio_desk.specs.Ready.{ArePossible, bundle_of, lent_files}
-use Rattle.trio_desk.specs.Edits.{InHand}
-use Rattle.trio_laws.specs.session.Takes.{IsInOrder, case_in_hand, pages_in_hand}
+use Rattle.trio_laws.proofs.Words.{◌∙◌, ◌≡◌, ArePossible, Bundle, Case, DeskSeen, In, InHand, IsAmong, IsInOrder, LentFile, List, Nodes, Option, Row, Written, [], ap, are_new, arith, bundle_of, case_in_hand, lent_files, map, map-map, pages_in_hand, subst, sym, written_in}
 use Rattle.trio_laws.proofs.session.Again.{hand_files_once, possible_with_less}
 use Rattle.trio_laws.proofs.session.Ruled.{case_with}
 use Rattle.trio_laws.proofs.session.TakenHold.{held_by}

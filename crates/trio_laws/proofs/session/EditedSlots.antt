@@ -1,28 +1,10 @@
 -- What a directory reads where the body in one slot of its pages is exchanged: the entry in this slot has the new body, and all else is as it was.
-use Rattle.std.proofs.Common.{◌≡◌, ℕ, suc, zero, ◌<◌, Bool, true, false, cond, ◌&&◌, ◌||◌, eqb, List, [], ◌∷◌, ◌++◌, length, Option, Some, None, Result, Ok, Err, sym, refl, ap, ◌∙◌, subst, inl, inr, arith}
-use Rattle.std.specs.Prelude.{map}
-use Rattle.std.specs.Str.{bytes_eq}
-use Rattle.std.proofs.lemmas.Bool.{and_parts, and_from, cases_eq, eq-eqb, eqb-true, false≢true}
-use Rattle.std.proofs.lemmas.List.{map-append}
-use Rattle.trio_rights.specs.declared.kind.Kind.{Kind}
-use Rattle.trio_rights.specs.declared.kind.Kind.TheVariants.{Regular, Directory}
-use Rattle.trio_lists.specs.Lists.{In, both, gathered, gathered_below, result_map, result_then}
-use Rattle.trio_lists.proofs.Members.{In-left, In-right, result_then-Ok}
-use Rattle.trio_layout.specs.declared.slot.SlotRead.{SlotRead}
-use Rattle.trio_layout.specs.declared.slot.SlotRead.TheVariants.{Empty, Entry, Bad}
+use Rattle.trio_laws.proofs.Words.{◌&&◌, ◌++◌, ◌<◌, ◌||◌, ◌∙◌, ◌∷◌, ◌≡◌, Bad, Bool, Core, Directory, Empty, Err, FileRead, In, In-left, In-right, Kind, List, Listed, Location, Met, None, Ok, Option, Pages, Placed, Regular, Result, SlotRead, Some, [], and_from, and_parts, ap, arith, below_from, block_count, body_in_slot, both, bytes_eq, cases_eq, cond, entries_where, entries_within, eq-eqb, eqb, eqb-true, false, false≢true, file_within, gathered, gathered_below, gathered_from, has_name, index_count, inl, inr, length, listed_at, map, map-append, page_of, place_of, refl, repeated_name, result_map, result_then, result_then-Ok, slot_bytes, slot_entries, slot_of, subst, suc, sym, true, unless_repeated, with_names_apart, with_other, within_from, within_to, zero, ℕ}
+use Rattle.trio_layout.specs.declared.slot.SlotRead.TheVariants.{Entry}
 use Rattle.trio_layout.specs.Accept.{with_body_in}
-use Rattle.trio_layout.specs.Body.{block_count}
-use Rattle.trio_layout.specs.Chain.{index_count}
-use Rattle.trio_layout.specs.Core.{Core, Location, page_of}
-use Rattle.trio_layout.specs.Entries.{Listed, body_in_slot, entries_on, has_name, listed_at, place_of, repeated_name, slot_bytes, slot_entries, unless_repeated, with_names_apart}
-use Rattle.trio_layout.specs.Slot.{slot_of}
-use Rattle.trio_layout.specs.Survey.{FileRead, Met}
-use Rattle.trio_layout.specs.Within.{entries_where, entries_within, file_within}
-use Rattle.trio_layout.proofs.WithinCore.{within_from, within_to}
-use Rattle.trio_surveys.proofs.Places.{Placed, at_place, below_from, below_has, gathered_from, gathered_has}
-use Rattle.trio_surveys.proofs.Sheets.{Pages}
+use Rattle.trio_layout.specs.Entries.{entries_on}
+use Rattle.trio_surveys.proofs.Places.{at_place, below_has, gathered_has}
 use Rattle.trio_surveys.proofs.Slots.{slot_by_front, with_body-body, with_body-front, with_body-other}
-use Rattle.trio_surveys.specs.Reading.{with_other}
 use Rattle.trio_laws.proofs.session.Reading.{chain_same}
 
 -- ---- what is gathered, each element changed

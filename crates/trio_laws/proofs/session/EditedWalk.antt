@@ -1,12 +1,5 @@
 -- A walk over files whose bodies are changed, but not their numbers: it meets the same files, so changed.
-use Rattle.std.proofs.Common.{◌≡◌, ℕ, suc, zero, ◌≤◌, Bool, true, false, cond, List, [], ◌∷◌, ◌++◌, sym, refl, ap, ◌∙◌, inl, inr, arith}
-use Rattle.std.specs.Prelude.{map}
-use Rattle.std.specs.List.{filter, find, flat_map}
-use Rattle.std.proofs.lemmas.List.{map-append}
-use Rattle.trio_lists.specs.Lists.{In, is_among}
-use Rattle.trio_lists.proofs.Members.{In-right}
-use Rattle.trio_layout.specs.Survey.{Met, Front, numbers, first_listed}
-use Rattle.trio_layout.specs.JudgedFiles.{fronts}
+use Rattle.trio_laws.proofs.Words.{◌++◌, ◌∙◌, ◌∷◌, ◌≡◌, ◌≤◌, Bool, Front, In, In-right, List, Met, [], ap, arith, cond, false, filter, find, first_listed, flat_map, fronts, inl, inr, is_among, map, map-append, numbers, refl, suc, sym, true, zero, ℕ}
 use Rattle.trio_laws.proofs.session.Beside.{passed_more}
 
 -- ---- lists

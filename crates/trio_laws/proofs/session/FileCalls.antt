@@ -1,27 +1,10 @@
 -- How a walk and the calls on a regular file are decided by what a session sees.
-use Rattle.std.proofs.Common.{◌≡◌, ℕ, Bool, true, false, cond, ◌&&◌, ◌+◌, [], length, take, drop, Some, None, Ok, Err, sym, refl, ap, ◌∙◌, subst, inr, ◌⊎◌, arith}
-use Rattle.std.specs.Prelude.{MatchBool, nat_lt}
-use Rattle.std.proofs.lemmas.Bool.{false≢true}
-use Rattle.trio_rights.specs.declared.kind.Kind.TheVariants.{Regular}
-use Rattle.trio_rights.specs.declared.rights.Creds.{Creds}
-use Rattle.trio_rights.specs.declared.rights.Need.TheVariants.{Read as ToRead, Write as ToWrite}
-use Rattle.trio_nodes.specs.declared.node.Node.{Node}
-use Rattle.trio_nodes.specs.declared.call.Answer.TheVariants.{Done as IsDone, Count, Bytes, Stat as IsStat}
-use Rattle.trio_nodes.specs.declared.call.Call.{Call}
-use Rattle.trio_nodes.specs.declared.call.Call.TheVariants.{Write, Read, Truncate, Stat}
-use Rattle.trio_nodes.specs.declared.call.Done.{Done}
-use Rattle.trio_nodes.specs.declared.call.Reply.{Reply}
-use Rattle.trio_nodes.specs.declared.call.Reply.TheVariants.{NotFound, IsDir, Denied, TooLarge}
-use Rattle.trio_nodes.specs.Nodes.{Nodes, node_at, with_node}
-use Rattle.trio_nodes.specs.Walk.{Path, is_directory, lacks, walk}
-use Rattle.trio_nodes.specs.Apply.{Applied, LacksRoom, applied, at_file, done, is_done, largest_size, makes_file, put_at, refused, resized, size_of, wants_pages}
-use Rattle.trio_nodes.specs.After.{lacks_room}
-use Rattle.trio_nodes.specs.Legal.{MadeFits}
-use Rattle.trio_desk.specs.Contents.{Rights, rights_of}
-use Rattle.trio_desk.specs.Call.{DeskSeen}
-use Rattle.trio_desk.specs.Edits.{DoesCall}
+use Rattle.trio_laws.proofs.Words.{◌&&◌, ◌+◌, ◌∙◌, ◌≡◌, ◌⊎◌, Applied, Bool, Call, Creds, Denied, DeskSeen, DoesCall, Done, Err, IsDir, IsDone, LacksRoom, MadeFits, MatchBool, Node, Nodes, None, NotFound, Ok, Path, Regular, Reply, Rights, Some, Stat, ToRead, ToWrite, Truncate, [], ap, applied, arith, cond, done, drop, false, false≢true, inr, is_directory, is_done, lacks, lacks_room, length, makes_file, nat_lt, node_at, refl, refused, resized, rights_of, some_one, subst, sym, take, true, walk, with_node, ℕ}
+use Rattle.trio_nodes.specs.declared.call.Answer.TheVariants.{Count, Bytes, Stat as IsStat}
+use Rattle.trio_nodes.specs.declared.call.Call.TheVariants.{Write, Read}
+use Rattle.trio_nodes.specs.declared.call.Reply.TheVariants.{TooLarge}
+use Rattle.trio_nodes.specs.Apply.{at_file, largest_size, put_at, size_of, wants_pages}
 use Rattle.trio_laws.specs.session.FileCalls.{DoneByBytes, EntersBy, RefusedByCheck, RefusedByWalk, RefusedForRoom, StatsDirectory, WalksBy, answer_of, changed_by, file_path, refusal}
-use Rattle.trio_lists.proofs.Filters.{some_one}
 use Rattle.trio_laws.proofs.session.LentNodes.{mapped}
 
 -- ---- walks

@@ -1,25 +1,6 @@
 -- Written files by their numbers, kinds and bodies, and what a regular one reads.
-use Rattle.std.proofs.Common.{◌≡◌, ℕ, Bool, true, false, cond, ◌&&◌, ◌||◌, eqb, leb, List, [], ◌∷◌, Option, Some, None, Ok, sym, refl, ap, ◌∙◌, arith}
-use Rattle.std.specs.Prelude.{map, is_some}
-use Rattle.std.specs.List.{find}
-use Rattle.std.specs.Str.{bytes_eq}
-use Rattle.std.proofs.lemmas.Bool.{eq-eqb, ne_eqb}
-use Rattle.std.proofs.lemmas.Option.{cond_some}
-use Rattle.trio_rights.specs.Row.{Row}
-use Rattle.trio_rights.specs.declared.kind.Kind.{Kind}
-use Rattle.trio_rights.specs.declared.kind.Kind.TheVariants.{Regular}
-use Rattle.trio_rights.specs.Bundle.{Written}
-use Rattle.trio_lists.specs.Lists.{is_among}
-use Rattle.trio_lists.specs.Sorting.{inserted_by, sorted_by}
-use Rattle.trio_layout.specs.declared.body.Body.{Body}
-use Rattle.trio_layout.specs.declared.range.CoreRange.{CoreRange}
-use Rattle.trio_layout.specs.Body.{body_at, body_bytes, body_fits, body_of}
-use Rattle.trio_layout.specs.Core.{Core}
-use Rattle.trio_layout.specs.Survey.{Met, FileRead}
-use Rattle.trio_layout.specs.Within.{entries_within, file_within}
-use Rattle.trio_layout.specs.JudgedFiles.{written_at}
-use Rattle.trio_layout.proofs.WithinCore.{within_from}
-use Rattle.trio_laws.specs.session.FileEdits.{with_body}
+use Rattle.trio_laws.proofs.Words.{◌&&◌, ◌||◌, ◌∙◌, ◌∷◌, ◌≡◌, Body, Bool, Core, CoreRange, FileRead, Kind, List, Met, None, Ok, Option, Regular, Row, Some, Written, [], ap, arith, body_at, bytes_eq, cond, cond_some, entries_within, eq-eqb, eqb, false, file_within, find, inserted_by, is_among, is_some, leb, map, ne_eqb, refl, sorted_by, sym, true, with_body, within_from, written_at, ℕ}
+use Rattle.trio_layout.specs.Body.{body_bytes, body_fits, body_of}
 
 -- ---- lists
 

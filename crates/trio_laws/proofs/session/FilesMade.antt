@@ -1,33 +1,6 @@
 -- A file is made in an empty slot: the nodes that are shown have it.
-use Rattle.std.proofs.Common.{◌≡◌, true, List, [], ◌∷◌, Option, Some, None, Ok, sym, refl, ap, ◌∙◌, subst, inl, inr}
-use Rattle.std.specs.Prelude.{map, is_some}
-use Rattle.std.specs.Option.{option_map}
-use Rattle.std.proofs.lemmas.Bool.{or_right}
-use Rattle.trio_rights.specs.Row.{Row}
-use Rattle.trio_rights.specs.declared.kind.Kind.{Kind}
-use Rattle.trio_rights.specs.declared.kind.Kind.TheVariants.{Regular, Directory}
-use Rattle.trio_lists.specs.Lists.{In}
-use Rattle.trio_layout.specs.declared.body.Body.{Body}
-use Rattle.trio_layout.specs.declared.slot.EntryPart.{EntryPart}
-use Rattle.trio_layout.specs.Body.{block_count, body_of}
-use Rattle.trio_layout.specs.Chain.{index_count}
-use Rattle.trio_layout.specs.Core.{Core}
-use Rattle.trio_layout.specs.Entries.{Listed, listed_at}
-use Rattle.trio_layout.specs.Survey.{FileRead}
-use Rattle.trio_layout.specs.Case.{Case, bundle_core}
-use Rattle.trio_layout.specs.Within.{chain_within, entries_within, file_within}
-use Rattle.trio_layout.specs.Listing.{is_kept}
-use Rattle.trio_layout.specs.Rules.{entry_in_grammar, entry_is_own, entry_keeps_rights}
-use Rattle.trio_layout.proofs.WithinCore.{within_to}
-use Rattle.trio_nodes.specs.Nodes.{Nodes}
-use Rattle.trio_nodes.specs.Tree.{IsTree}
-use Rattle.trio_nodes.proofs.NodeFacts.{with_node-else, with_node-same}
-use Rattle.trio_desk.specs.Call.{DeskSeen}
-use Rattle.trio_desk.specs.Shows.{Naming, bytes_now, made_by, naming_of, node_listed, with_bytes}
-use Rattle.trio_desk.specs.Ready.{bundle_of}
-use Rattle.trio_desk.specs.Edits.{InHand}
-use Rattle.trio_laws.specs.session.Takes.{IsInOrder}
-use Rattle.trio_laws.specs.session.SlotEdits.{AfterFill, FillShows, IsFill, IsFreeName, SlotWrite, body_after, body_before, filled, naming_after, slot_after, slot_before}
+use Rattle.trio_laws.proofs.Words.{◌∙◌, ◌∷◌, ◌≡◌, Body, Case, Core, DeskSeen, Directory, EntryPart, FileRead, In, InHand, IsFreeName, IsInOrder, IsTree, Kind, List, Listed, Naming, Nodes, None, Ok, Option, Regular, Row, SlotWrite, Some, [], ap, block_count, body_after, body_before, body_of, bundle_core, bundle_of, bytes_now, chain_within, entries_within, entry_in_grammar, entry_is_own, entry_keeps_rights, file_within, index_count, inl, inr, is_kept, is_some, listed_at, made_by, map, naming_after, naming_of, node_listed, option_map, or_right, refl, slot_after, slot_before, subst, sym, true, with_bytes, with_node-else, with_node-same, within_to}
+use Rattle.trio_laws.specs.session.SlotEdits.{AfterFill, FillShows, IsFill, filled}
 use Rattle.trio_laws.proofs.session.Judged.{IsShown, bytes_unnamed, no_node}
 use Rattle.trio_laws.proofs.session.NamedAnew.{IsBare, met_at}
 use Rattle.trio_laws.proofs.session.Ruled.{case_with}

@@ -1,41 +1,11 @@
 -- An entry goes to a slot of another directory: of the nodes that are shown the file lies there.
-use Rattle.std.proofs.Common.{◌≡◌, ℕ, true, eqb, List, [], ◌∷◌, Option, Some, None, Ok, sym, refl, ap, ◌∙◌, subst, inl, inr, arith}
-use Rattle.std.specs.Prelude.{map, is_some}
-use Rattle.std.specs.List.{find}
-use Rattle.std.specs.Option.{option_map}
-use Rattle.std.proofs.lemmas.Bool.{both_ways, eqb-true, or_right}
-use Rattle.trio_rights.specs.Row.{Row, row_in}
-use Rattle.trio_lists.specs.Lists.{In, is_among}
-use Rattle.trio_lists.proofs.Filters.{find-In}
-use Rattle.trio_lists.proofs.Members.{In-is_among, In-map}
-use Rattle.trio_layout.specs.declared.slot.EntryPart.{EntryPart}
-use Rattle.trio_layout.specs.Allowed.{has_kind}
-use Rattle.trio_layout.specs.Body.{body_of}
-use Rattle.trio_layout.specs.Core.{Core}
-use Rattle.trio_layout.specs.Entries.{Listed, listed_at}
-use Rattle.trio_layout.specs.Case.{Case, bundle_core}
-use Rattle.trio_layout.specs.JudgedFiles.{judged_entries}
-use Rattle.trio_layout.specs.Listing.{is_kept}
-use Rattle.trio_layout.specs.Rules.{entry_in_grammar, entry_is_own, entry_keeps_rights, lent_body}
-use Rattle.trio_surveys.proofs.Images.{some_of}
-use Rattle.trio_nodes.specs.declared.node.Node.{Node}
-use Rattle.trio_nodes.specs.Nodes.{Nodes, node_at}
-use Rattle.trio_nodes.specs.Tree.{IsTree}
-use Rattle.trio_nodes.proofs.NodeFacts.{with_node-else, with_node-same}
-use Rattle.trio_desk.specs.Agrees.{Said}
-use Rattle.trio_desk.specs.Contents.{Rights, rights_in, rights_of}
-use Rattle.trio_lease.specs.declared.parts.HoldParts.{HoldParts}
+use Rattle.trio_laws.proofs.Words.{◌∙◌, ◌∷◌, ◌≡◌, Case, Core, DeskSeen, EntryPart, HoldParts, In, In-is_among, In-map, InHand, IsFreeName, IsInOrder, IsTree, List, Listed, MayShow, Naming, Node, Nodes, None, Ok, Option, Rights, Row, Said, SlotWrite, Some, [], ap, arith, body_after, body_before, body_of, both_ways, bundle_core, bundle_of, entry_in_grammar, entry_is_own, entry_keeps_rights, eqb, eqb-true, find, find-In, has_kind, inl, inr, is_among, is_kept, is_some, judged_entries, lent_body, listed_at, made_by, map, naming_after, naming_of, node_at, node_listed, option_map, or_right, refl, rights_in, rights_of, row_in, slot_after, slot_before, some_of, subst, sym, true, with_bytes, with_node-else, with_node-same, ℕ}
 use Rattle.trio_laws.proofs.judgement.RuleParts.{has_kind_is}
 use Rattle.trio_laws.proofs.session.Again.{said_alike}
 use Rattle.trio_laws.proofs.session.JudgedReads.{file_within-alike}
 use Rattle.trio_laws.proofs.session.LentNodes.{mapped}
 use Rattle.trio_laws.proofs.session.Namings.{find_map}
-use Rattle.trio_desk.specs.Call.{DeskSeen}
-use Rattle.trio_desk.specs.Shows.{Naming, made_by, naming_of, node_listed, with_bytes}
-use Rattle.trio_desk.specs.Ready.{bundle_of}
-use Rattle.trio_desk.specs.Edits.{InHand, MayShow}
-use Rattle.trio_laws.specs.session.Takes.{IsInOrder}
-use Rattle.trio_laws.specs.session.SlotEdits.{AfterMove, IsFreeName, IsMove, MoveShows, SlotWrite, body_after, body_before, moved, naming_after, rehung, slot_after, slot_before}
+use Rattle.trio_laws.specs.session.SlotEdits.{AfterMove, IsMove, MoveShows, moved, rehung}
 use Rattle.trio_laws.proofs.session.Judged.{IsShown}
 use Rattle.trio_laws.proofs.session.NamedAnew.{IsTaken, met_at}
 use Rattle.trio_laws.proofs.session.Ruled.{case_with}

@@ -1,22 +1,6 @@
 -- A slot is emptied: the nodes that are shown lack the file.
-use Rattle.std.proofs.Common.{◌≡◌, Bool, true, false, cond, List, [], ◌∷◌, Option, Some, None, Ok, refl, ap, ◌∙◌, inl, inr, arith}
-use Rattle.std.specs.Prelude.{map}
-use Rattle.trio_rights.specs.Row.{Row}
-use Rattle.trio_lists.specs.Lists.{In, is_among}
-use Rattle.trio_lists.proofs.Members.{In-is_among}
-use Rattle.trio_layout.specs.declared.slot.EntryPart.{EntryPart}
-use Rattle.trio_layout.specs.Entries.{Listed, listed_at}
-use Rattle.trio_layout.specs.Case.{Case}
-use Rattle.trio_nodes.specs.declared.node.Node.{Node}
-use Rattle.trio_nodes.specs.Nodes.{Nodes, node_at}
-use Rattle.trio_nodes.specs.Tree.{IsTree}
-use Rattle.trio_nodes.proofs.NodeFacts.{with_node-else, with_node-same}
-use Rattle.trio_desk.specs.Call.{DeskSeen}
-use Rattle.trio_desk.specs.Shows.{Naming, node_left}
-use Rattle.trio_desk.specs.Ready.{bundle_of}
-use Rattle.trio_desk.specs.Edits.{InHand}
-use Rattle.trio_laws.specs.session.Takes.{IsInOrder}
-use Rattle.trio_laws.specs.session.SlotEdits.{AfterClear, ClearShows, IsClear, IsFreeName, SlotWrite, body_after, body_before, cleared, slot_after, slot_before}
+use Rattle.trio_laws.proofs.Words.{◌∙◌, ◌∷◌, ◌≡◌, Bool, Case, DeskSeen, EntryPart, In, In-is_among, InHand, IsFreeName, IsInOrder, IsTree, List, Listed, Naming, Node, Nodes, None, Ok, Option, Row, SlotWrite, Some, [], ap, arith, body_after, body_before, bundle_of, cond, false, inl, inr, is_among, listed_at, map, node_at, node_left, refl, slot_after, slot_before, true, with_node-else, with_node-same}
+use Rattle.trio_laws.specs.session.SlotEdits.{AfterClear, ClearShows, IsClear, cleared}
 use Rattle.trio_laws.proofs.session.Judged.{IsShown, no_node}
 use Rattle.trio_laws.proofs.session.Ruled.{case_with}
 use Rattle.trio_laws.proofs.session.SlotWrites.{IsRelisting, IsSuited, after_is, anew, becomes, had_in, has_in, view}

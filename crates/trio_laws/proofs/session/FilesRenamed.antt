@@ -1,26 +1,6 @@
 -- The entry in a slot gets another name: of the nodes that are shown the file has it.
-use Rattle.std.proofs.Common.{◌≡◌, ℕ, true, List, [], ◌∷◌, Option, Some, Ok, sym, refl, ap, ◌∙◌, subst, inl, inr, arith}
-use Rattle.std.specs.Prelude.{map}
-use Rattle.std.specs.Option.{option_map}
-use Rattle.trio_rights.specs.Row.{Row}
-use Rattle.trio_lists.specs.Lists.{In}
-use Rattle.trio_layout.specs.declared.slot.EntryPart.{EntryPart}
-use Rattle.trio_layout.specs.Core.{Core}
-use Rattle.trio_layout.specs.Entries.{Listed, listed_at}
-use Rattle.trio_layout.specs.Case.{Case, bundle_core}
-use Rattle.trio_layout.specs.Within.{file_within}
-use Rattle.trio_layout.specs.JudgedFiles.{judged_entries}
-use Rattle.trio_layout.specs.Rules.{entry_in_grammar, entry_is_own, entry_keeps_rights}
-use Rattle.trio_nodes.specs.declared.node.Node.{Node}
-use Rattle.trio_nodes.specs.Nodes.{Nodes, node_at}
-use Rattle.trio_nodes.specs.Tree.{IsTree}
-use Rattle.trio_nodes.proofs.NodeFacts.{with_node-else, with_node-same}
-use Rattle.trio_desk.specs.Call.{DeskSeen}
-use Rattle.trio_desk.specs.Shows.{Naming, bytes_now, naming_of, node_left, node_listed, with_bytes}
-use Rattle.trio_desk.specs.Ready.{bundle_of}
-use Rattle.trio_desk.specs.Edits.{InHand}
-use Rattle.trio_laws.specs.session.Takes.{IsInOrder}
-use Rattle.trio_laws.specs.session.SlotEdits.{AfterRetitle, IsFreeName, IsRetitle, RetitleShows, SlotWrite, body_after, body_before, naming_after, renamed, retitled, slot_after, slot_before}
+use Rattle.trio_laws.proofs.Words.{◌∙◌, ◌∷◌, ◌≡◌, Case, Core, DeskSeen, EntryPart, In, InHand, IsFreeName, IsInOrder, IsTree, List, Listed, Naming, Node, Nodes, Ok, Option, Row, SlotWrite, Some, [], ap, arith, body_after, body_before, bundle_core, bundle_of, bytes_now, entry_in_grammar, entry_is_own, entry_keeps_rights, file_within, inl, inr, judged_entries, listed_at, map, naming_after, naming_of, node_at, node_left, node_listed, option_map, refl, slot_after, slot_before, subst, sym, true, with_bytes, with_node-else, with_node-same, ℕ}
+use Rattle.trio_laws.specs.session.SlotEdits.{AfterRetitle, IsRetitle, RetitleShows, renamed, retitled}
 use Rattle.trio_laws.proofs.session.Judged.{IsShown}
 use Rattle.trio_laws.proofs.session.NamedAnew.{IsTaken, met_at}
 use Rattle.trio_laws.proofs.session.Ruled.{case_with}

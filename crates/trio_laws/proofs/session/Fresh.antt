@@ -1,24 +1,9 @@
 -- What a desk gives is none of what is in hand.
-use Rattle.std.proofs.Common.{◌≡◌, ℕ, List, ◌++◌, sym, ap, ◌∙◌, subst, inl, inr, arith}
-use Rattle.std.specs.Prelude.{map}
-use Rattle.std.specs.List.{flat_map}
-use Rattle.std.proofs.lemmas.List.{map-append}
-use Rattle.std.proofs.lemmas.Simd.{map-map}
+use Rattle.trio_laws.proofs.Words.{◌++◌, ◌∙◌, ◌≡◌, DeskSeen, HoldParts, In, In-cases, In-flat, In-left, In-map, In-right, InHand, LentFile, LentPage, List, Sheet, Shown, Written, ap, are_new-fewer, arith, file_numbers, flat_map, flat_map-In, fresh_sheet, hold_numbers, inl, inr, lent_numbers, lent_sheet, map, map-In, map-append, map-map, numbers_of_file, pages_in_hand, subst, sym, written_in, ℕ}
 use Rattle.trio_page.specs.declared.page.PageNo.{PageNo}
-use Rattle.trio_rights.specs.Bundle.{Written}
-use Rattle.trio_rights.specs.Sheets.{Sheet}
-use Rattle.trio_lists.specs.Lists.{In}
-use Rattle.trio_lists.proofs.Members.{In-flat, In-left, In-right, In-cases, In-map, flat_map-In, map-In}
-use Rattle.trio_lists.proofs.New.{are_new-fewer}
-use Rattle.trio_lease.specs.Shown.{Shown, LentFile}
-use Rattle.trio_lease.specs.Views.{fresh_sheet, lent_sheet, written_in}
 use Rattle.trio_lease.specs.declared.parts.FreshParts.{FreshParts}
-use Rattle.trio_lease.specs.declared.parts.HoldParts.{HoldParts}
-use Rattle.trio_lease.specs.declared.parts.LentPage.{LentPage}
-use Rattle.trio_desk.specs.Call.{DeskSeen}
-use Rattle.trio_desk.specs.Out.{WasGiven, file_numbers, files_out, hold_numbers, lent_numbers, numbers_of_file, pages_out}
-use Rattle.trio_desk.specs.Edits.{InHand}
-use Rattle.trio_laws.specs.session.Takes.{FreshIsFree, FreshIsNew, FreshIsUntouched, pages_in_hand}
+use Rattle.trio_desk.specs.Out.{WasGiven, files_out, pages_out}
+use Rattle.trio_laws.specs.session.Takes.{FreshIsFree, FreshIsNew, FreshIsUntouched}
 
 -- a file's pages have the numbers that were lent
 same_numbers : (xs ys : List LentPage) → map (λ (p : LentPage). p.no) xs ≡ map (λ (p : LentPage). p.no) ys → lent_numbers xs ≡ lent_numbers ys

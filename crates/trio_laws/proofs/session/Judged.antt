@@ -1,29 +1,6 @@
 -- What is known of a case that shows nodes: its files read, each number is judged and named once, and what is new has no node.
-use Rattle.std.proofs.Common.{◌≡◌, ℕ, true, eqb, is_ok, List, [], Option, Some, None, Ok, sym, ap, refl, ◌∙◌, subst, inl, inr, arith}
-use Rattle.std.specs.Prelude.{map}
-use Rattle.std.specs.List.{find}
-use Rattle.std.specs.Option.{option_and_then}
-use Rattle.std.proofs.lemmas.Bool.{and_parts, eqb-true, eq-eqb}
-use Rattle.trio_rights.specs.Row.{Row, row_in}
-use Rattle.trio_rights.specs.Bundle.{Written}
-use Rattle.trio_lists.specs.Lists.{In, are_new}
-use Rattle.trio_lists.proofs.Members.{In-flat, In-left, In-map, flat_map-In, is_ok-Ok, list_all-In}
-use Rattle.trio_lists.proofs.Filters.{Ok-one, find-In, In-find}
-use Rattle.trio_layout.specs.Entries.{Listed}
-use Rattle.trio_layout.specs.Survey.{Met, FileRead, plain, met_in, numbers}
-use Rattle.trio_layout.specs.Case.{Case, bundle_core}
-use Rattle.trio_layout.specs.Within.{file_within}
-use Rattle.trio_layout.specs.JudgedFiles.{entries_in, judged_files, new_entries, written_files}
-use Rattle.trio_layout.proofs.Walks.{fronts_listed}
-use Rattle.trio_surveys.proofs.Images.{same_met, some_of}
-use Rattle.trio_nodes.specs.Nodes.{Nodes, node_at}
-use Rattle.trio_nodes.specs.Tree.{IsTree}
-use Rattle.trio_desk.specs.Among.{IsAmong}
-use Rattle.trio_desk.specs.Shows.{Naming, Shows, bytes_now, bytes_read, naming_of, namings, namings_in}
-use Rattle.trio_desk.specs.Call.{DeskSeen}
-use Rattle.trio_desk.specs.Edits.{InHand}
-use Rattle.trio_laws.specs.session.Takes.{case_in_hand}
-use Rattle.trio_laws.specs.session.Sees.{IsView}
+use Rattle.trio_laws.proofs.Words.{◌∙◌, ◌≡◌, Case, DeskSeen, FileRead, In, In-find, In-flat, In-left, In-map, InHand, IsAmong, IsTree, IsView, List, Listed, Met, Naming, Nodes, None, Ok, Ok-one, Option, Row, Shows, Some, Written, [], and_parts, ap, are_new, arith, bundle_core, bytes_now, bytes_read, case_in_hand, entries_in, eq-eqb, eqb, eqb-true, file_within, find, find-In, flat_map-In, fronts_listed, inl, inr, is_ok, is_ok-Ok, list_all-In, map, met_in, naming_of, namings, namings_in, new_entries, node_at, numbers, option_and_then, plain, refl, row_in, same_met, some_of, subst, sym, true, written_files, ℕ}
+use Rattle.trio_layout.specs.JudgedFiles.{judged_files}
 use Rattle.trio_laws.proofs.judgement.JudgedFacts.{written_ino}
 use Rattle.trio_laws.proofs.session.Again.{hand_files_once}
 use Rattle.trio_laws.proofs.session.Closed.{entry_read, judged_closed}

@@ -1,25 +1,7 @@
 -- Which files are judged after an allotment, and what they read.
-use Rattle.std.proofs.Common.{◌≡◌, ℕ, true, List, [], ◌++◌, Option, Ok, sym, ap, ◌∙◌, subst, inl, inr}
-use Rattle.std.specs.Prelude.{map}
-use Rattle.std.proofs.lemmas.List.{map-append}
-use Rattle.trio_rights.specs.Row.{Row}
-use Rattle.trio_lists.specs.Lists.{In, are_new}
-use Rattle.trio_lists.proofs.Members.{In-cases, In-left}
-use Rattle.trio_layout.specs.Case.{Held, bundle_core}
-use Rattle.trio_layout.specs.Survey.{Met}
-use Rattle.trio_layout.specs.JudgedFiles.{judged_files}
-use Rattle.trio_layout.specs.Within.{file_within}
-use Rattle.trio_lease.specs.declared.fresh.Allotted.{Allotted}
+use Rattle.trio_laws.proofs.Words.{◌++◌, ◌∙◌, ◌≡◌, Allotted, DeskSeen, Held, In, In-cases, In-left, InHand, IsInOrder, IsView, JudgesSame, List, Met, Nodes, Ok, Option, Row, [], ap, are_new, bundle_core, bundle_of, case_as_stands, case_in_hand, file_within, inl, ino_numbers, inr, judged_files, map, map-append, page_numbers, pages_in_hand, subst, sym, true, with_allotment, written_numbers, ℕ}
 use Rattle.trio_lease.specs.declared.parts.InoParts.{InoParts}
-use Rattle.trio_nodes.specs.Nodes.{Nodes}
-use Rattle.trio_desk.specs.Among.{written_numbers}
-use Rattle.trio_desk.specs.Call.{DeskSeen}
-use Rattle.trio_desk.specs.Edits.{InHand}
-use Rattle.trio_desk.specs.Out.{ino_numbers, page_numbers}
-use Rattle.trio_desk.specs.Ready.{bundle_of}
-use Rattle.trio_laws.specs.session.Listed.{JudgedAfterAllotment, JudgesSame}
-use Rattle.trio_laws.specs.session.Sees.{IsView}
-use Rattle.trio_laws.specs.session.Takes.{IsInOrder, case_as_stands, case_in_hand, pages_in_hand, with_allotment}
+use Rattle.trio_laws.specs.session.Listed.{JudgedAfterAllotment}
 use Rattle.trio_laws.proofs.session.Ruled.{case_with}
 use Rattle.trio_laws.proofs.session.JudgedTakings.{judged_any, not_written, was_read}
 use Rattle.trio_laws.proofs.session.Stands.{Read, judged_there}

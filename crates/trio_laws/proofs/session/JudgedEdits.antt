@@ -1,46 +1,10 @@
 -- A judged file is edited, written or made: of the nodes that are shown it alone has other bytes, and the other judged files read as before.
-use Rattle.std.proofs.Common.{◌≡◌, ℕ, Bool, true, false, cond, ◌&&◌, eqb, is_ok, List, [], Option, Some, None, Ok, sym, refl, ap, ◌∙◌, subst, inl, inr, ◌⊎◌, arith}
-use Rattle.std.specs.Prelude.{map, take, is_some}
-use Rattle.std.specs.List.{find, flat_map, list_all}
-use Rattle.std.specs.Option.{option_and_then, option_map}
-use Rattle.std.proofs.lemmas.Bool.{and_from, and_parts, cases_Bool, cases_eq, eq-eqb, eqb-true, false_from_ne_true, false≢true, not_from_false, or_left, or_right}
+use Rattle.trio_laws.proofs.Words.{◌&&◌, ◌∙◌, ◌≡◌, ◌⊎◌, ArePossible, Becomes, Body, Bool, Bundle, Case, DeskSeen, Directory, FileRead, Held, In, In-find, In-is_among, In-left, In-map, InHand, IsAmong, IsInOrder, IsJudgedEdit, IsTree, Kind, LentFile, List, Listed, MayShow, Met, Mode, Naming, Node, Nodes, None, Ok, Option, Regular, Rights, Row, Shows, Some, Written, [], and_from, and_parts, ap, are_new, arith, body_at, body_of, bundle_core, bundle_of, bundle_pages, bytes_listed, bytes_now, bytes_read, cases_Bool, cases_eq, cond, content_of, core_in_hand, each_new, entry_in_grammar, entry_is_own, entry_keeps_rights, eq-eqb, eqb, eqb-true, false, false_from_ne_true, false≢true, file_keeps_rights, file_within, find, find-In, flat_map, gathered_new, has_rights, inl, inr, is_among, is_among-In, is_ok, is_some, is_written, judged_entries, judged_files, judged_pages, lent_files, list_all, list_all-In, list_all-each, listed_with, made_by, map, map-In, map-map, meets_grammar, meets_owning, meets_rights, met_with, naming_of, namings, namings_in, node_at, node_left, node_now, not_from_false, numbers, one_of, option_and_then, option_map, or_left, or_right, pages_in, pages_within, placed, refl, rights_in, rights_of, row_in, some_of, some_one, subst, sym, true, with_bytes, with_content, with_node, with_node-else, with_node-same, within_from, written_in, written_met, ℕ}
+use Rattle.std.specs.Prelude.{take}
 use Rattle.std.proofs.lemmas.List.Folds.{flat_map-map}
-use Rattle.std.proofs.lemmas.Simd.{map-map}
-use Rattle.trio_rights.specs.Row.{Row, row_in}
-use Rattle.trio_rights.specs.declared.kind.Kind.{Kind}
-use Rattle.trio_rights.specs.declared.kind.Kind.TheVariants.{Regular, Directory}
-use Rattle.trio_rights.specs.declared.rights.Mode.{Mode}
-use Rattle.trio_rights.specs.Bundle.{Bundle, Written, bundle_pages, is_written}
-use Rattle.trio_lists.specs.Lists.{In, is_among, are_new}
-use Rattle.trio_lists.proofs.Filters.{find-In, In-find, some_one}
-use Rattle.trio_lists.proofs.Gathered.{each_new, gathered_new, one_of}
-use Rattle.trio_lists.proofs.Members.{In-is_among, In-left, In-map, is_among-In, list_all-In, list_all-each, map-In}
-use Rattle.trio_layout.specs.declared.body.Body.{Body}
-use Rattle.trio_layout.specs.Body.{body_at, body_of}
-use Rattle.trio_layout.specs.Entries.{Listed}
-use Rattle.trio_layout.specs.Survey.{FileRead, Met, numbers, pages_in}
-use Rattle.trio_layout.specs.Case.{Case, Held, bundle_core}
-use Rattle.trio_layout.specs.Within.{file_within}
-use Rattle.trio_layout.specs.JudgedFiles.{judged_entries, judged_files, judged_pages, pages_within, written_met}
-use Rattle.trio_layout.specs.Rules.{entry_in_grammar, entry_is_own, entry_keeps_rights, file_keeps_rights, has_rights, meets_grammar, meets_owning, meets_rights}
-use Rattle.trio_layout.proofs.WithinCore.{within_from}
-use Rattle.trio_lease.specs.Shown.{LentFile}
-use Rattle.trio_lease.specs.Views.{written_in}
-use Rattle.trio_nodes.specs.declared.node.Node.{Node}
-use Rattle.trio_nodes.specs.Nodes.{Nodes, node_at, with_node}
-use Rattle.trio_nodes.specs.Tree.{IsTree}
-use Rattle.trio_nodes.proofs.NodeFacts.{with_node-else, with_node-same}
 use Rattle.trio_onetree.proofs.TreePut.{tree_same}
-use Rattle.trio_surveys.proofs.Images.{some_of}
-use Rattle.trio_desk.specs.Contents.{Rights, rights_in, rights_of}
-use Rattle.trio_desk.specs.Call.{DeskSeen}
-use Rattle.trio_desk.specs.Among.{IsAmong}
-use Rattle.trio_desk.specs.Shows.{Naming, Shows, bytes_now, bytes_read, made_by, naming_of, namings, namings_in, node_left, node_now, placed, with_bytes}
-use Rattle.trio_desk.specs.Ready.{ArePossible, bundle_of, lent_files}
-use Rattle.trio_desk.specs.Edits.{InHand, MayShow}
-use Rattle.trio_laws.specs.session.Takes.{Becomes, IsInOrder}
-use Rattle.trio_laws.specs.session.FileEdits.{bytes_listed, core_in_hand, node_with, with_content}
-use Rattle.trio_laws.specs.session.JudgedEdits.{IsJudgedEdit, JudgedAfterEdit, JudgedEditShows, ListedAfterJudgedEdit, ReadsAfterEdit, content_of, listed_with, met_with}
+use Rattle.trio_laws.specs.session.FileEdits.{node_with}
+use Rattle.trio_laws.specs.session.JudgedEdits.{JudgedAfterEdit, JudgedEditShows, ListedAfterJudgedEdit, ReadsAfterEdit}
 use Rattle.trio_laws.proofs.judgement.JudgedFacts.{written_ino_at, written_kind_at}
 use Rattle.trio_laws.proofs.session.Again.{judged_page}
 use Rattle.trio_laws.proofs.session.Edges.{new_dead}

@@ -1,29 +1,6 @@
 -- What is known of the judged files before one of them is edited, by the nodes that are shown.
-use Rattle.std.proofs.Common.{◌≡◌, ℕ, suc, Bool, true, false, List, [], Option, Some, Ok, sym, refl, ap, ◌∙◌, subst, inl, inr, arith}
-use Rattle.std.specs.Prelude.{map}
-use Rattle.std.proofs.lemmas.Bool.{cases_Bool, false≢true}
-use Rattle.trio_rights.specs.Row.{Row, row_in}
-use Rattle.trio_rights.specs.Bundle.{Bundle, Written}
-use Rattle.trio_lists.specs.Lists.{In, is_among, are_new}
-use Rattle.trio_lists.proofs.Members.{In-cases, In-flat, In-is_among, In-left, In-map, In-right, flat_map-In, is_among-In, map-In}
-use Rattle.trio_layout.specs.Entries.{Listed}
-use Rattle.trio_layout.specs.Survey.{FileRead, Met, children_in, met_in, numbers, plain}
-use Rattle.trio_layout.specs.Case.{Case, Held, bundle_core}
-use Rattle.trio_layout.specs.Within.{file_within}
-use Rattle.trio_layout.specs.JudgedFiles.{entries_in, fronts, judged_files, new_entries, written_files, written_met}
-use Rattle.trio_layout.proofs.Walks.{fronts_listed}
-use Rattle.trio_lease.specs.Shown.{LentFile}
-use Rattle.trio_lease.specs.Views.{written_in}
-use Rattle.trio_nodes.specs.Nodes.{Nodes}
-use Rattle.trio_nodes.specs.Tree.{IsTree}
-use Rattle.trio_surveys.proofs.Images.{same_met, some_of}
-use Rattle.trio_desk.specs.Call.{DeskSeen}
-use Rattle.trio_desk.specs.Among.{IsAmong}
-use Rattle.trio_desk.specs.Shows.{Naming, Shows, naming_of, namings, namings_in}
-use Rattle.trio_desk.specs.Ready.{ArePossible, bundle_of}
-use Rattle.trio_desk.specs.Edits.{InHand}
-use Rattle.trio_laws.specs.session.Takes.{IsInOrder}
-use Rattle.trio_laws.specs.session.JudgedEdits.{IsJudgedEdit}
+use Rattle.trio_laws.proofs.Words.{◌∙◌, ◌≡◌, ArePossible, Bool, Bundle, Case, DeskSeen, FileRead, Held, In, In-cases, In-flat, In-is_among, In-left, In-map, In-right, InHand, IsAmong, IsInOrder, IsJudgedEdit, IsTree, LentFile, List, Listed, Met, Naming, Nodes, Ok, Option, Row, Shows, Some, Written, [], ap, are_new, arith, bundle_core, bundle_of, cases_Bool, children_in, entries_in, false, false≢true, file_within, flat_map-In, fronts, fronts_listed, inl, inr, is_among, is_among-In, map, map-In, met_in, naming_of, namings, namings_in, new_entries, numbers, plain, refl, row_in, same_met, some_of, subst, suc, sym, true, written_files, written_in, written_met, ℕ}
+use Rattle.trio_layout.specs.JudgedFiles.{judged_files}
 use Rattle.trio_laws.proofs.judgement.JudgedFacts.{written_body_at, written_ino_at, written_kind_at}
 use Rattle.trio_laws.proofs.session.Again.{hand_files_once, judged_reads}
 use Rattle.trio_laws.proofs.session.Climbing.{own_parent}

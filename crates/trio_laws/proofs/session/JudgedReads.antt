@@ -1,39 +1,11 @@
 -- What the judged files are and read where one of them is edited, written or made.
-use Rattle.std.proofs.Common.{◌≡◌, ℕ, suc, Bool, true, cond, ◌&&◌, eqb, List, [], ◌∷◌, ◌++◌, ◌<◌, Option, Some, None, Ok, sym, refl, ap, ◌∙◌, subst, inl, inr, ◌⊎◌, arith}
-use Rattle.std.specs.Prelude.{map}
-use Rattle.std.specs.List.{flat_map}
-use Rattle.std.proofs.lemmas.Bool.{and_from, and_parts, cases_Bool, cases_eq, eq-eqb, eqb-true, false_from_ne_true, false≢true, ne_eqb}
-use Rattle.std.proofs.lemmas.Simd.{map-map}
-use Rattle.trio_rights.specs.Row.{Row, row_in}
-use Rattle.trio_rights.specs.Bundle.{Bundle, Written}
-use Rattle.trio_rights.specs.declared.kind.Kind.TheVariants.{Regular}
-use Rattle.trio_lists.specs.Lists.{In, is_among, are_new}
-use Rattle.trio_lists.specs.Sorting.{sorted_by}
-use Rattle.trio_lists.proofs.Gathered.{each_new, one_keyed, one_of}
-use Rattle.trio_lists.proofs.Members.{In-flat, In-is_among, In-map, In-right, flat_map-In, is_among-In, map-In}
-use Rattle.trio_lists.proofs.Marked.{are_new-append}
-use Rattle.trio_lists.proofs.New.{are_new-before}
-use Rattle.trio_layout.specs.Core.{Core, page_of}
-use Rattle.trio_layout.specs.Entries.{Listed, slot_bytes}
-use Rattle.trio_layout.specs.Slot.{slot_of}
-use Rattle.trio_layout.specs.declared.slot.EntryPart.{EntryPart}
+use Rattle.trio_laws.proofs.Words.{◌&&◌, ◌++◌, ◌<◌, ◌∙◌, ◌∷◌, ◌≡◌, ◌⊎◌, Bool, Bundle, Case, Core, DeskSeen, EntryPart, FileRead, Front, Held, In, In-flat, In-is_among, In-map, In-right, InHand, IsJudgedEdit, LentFile, List, Listed, Met, None, Ok, Option, Placed, Regular, Row, Some, Written, [], and_from, and_parts, ap, are_new, are_new-append, are_new-before, arith, bare_file, bundle_core, bundle_of, cases_Bool, cases_eq, children_in, cond, each_new, entries_in, eq-eqb, eqb, eqb-true, false_from_ne_true, false≢true, files_in_hand, flat_map, flat_map-In, fronts, inl, inr, is_among, is_among-In, judged_entries, judged_pages, listed_with, map, map-In, map-map, met_in, met_with, ne_eqb, new_entries, numbers, numbers-flat, one_keyed, one_of, page_of, pages_in, pages_listed, pages_within, plain, refl, row_in, same_met, slot_bytes, slot_of, sorted_by, subst, suc, sym, true, with_body, written_at, written_files, written_in, written_met, ℕ}
 use Rattle.trio_layout.specs.declared.slot.SlotRead.TheVariants.{Entry}
-use Rattle.trio_layout.specs.Survey.{FileRead, Front, Met, children_in, met_in, numbers, pages_in, plain}
-use Rattle.trio_layout.specs.Case.{Case, Held, bundle_core}
 use Rattle.trio_layout.specs.Within.{file_within}
-use Rattle.trio_layout.specs.JudgedFiles.{entries_in, fronts, judged_entries, judged_files, judged_pages, new_entries, pages_within, written_at, written_files, written_met}
-use Rattle.trio_layout.proofs.Walks.{numbers-flat}
-use Rattle.trio_lease.specs.Shown.{LentFile}
-use Rattle.trio_lease.specs.Views.{written_in}
-use Rattle.trio_surveys.proofs.Images.{same_met}
-use Rattle.trio_desk.specs.Call.{DeskSeen}
-use Rattle.trio_desk.specs.Ready.{bundle_of}
-use Rattle.trio_desk.specs.Edits.{InHand}
-use Rattle.trio_laws.specs.session.FileEdits.{bare_file, files_in_hand, pages_listed, with_body}
-use Rattle.trio_laws.specs.session.JudgedEdits.{HasBodyInSlot, IsJudgedEdit, listed_with, met_with}
+use Rattle.trio_layout.specs.JudgedFiles.{judged_files}
+use Rattle.trio_laws.specs.session.JudgedEdits.{HasBodyInSlot}
 use Rattle.trio_laws.proofs.judgement.JudgedFacts.{written_ino_at}
 use Rattle.trio_laws.proofs.session.EditedOrder.{bundle_then}
-use Rattle.trio_surveys.proofs.Places.{Placed}
 use Rattle.trio_laws.proofs.session.EditedSlots.{entry-stands, file-placed, placed_with}
 use Rattle.trio_laws.proofs.session.EditedWalk.{filter-changed, flat_map-changed, fronts-changed}
 use Rattle.trio_laws.proofs.session.FileEdits.{bare, bare_at, body-here, body-number, body-other, regular_entries, sorted-map}

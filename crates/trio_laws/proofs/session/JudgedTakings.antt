@@ -1,29 +1,7 @@
 -- Which files are judged after more was taken, and what they read.
-use Rattle.std.proofs.Common.{◌≡◌, ℕ, List, [], ◌∷◌, ◌++◌, Option, Some, Ok, sym, ap, ◌∙◌, subst, inl, inr, arith}
-use Rattle.std.specs.Prelude.{is_some, map}
-use Rattle.std.specs.Option.{option_map}
-use Rattle.std.proofs.lemmas.Bool.{false≢true}
-use Rattle.std.proofs.lemmas.List.{map-append}
-use Rattle.trio_rights.specs.Bundle.{Bundle, Written}
-use Rattle.trio_rights.specs.Row.{Row}
-use Rattle.trio_lists.specs.Lists.{In}
-use Rattle.trio_lists.proofs.Members.{In-cases, In-map, In-right}
-use Rattle.trio_layout.specs.Case.{Held, bundle_core}
-use Rattle.trio_layout.specs.Survey.{FileRead, Met}
-use Rattle.trio_layout.specs.JudgedFiles.{judged_files, written_files}
-use Rattle.trio_layout.specs.Within.{file_within}
-use Rattle.trio_lease.specs.Shown.{LentFile}
-use Rattle.trio_lease.specs.Views.{written_in}
-use Rattle.trio_nodes.specs.Nodes.{Nodes}
-use Rattle.trio_desk.specs.Among.{IsAmong, written_numbers}
-use Rattle.trio_desk.specs.Call.{DeskSeen}
-use Rattle.trio_desk.specs.Contents.{rights_of}
-use Rattle.trio_desk.specs.Edits.{InHand}
-use Rattle.trio_desk.specs.Out.{ino_numbers}
-use Rattle.trio_desk.specs.Ready.{ArePossible, bundle_of}
-use Rattle.trio_laws.specs.session.Listed.{JudgedAfterHold, JudgedAfterWrite, JudgesSame, WasRead}
-use Rattle.trio_laws.specs.session.Sees.{IsView}
-use Rattle.trio_laws.specs.session.Takes.{IsInOrder, IsUntouched, case_as_stands, case_in_hand, with_write}
+use Rattle.trio_laws.proofs.Words.{◌++◌, ◌∙◌, ◌∷◌, ◌≡◌, ArePossible, Bundle, DeskSeen, FileRead, Held, In, In-cases, In-map, In-right, InHand, IsAmong, IsInOrder, IsUntouched, IsView, JudgesSame, LentFile, List, Met, Nodes, Ok, Option, Row, Some, Written, [], ap, arith, bundle_core, bundle_of, case_as_stands, case_in_hand, false≢true, file_within, inl, ino_numbers, inr, is_some, map, map-append, option_map, rights_of, subst, sym, with_write, written_files, written_in, written_numbers, ℕ}
+use Rattle.trio_layout.specs.JudgedFiles.{judged_files}
+use Rattle.trio_laws.specs.session.Listed.{JudgedAfterHold, JudgedAfterWrite, WasRead}
 use Rattle.trio_laws.proofs.judgement.JudgedFacts.{written_ino}
 use Rattle.trio_laws.proofs.session.LentFiles.{lent_file}
 use Rattle.trio_laws.proofs.session.Ruled.{case_with}

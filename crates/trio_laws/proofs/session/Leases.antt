@@ -1,44 +1,5 @@
 -- What a lease shows is true of the nodes at its grant.
-use Rattle.std.proofs.Common.{◌≡◌, ℕ, true, cond, eqb, List, [], ◌∷◌, ◌++◌, Option, Some, None, Ok, sym, refl, ap, ◌∙◌, subst, inl, inr, arith}
-use Rattle.std.specs.Prelude.{map}
-use Rattle.std.specs.List.{find, flat_map, cons_option}
-use Rattle.std.specs.Option.{option_map}
-use Rattle.std.proofs.lemmas.Bool.{cases_eq, eqb-true, eq-eqb, ne_eqb}
-use Rattle.trio_rights.specs.Row.{Row, is_child}
-use Rattle.trio_rights.specs.Sheets.{Sheet}
-use Rattle.trio_rights.specs.declared.kind.Kind.{Kind}
-use Rattle.trio_rights.specs.declared.kind.Kind.TheVariants.{Directory}
-use Rattle.trio_rights.specs.declared.rights.Mode.{Mode}
-use Rattle.trio_lists.specs.Lists.{In, gathered, both, there_or}
-use Rattle.trio_lists.proofs.Members.{result_then-Ok, there_or-Ok, both-Ok}
-use Rattle.trio_lists.proofs.Filters.{find-In, In-find, Ok-one}
-use Rattle.trio_layout.specs.declared.body.Body.{Body}
-use Rattle.trio_layout.specs.Body.{body_at}
-use Rattle.trio_layout.specs.Core.{Core, at_page, page_of}
-use Rattle.trio_layout.specs.Entries.{Listed, entries_on, page_entries, entries_of_kind}
-use Rattle.trio_layout.specs.Image.{Image, row_at, settled_body}
-use Rattle.trio_layout.specs.Pages.{sheets_of, settled_chain, block_sheets}
-use Rattle.trio_layout.specs.Proposed.{is_place_of}
-use Rattle.trio_layout.specs.Survey.{Met, FileRead, plain, met_in, survey, children, file_of, row_by}
-use Rattle.trio_lease.specs.Shown.{Shown}
-use Rattle.trio_lease.specs.Views.{lent_sheet}
-use Rattle.trio_lease.specs.declared.parts.LentPage.{LentPage}
-use Rattle.trio_nodes.specs.declared.grant.GrantKind.TheVariants.{Read, Write, Hold}
-use Rattle.trio_nodes.specs.declared.node.Node.{Node}
-use Rattle.trio_nodes.specs.Nodes.{Nodes, node_at, is_in}
-use Rattle.trio_nodes.specs.Tree.{IsTree}
-use Rattle.trio_onetree.proofs.Children.{one_node}
-use Rattle.trio_state.specs.Kept.{Kept}
-use Rattle.trio_state.specs.State.{State, settled}
-use Rattle.trio_surveys.proofs.Images.{MetAt, met_numbered, one_met, read_met, row_at_is, row_met}
-use Rattle.trio_surveys.proofs.Local.{reads_from}
-use Rattle.trio_surveys.proofs.OwnFiles.{place_from}
-use Rattle.trio_surveys.proofs.Places.{gathers_directory}
-use Rattle.trio_surveys.proofs.Reached.{child_met, no_root_listed}
-use Rattle.trio_surveys.proofs.Tree.{child_has}
-use Rattle.trio_desk.specs.Contents.{Sizes, Rights, rights_of, rights_in, ShownEntry, entry_of_node, entry_of_listed, entries_shown, entries_or_none, entries_lent}
-use Rattle.trio_desk.specs.Agrees.{row_says, node_says, HasRights, HasContent, HasFile, HasPlaces}
-use Rattle.trio_laws.specs.history.Stands.{name_of, node_by, node_of, writer_of, nodes_of}
+use Rattle.trio_laws.proofs.Words.{◌++◌, ◌∙◌, ◌∷◌, ◌≡◌, Body, Core, Directory, FileRead, HasContent, HasFile, HasPlaces, HasRights, Hold, Image, In, In-find, IsTree, Kept, Kind, LentPage, List, Listed, Met, MetAt, Mode, Node, Nodes, None, Ok, Ok-one, Option, Read, Rights, Row, Sheet, Shown, ShownEntry, Sizes, Some, State, Write, [], ap, arith, at_page, block_sheets, body_at, both, both-Ok, cases_eq, child_has, child_met, children, cond, cons_option, entries_lent, entries_of_kind, entries_on, entries_or_none, entries_shown, entry_of_listed, entry_of_node, eq-eqb, eqb, eqb-true, file_of, find, find-In, flat_map, gathered, gathers_directory, inl, inr, is_child, is_in, is_place_of, lent_sheet, map, met_in, met_numbered, name_of, ne_eqb, no_root_listed, node_at, node_by, node_of, node_says, nodes_of, one_met, one_node, option_map, page_entries, page_of, place_from, plain, read_met, reads_from, refl, result_then-Ok, rights_in, rights_of, row_at, row_at_is, row_by, row_met, row_says, settled, settled_body, settled_chain, sheets_of, subst, survey, sym, there_or, there_or-Ok, true, writer_of, ℕ}
 use Rattle.trio_laws.specs.session.Grants.{LeaseShows, HoldShows}
 use Rattle.trio_laws.proofs.history.Facts.{live, node_is}
 use Rattle.trio_laws.proofs.history.Follows.{body_is_at, name_at_entry}

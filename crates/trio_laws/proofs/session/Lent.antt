@@ -1,45 +1,5 @@
 -- What open grants lent is true through every step.
-use Rattle.std.proofs.Common.{◌≡◌, ℕ, Bool, true, false, not, ◌&&◌, eqb, List, [], ◌∷◌, Option, Some, None, take, sym, refl, ap, ◌∙◌, subst, inl, inr, arith}
-use Rattle.std.specs.Prelude.{is_some, map}
-use Rattle.std.proofs.lemmas.Bool.{and_parts, both_ways, cases_eq, eqb-true, false_from_ne_true, not-true}
-use Rattle.trio_rights.specs.Row.{Row}
-use Rattle.trio_rights.specs.Bundle.{Bundle, Written, is_written}
-use Rattle.trio_rights.specs.declared.kind.Kind.TheVariants.{Directory}
-use Rattle.trio_lists.specs.Lists.{In, is_among}
-use Rattle.trio_lists.proofs.Members.{In-cases, In-is_among, In-map}
-use Rattle.trio_lists.proofs.Filters.{filter-In, some_one}
-use Rattle.trio_lists.proofs.New.{is_among-not}
-use Rattle.trio_layout.specs.Accept.{is_accepted, next}
-use Rattle.trio_layout.specs.Image.{Image, row_at}
-use Rattle.trio_layout.specs.Proposed.{is_place_of}
-use Rattle.trio_lease.specs.Shown.{Shown}
-use Rattle.trio_lease.specs.declared.parts.HoldParts.{HoldParts}
-use Rattle.trio_nodes.specs.declared.entry.Entry.{Entry}
-use Rattle.trio_nodes.specs.declared.grant.GrantKind.{GrantKind}
-use Rattle.trio_nodes.specs.declared.grant.GrantKind.TheVariants.{Write, Hold}
-use Rattle.trio_nodes.specs.declared.answers.GrantFault.{GrantFault}
-use Rattle.trio_nodes.specs.declared.answers.ModeFault.{ModeFault}
-use Rattle.trio_nodes.specs.declared.node.Node.{Node}
-use Rattle.trio_nodes.specs.GrantKinds.{excludes_kind, is_read, is_write}
-use Rattle.trio_nodes.specs.After.{moded_nodes}
-use Rattle.trio_nodes.specs.Legal.{HasRightsOf, KeepsRights, parent_in}
-use Rattle.trio_nodes.specs.Nodes.{Nodes, node_at}
-use Rattle.trio_nodes.specs.Standing.{stands_on}
-use Rattle.trio_nodes.specs.Tree.{IsTree}
-use Rattle.trio_surveys.proofs.OwnFiles.{place_parts, place_from}
-use Rattle.trio_state.specs.Allotments.{allots, free_numbers, free_pages}
-use Rattle.trio_state.specs.Bundles.{Ends, grants_after, is_in_bundle, lent_part, parted_hold, refused_image}
-use Rattle.trio_state.specs.Given.{GivenEvent, GivenTo}
-use Rattle.trio_state.specs.Grants.{given_back, grant_fault, opened, opens}
-use Rattle.trio_state.specs.Kept.{Kept}
-use Rattle.trio_state.specs.Run.{start}
-use Rattle.trio_state.specs.State.{OpenGrant, State, creds_of, logged, settled}
-use Rattle.trio_state.specs.Step.{Event, Grant, Allot, Back, Release, Settle, SetMode, CtlAnswer, ReleaseEnd, Parted, IsAccepted, IsRefused, Does, Step, granted_to, mode_fault, moded_to}
-use Rattle.trio_desk.specs.Agrees.{HasFile, HasHeld, HasPlaces, HasRights, HasStanding}
-use Rattle.trio_laws.specs.history.Entries.{answer_of, bundle_handed, event_of}
-use Rattle.trio_laws.specs.history.Recorded.{LentWhole}
-use Rattle.trio_laws.specs.history.Replays.{ReplaysFrom}
-use Rattle.trio_laws.specs.history.Stands.{node_by, nodes_of, standing_of, writer_of}
+use Rattle.trio_laws.proofs.Words.{◌&&◌, ◌∙◌, ◌∷◌, ◌≡◌, Allot, Back, Bool, Bundle, CtlAnswer, Directory, Does, Ends, Entry, Event, GivenEvent, GivenTo, Grant, GrantFault, GrantKind, HasFile, HasHeld, HasPlaces, HasRights, HasRightsOf, HasStanding, Hold, HoldParts, Image, In, In-cases, In-is_among, In-map, IsAccepted, IsRefused, IsTree, KeepsRights, Kept, LentWhole, List, ModeFault, Node, Nodes, None, OpenGrant, Option, Parted, Release, ReleaseEnd, ReplaysFrom, Row, SetMode, Settle, Shown, Some, State, Step, Write, Written, [], allots, and_parts, answer_of, ap, arith, both_ways, bundle_handed, cases_eq, creds_of, eqb, eqb-true, event_of, excludes_kind, false, false_from_ne_true, filter-In, free_numbers, free_pages, given_back, grant_fault, granted_to, grants_after, inl, inr, is_accepted, is_among, is_among-not, is_in_bundle, is_place_of, is_read, is_some, is_write, is_written, lent_part, logged, map, mode_fault, moded_nodes, moded_to, next, node_at, node_by, nodes_of, not, not-true, opened, opens, parent_in, parted_hold, place_from, place_parts, refl, refused_image, row_at, settled, some_one, standing_of, stands_on, start, subst, sym, take, true, writer_of, ℕ}
 use Rattle.trio_laws.specs.session.Grants.{IsHoldOf, IsLeaseOf, LendsPages}
 use Rattle.trio_laws.specs.session.Lent.{LeasesStayTrue, LentIsTrue, LentStaysTrue, StepKeepsLent, StepKeepsRoot, lease_of, root_of, sizes_of}
 use Rattle.trio_laws.proofs.Bundles.{Closed, closed_unparted, outside_unheld, outside_unwritten, unparted_all, unwritten_finds, written_from}

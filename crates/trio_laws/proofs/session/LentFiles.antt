@@ -1,39 +1,9 @@
 -- A file as a lease gives it, read among the pages of a bundle.
-use Rattle.std.proofs.Common.{◌≡◌, ℕ, true, false, cond, List, [], ◌∷◌, ◌++◌, Option, Some, None, Ok, append_assoc, sym, refl, ap, ◌∙◌, subst, inl, inr, arith}
-use Rattle.std.specs.Prelude.{map}
-use Rattle.std.specs.List.{flat_map}
+use Rattle.trio_laws.proofs.Words.{◌++◌, ◌∙◌, ◌∷◌, ◌≡◌, Directory, FileRead, In, In-left, In-list_any, In-map, In-right, IsWellLent, LentPage, List, Listed, Met, None, Ok, Option, Regular, Row, Sheet, Shown, Sizes, Some, [], and_from, ap, append_assoc, are_new, arith, at_page, body_at, body_in_slot, body_of, both, bytes_eq, bytes_eq-Decides, bytes_read, bytes_shown, cond, entries_of_kind, entries_on, entries_shown, false, false_from_ne_true, false≢true, file_of, file_within, flat_map, gathered, gathers_directory, has_name, inl, inr, is_among, is_among-In, is_core, is_ok-Ok, is_place_of, lent_numbers, lent_sheet, listed_is_core, map, map-In, map-append, map-map, not_from_false, numbers_of_file, page_entries, page_of, pages_bytes, pages_in, place_of, place_parts, placed_from, reads_to, refl, repeated_name, result_then, row_in, sheet_numbers, slot_bytes, slot_of, some_one, subst, sym, there_or, true, ℕ}
 use Rattle.std.specs.Option.{unwrap_or}
-use Rattle.std.specs.Str.{bytes_eq}
-use Rattle.std.proofs.lemmas.Bool.{and_from, false_from_ne_true, false≢true, not_from_false}
-use Rattle.std.proofs.lemmas.List.{map-append}
-use Rattle.std.proofs.lemmas.Simd.{map-map}
-use Rattle.std.proofs.lemmas.Slice.Eq.{bytes_eq-Decides}
-use Rattle.trio_rights.specs.Row.{Row, row_in}
-use Rattle.trio_rights.specs.declared.kind.Kind.TheVariants.{Regular, Directory}
-use Rattle.trio_rights.specs.Sheets.{Sheet, sheet_numbers}
-use Rattle.trio_lists.specs.Lists.{In, are_new, both, gathered, is_among, result_then, there_or}
-use Rattle.trio_lists.proofs.Members.{In-left, In-right, In-map, map-In, is_among-In, is_ok-Ok}
-use Rattle.trio_lists.proofs.Filters.{In-list_any, some_one}
 use Rattle.trio_layout.specs.declared.slot.SlotRead.TheVariants.{Entry}
-use Rattle.trio_layout.specs.Range.{is_core}
-use Rattle.trio_layout.specs.Body.{body_at, body_of}
-use Rattle.trio_layout.specs.Core.{at_page, page_of}
-use Rattle.trio_layout.specs.Entries.{Listed, body_in_slot, slot_bytes, entries_on, entries_of_kind, has_name, page_entries, place_of, repeated_name}
-use Rattle.trio_layout.specs.Slot.{slot_of}
-use Rattle.trio_layout.specs.Proposed.{is_place_of}
-use Rattle.trio_layout.specs.Survey.{Met, FileRead, file_of, pages_in}
-use Rattle.trio_layout.specs.Within.{file_within}
-use Rattle.trio_lease.specs.Shown.{Shown}
-use Rattle.trio_lease.specs.Views.{lent_sheet}
-use Rattle.trio_lease.specs.declared.parts.LentPage.{LentPage}
-use Rattle.trio_surveys.proofs.Cores.{listed_is_core}
-use Rattle.trio_surveys.proofs.Local.{reads_to}
-use Rattle.trio_surveys.proofs.OwnFiles.{place_parts}
-use Rattle.trio_surveys.proofs.Places.{gathers_directory, placed_from}
 use Rattle.trio_surveys.proofs.Within.{file_part}
-use Rattle.trio_desk.specs.Contents.{Sizes, bytes_shown, entries_shown}
-use Rattle.trio_desk.specs.Out.{IsWellLent, lent_core, lent_numbers, numbers_of_file}
-use Rattle.trio_desk.specs.Shows.{bytes_read, pages_bytes}
+use Rattle.trio_desk.specs.Out.{lent_core}
 use Rattle.trio_laws.proofs.session.Reading.{core_of, file_as_before, page_kept, sheet_there}
 
 -- the pages of a lease, as pages of a bundle

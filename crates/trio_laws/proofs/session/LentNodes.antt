@@ -1,23 +1,5 @@
 -- The nodes of what a lease shows.
-use Rattle.std.proofs.Common.{◌≡◌, ℕ, true, cond, eqb, Option, Some, None, List, sym, refl, ap, ◌∙◌, subst, inl, inr, arith}
-use Rattle.std.specs.List.{find}
-use Rattle.std.specs.Option.{option_map}
-use Rattle.std.proofs.lemmas.Bool.{cases_eq, eqb-true, eq-eqb}
-use Rattle.trio_rights.specs.Row.{Row, row_in}
-use Rattle.trio_rights.specs.declared.kind.Kind.{Kind}
-use Rattle.trio_rights.specs.declared.kind.Kind.TheVariants.{Regular, Directory}
-use Rattle.trio_lists.specs.Lists.{In}
-use Rattle.trio_lists.proofs.Filters.{find-In, In-find, some_one}
-use Rattle.trio_layout.specs.Entries.{Listed}
-use Rattle.trio_layout.specs.Proposed.{is_place_of}
-use Rattle.trio_layout.specs.Survey.{Met}
-use Rattle.trio_lease.specs.Shown.{Shown}
-use Rattle.trio_nodes.specs.declared.node.Node.{Node}
-use Rattle.trio_nodes.specs.Nodes.{Nodes, node_at}
-use Rattle.trio_nodes.specs.Tree.{IsTree}
-use Rattle.trio_desk.specs.Contents.{ShownEntry, Sizes, entries_lent, entries_shown, entry_of_listed, entry_of_node, rights_in, rights_of}
-use Rattle.trio_desk.specs.Agrees.{HasContent, HasFile}
-use Rattle.trio_desk.specs.Out.{IsWellLent}
+use Rattle.trio_laws.proofs.Words.{◌∙◌, ◌≡◌, Directory, HasContent, HasFile, In, In-find, IsTree, IsWellLent, Kind, List, Listed, Met, Node, Nodes, None, Option, Regular, Row, Shown, ShownEntry, Sizes, Some, ap, arith, cases_eq, cond, entries_lent, entries_shown, entry_of_listed, entry_of_node, eq-eqb, eqb, eqb-true, find, find-In, inl, inr, is_place_of, node_at, option_map, refl, rights_in, rights_of, row_in, some_one, subst, sym, true, ℕ}
 use Rattle.trio_laws.proofs.session.LentFiles.{lent_entries_are, lent_entry_one, lent_file}
 
 -- what is there under a function

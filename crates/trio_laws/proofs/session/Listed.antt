@@ -1,26 +1,6 @@
 -- What a session reads in its own directories is true of the nodes that it shows.
-use Rattle.std.proofs.Common.{◌≡◌, ℕ, Bool, true, cond, not, ◌&&◌, ◌||◌, eqb, List, Option, Some, None, sym, refl, ap, ◌∙◌, subst, ◌⊎◌, arith}
-use Rattle.std.specs.Prelude.{is_some}
-use Rattle.std.specs.List.{list_all}
-use Rattle.std.specs.Option.{option_map}
-use Rattle.std.specs.Str.{bytes_eq}
-use Rattle.std.proofs.lemmas.Bool.{and_parts, or_cases, ne_eqb, false≢true, not_from_true, both_ways}
-use Rattle.trio_rights.specs.Row.{Row, row_in}
-use Rattle.trio_rights.specs.declared.kind.Kind.{Kind}
-use Rattle.trio_lists.specs.Lists.{In, is_among}
-use Rattle.trio_layout.specs.Survey.{numbers}
-use Rattle.trio_layout.specs.Allowed.{has_kind}
-use Rattle.trio_lists.proofs.Members.{list_all-In, In-is_among}
+use Rattle.trio_laws.proofs.Words.{◌&&◌, ◌||◌, ◌∙◌, ◌≡◌, ◌⊎◌, Bool, Case, In, In-is_among, IsAmong, IsTree, Kind, List, Naming, Node, Nodes, None, Option, Row, Shows, Some, and_parts, ap, arith, both_ways, bytes_eq, bytes_now, cond, entry_in, entry_keeps_rights, eqb, false≢true, has_kind, is_among, is_kept, is_some, judged_entries, judged_files, lent_body, list_all, list_all-In, naming_of, ne_eqb, node_at, node_left, node_listed, not, not_from_true, numbers, option_map, or_cases, refl, row_in, subst, sym, true, with_bytes, ℕ}
 use Rattle.trio_laws.proofs.judgement.RuleParts.{has_kind_is}
-use Rattle.trio_layout.specs.Case.{Case}
-use Rattle.trio_layout.specs.JudgedFiles.{judged_files, judged_entries}
-use Rattle.trio_layout.specs.Listing.{is_kept}
-use Rattle.trio_layout.specs.Rules.{entry_keeps_rights, lent_body}
-use Rattle.trio_nodes.specs.declared.node.Node.{Node}
-use Rattle.trio_nodes.specs.Nodes.{Nodes, node_at, entry_in}
-use Rattle.trio_nodes.specs.Tree.{IsTree}
-use Rattle.trio_desk.specs.Shows.{Naming, naming_of, bytes_now, with_bytes, node_listed, node_left, Shows}
-use Rattle.trio_desk.specs.Among.{IsAmong}
 use Rattle.trio_desk.specs.Edits.{listed_now}
 use Rattle.trio_laws.specs.session.Bundles.{NowIsListed}
 use Rattle.trio_laws.proofs.session.Edges.{own, node_row, new_dead}

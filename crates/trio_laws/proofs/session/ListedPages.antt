@@ -1,21 +1,7 @@
 -- Which pages the judged files list, as what is in hand stands.
-use Rattle.std.proofs.Common.{◌≡◌, List, [], Option, sym, refl, ap, ◌∙◌, subst, inl, inr}
-use Rattle.trio_rights.specs.Row.{Row}
-use Rattle.trio_rights.specs.Bundle.{Bundle}
-use Rattle.std.specs.Prelude.{map}
-use Rattle.trio_lists.specs.Lists.{In, are_new}
-use Rattle.trio_lists.proofs.Members.{flat_map-In}
-use Rattle.trio_layout.specs.Case.{Held}
-use Rattle.trio_layout.specs.JudgedFiles.{judged_files, judged_pages, pages_within}
-use Rattle.trio_nodes.specs.Nodes.{Nodes}
-use Rattle.trio_nodes.specs.After.{batch_nodes}
-use Rattle.trio_nodes.specs.Tree.{IsTree}
-use Rattle.trio_onetree.proofs.TreeStays.{tree_stays_through}
-use Rattle.trio_desk.specs.Call.{DeskSeen}
-use Rattle.trio_desk.specs.Ready.{bundle_of}
-use Rattle.trio_desk.specs.Edits.{InHand}
-use Rattle.trio_laws.specs.session.Takes.{case_in_hand, with_allotment, with_write}
-use Rattle.trio_laws.specs.session.Listed.{ListedAfterAllotment, ListedAfterHold, ListedAfterWrite, ListedAreInHand, TakingKeeps, listed_in_hand}
+use Rattle.trio_laws.proofs.Words.{◌∙◌, ◌≡◌, Bundle, DeskSeen, Held, In, InHand, IsTree, List, Nodes, Option, Row, [], ap, are_new, batch_nodes, bundle_of, case_in_hand, flat_map-In, inl, inr, judged_pages, listed_in_hand, map, pages_within, refl, subst, sym, tree_stays_through, with_allotment, with_write}
+use Rattle.trio_layout.specs.JudgedFiles.{judged_files}
+use Rattle.trio_laws.specs.session.Listed.{ListedAfterAllotment, ListedAfterHold, ListedAfterWrite, ListedAreInHand, TakingKeeps}
 use Rattle.trio_laws.proofs.session.Again.{judged_page}
 use Rattle.trio_laws.proofs.session.Ruled.{case_with, owning_parts}
 use Rattle.trio_laws.proofs.session.Stands.{pages_alike}

@@ -1,45 +1,15 @@
 -- A moment at which what is handed in agrees with the state lasts through the steps of others, and through give backs.
-use Rattle.std.proofs.Common.{Bool, ◌≡◌, ℕ, false, not, ◌&&◌, eqb, List, [], ◌∷◌, map, Option, Some, None, sym, refl, ap, ◌∙◌, subst, inl, inr, arith}
-use Rattle.std.proofs.lemmas.Bool.{and_right, not_from_false}
-use Rattle.trio_rights.specs.Row.{Row}
-use Rattle.trio_rights.specs.Bundle.{Bundle}
-use Rattle.trio_rights.specs.declared.rights.Creds.{Creds}
-use Rattle.trio_lists.specs.Lists.{In}
-use Rattle.trio_lists.proofs.Members.{In-map}
-use Rattle.trio_lists.proofs.Filters.{In-filter, filter-In}
-use Rattle.trio_layout.specs.Image.{Image}
-use Rattle.trio_lease.specs.declared.parts.HoldParts.{HoldParts}
-use Rattle.trio_lease.specs.Shown.{Shown}
-use Rattle.trio_nodes.specs.declared.grant.GrantKind.{GrantKind}
-use Rattle.trio_nodes.specs.declared.grant.GrantKind.TheVariants.{Read}
-use Rattle.trio_nodes.specs.declared.answers.GrantFault.{GrantFault}
-use Rattle.trio_nodes.specs.declared.answers.ModeFault.{ModeFault}
-use Rattle.trio_nodes.specs.GrantKinds.{is_read}
-use Rattle.trio_nodes.specs.Libraries.{creds_in}
-use Rattle.trio_state.specs.Bundles.{Ends, parted_hold}
-use Rattle.trio_state.specs.Given.{GivenTo, HasGrant}
-use Rattle.trio_state.specs.Grants.{given_back}
-use Rattle.trio_state.specs.Kept.{Kept}
-use Rattle.trio_state.specs.Run.{Move, Trace}
-use Rattle.trio_state.specs.State.{OpenGrant, State, creds_of}
-use Rattle.trio_state.specs.Step.{Event, Back, Release, CtlAnswer, Step, Does, ReleaseEnd, granted_to, moded_to}
-use Rattle.trio_desk.specs.Agrees.{Agrees, AllStand}
-use Rattle.trio_desk.specs.Out.{Parcel}
-use Rattle.trio_desk.specs.Call.{DeskSeen}
-use Rattle.trio_desk.specs.Ready.{bundle_of, leases_in}
-use Rattle.trio_laws.specs.Laws.{library_of}
-use Rattle.trio_laws.specs.RuleLaws.{IsJudgeable}
-use Rattle.trio_laws.specs.history.Recorded.{LentWhole}
-use Rattle.trio_laws.specs.history.Stands.{standing_of}
+use Rattle.trio_laws.proofs.Words.{◌&&◌, ◌∙◌, ◌∷◌, ◌≡◌, Agrees, AllStand, Back, Bool, Bundle, Creds, CtlAnswer, DeskSeen, Does, Ends, Event, GivenTo, GrantFault, GrantKind, HasGrant, HoldParts, Image, In, In-filter, In-map, IsJudgeable, IsMoment, Kept, LentWhole, List, ModeFault, Move, Nodes, None, OpenGrant, Option, Parcel, Read, Release, ReleaseEnd, Row, Shown, Some, State, Step, Trace, WasHeld, [], and_right, ap, arith, bundle_of, creds_in, creds_of, eqb, false, filter-In, given_back, granted_to, inl, inr, is_read, library_of, moded_to, not, not_from_false, parted_hold, refl, standing_of, subst, sym, ℕ}
+use Rattle.std.proofs.Common.{map}
+use Rattle.trio_desk.specs.Ready.{leases_in}
 use Rattle.trio_laws.specs.session.Others.{state_after}
-use Rattle.trio_laws.specs.session.Settles.{WasHeld, IsMoment, MomentLasts, MomentLastsBack, ReadyIsAcceptedThrough}
+use Rattle.trio_laws.specs.session.Settles.{MomentLasts, MomentLastsBack, ReadyIsAcceptedThrough}
 use Rattle.trio_laws.proofs.Bundles.{hold_reads, unparted_at, unparted_from}
 use Rattle.trio_laws.proofs.Cases.{after_allot, after_no_grant, after_no_mode}
 use Rattle.trio_laws.proofs.OtherSteps.{other_step_leaves, given_through, closed_through}
 use Rattle.trio_laws.proofs.Others.{LeavesTo}
 use Rattle.trio_laws.proofs.Runs.{step_kept}
 use Rattle.trio_laws.proofs.StateFacts.{alone}
-use Rattle.trio_nodes.specs.Nodes.{Nodes}
 use Rattle.trio_laws.proofs.history.BackStep.{back_nodes}
 use Rattle.trio_laws.proofs.history.Grows.{step_creds, step_whole}
 use Rattle.trio_laws.proofs.session.Accepting.{ready_is_accepted}

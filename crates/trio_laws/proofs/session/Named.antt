@@ -1,25 +1,6 @@
 -- Which entry names a number, as what is in hand stands.
-use Rattle.std.proofs.Common.{◌≡◌, List, [], Option, None, Some, sym, ap, ◌∙◌, subst}
-use Rattle.std.specs.Prelude.{map}
-use Rattle.trio_rights.specs.Row.{Row}
-use Rattle.trio_rights.specs.Bundle.{Bundle, Written}
-use Rattle.trio_lists.specs.Lists.{In}
-use Rattle.trio_lists.proofs.Members.{In-map}
-use Rattle.trio_layout.specs.Survey.{Met, children_in, met_in, plain}
-use Rattle.trio_layout.specs.Case.{Case, Held}
-use Rattle.trio_layout.specs.JudgedFiles.{entries_in, judged_files, written_met}
-use Rattle.trio_lease.specs.Shown.{LentFile}
-use Rattle.trio_lease.specs.Views.{written_in}
-use Rattle.trio_nodes.specs.Nodes.{Nodes}
-use Rattle.trio_desk.specs.Call.{DeskSeen}
-use Rattle.trio_desk.specs.Edits.{InHand}
-use Rattle.trio_desk.specs.Out.{ino_numbers}
-use Rattle.trio_desk.specs.Shows.{Naming, naming_of}
-use Rattle.trio_desk.specs.Ready.{bundle_of}
+use Rattle.trio_laws.proofs.Words.{◌∙◌, ◌≡◌, Bundle, Case, DeskSeen, Held, In, In-map, InHand, IsView, LentFile, List, Met, Naming, Nodes, None, Option, Placed, Row, Some, Written, [], ap, bundle_of, case_as_stands, case_in_hand, children_in, core_in_hand, entries_in, ino_numbers, judged_files, map, met_in, naming_of, plain, subst, sym, written_in, written_met}
 use Rattle.trio_laws.specs.session.Named.{EntriesAreInSlots, EntryNames, MadeIsJudged, NamedIsRead, WrittenIsJudged}
-use Rattle.trio_laws.specs.session.Takes.{case_as_stands, case_in_hand}
-use Rattle.trio_laws.specs.session.FileEdits.{core_in_hand}
-use Rattle.trio_laws.specs.session.Sees.{IsView}
 use Rattle.trio_laws.proofs.session.Closed.{entry_read}
 use Rattle.trio_laws.proofs.session.EditedSlots.{entry-stands, stands-entry}
 use Rattle.trio_laws.proofs.session.FileEdits.{bare_at}
@@ -28,7 +9,6 @@ use Rattle.trio_laws.proofs.session.Namings.{naming_is}
 use Rattle.trio_laws.proofs.session.Stands.{judged_also, judged_made, named_alike}
 use Rattle.trio_laws.proofs.session.Starts.{start_judged, start_to}
 use Rattle.trio_laws.proofs.session.TakenHold.{held_by}
-use Rattle.trio_surveys.proofs.Places.{Placed}
 
 pub entry_names : EntryNames
 entry_names desk h h' nodes nodes' rows m file l q i e j =

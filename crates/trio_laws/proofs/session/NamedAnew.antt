@@ -1,37 +1,8 @@
 -- A bundle in whose directories the file of one number is listed anew, elsewhere or not at all: which files it judges then, that rules I1,
 -- I2 and I4 hold of it, and which nodes it shows.
-use Rattle.std.proofs.Common.{◌≡◌, ℕ, suc, zero, Bool, true, false, cond, ◌&&◌, eqb, is_ok, List, [], ◌∷◌, ◌++◌, Option, Some, None, Ok, sym, refl, ap, ◌∙◌, subst, inl, inr, ◌⊎◌, arith}
-use Rattle.std.specs.Prelude.{map, take, is_some}
-use Rattle.std.specs.List.{list_all}
-use Rattle.std.specs.Option.{option_map}
-use Rattle.std.proofs.lemmas.Bool.{and_parts, and_from, both_ways, cases_Bool, cases_eq, eqb-true, eq-eqb, false_from_ne_true}
-use Rattle.std.proofs.lemmas.Simd.{map-map}
-use Rattle.trio_rights.specs.Row.{Row, row_in}
-use Rattle.trio_rights.specs.declared.kind.Kind.{Kind}
-use Rattle.trio_rights.specs.declared.kind.Kind.TheVariants.{Regular, Directory}
-use Rattle.trio_rights.specs.declared.rights.Creds.{Creds}
-use Rattle.trio_rights.specs.Bundle.{Bundle, Written, bundle_pages, is_written}
-use Rattle.trio_rights.specs.Sheets.{Sheet}
-use Rattle.trio_lists.specs.Lists.{In, is_among, are_new}
-use Rattle.trio_lists.proofs.Members.{In-flat, In-is_among, In-left, In-map, flat_map-In, is_among-In, list_all-In, list_all-each, map-In}
-use Rattle.trio_lists.proofs.Filters.{find-In, some_one}
-use Rattle.trio_lists.proofs.Gathered.{each_new, gathered_new, one_of}
-use Rattle.trio_layout.specs.declared.body.Body.{Body}
-use Rattle.trio_layout.specs.Entries.{Listed}
-use Rattle.trio_layout.specs.Survey.{Met, FileRead, plain, met_in, numbers, pages_in, children_in}
-use Rattle.trio_layout.specs.Case.{Case, Held, bundle_core}
-use Rattle.trio_layout.specs.Within.{file_within}
-use Rattle.trio_layout.specs.JudgedFiles.{entries_in, judged_entries, judged_files, judged_pages, new_entries, pages_within, written_files}
-use Rattle.trio_layout.specs.Rules.{entry_in_grammar, entry_is_own, entry_keeps_rights, file_keeps_rights, has_rights, meets_grammar, meets_owning, meets_rights}
-use Rattle.trio_layout.proofs.Walks.{fronts_keep, fronts_listed, numbers-flat}
-use Rattle.trio_nodes.specs.declared.node.Node.{Node}
-use Rattle.trio_nodes.specs.Nodes.{Nodes, node_at}
-use Rattle.trio_nodes.specs.Tree.{IsDirectory, IsTree}
-use Rattle.trio_nodes.specs.Walk.{Path}
-use Rattle.trio_onetree.proofs.Children.{Up}
-use Rattle.trio_desk.specs.Contents.{Sizes}
-use Rattle.trio_desk.specs.Shows.{Naming, Shows, bytes_now, bytes_read, made_by, naming_of, namings, namings_in, node_left, node_now, pages_bytes, with_bytes}
-use Rattle.trio_laws.specs.session.SlotEdits.{IsEmptyFile}
+use Rattle.trio_laws.proofs.Words.{◌&&◌, ◌++◌, ◌∙◌, ◌∷◌, ◌≡◌, ◌⊎◌, Body, Bool, Bundle, Case, Creds, Directory, FileRead, Held, In, In-flat, In-is_among, In-left, In-map, IsDirectory, IsEmptyFile, IsTree, Kind, List, Listed, Met, Naming, Node, Nodes, None, Ok, Option, Path, Regular, Row, Sheet, Shows, Sizes, Some, Up, Written, [], and_from, and_parts, ap, are_new, arith, both_ways, bundle_core, bundle_pages, bytes_now, bytes_read, cases_Bool, cases_eq, children_in, cond, each_new, entries_in, entry_in_grammar, entry_is_own, entry_keeps_rights, eq-eqb, eqb, eqb-true, false, false_from_ne_true, file_keeps_rights, file_within, find-In, flat_map-In, fronts_keep, fronts_listed, gathered_new, has_rights, inl, inr, is_among, is_among-In, is_ok, is_some, is_written, judged_entries, judged_pages, list_all, list_all-In, list_all-each, made_by, map, map-In, map-map, meets_grammar, meets_owning, meets_rights, met_in, naming_of, namings, namings_in, new_entries, node_at, node_left, node_now, numbers, numbers-flat, one_of, option_map, pages_bytes, pages_in, pages_within, plain, refl, row_in, some_one, subst, suc, sym, true, with_bytes, written_files, zero, ℕ}
+use Rattle.std.specs.Prelude.{take}
+use Rattle.trio_layout.specs.JudgedFiles.{judged_files}
 use Rattle.trio_laws.proofs.judgement.JudgedFacts.{written_ino}
 use Rattle.trio_laws.proofs.session.Climbing.{way_of}
 use Rattle.trio_laws.proofs.session.Closed.{entry_above, entry_read, judged_closed}

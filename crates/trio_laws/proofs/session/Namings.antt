@@ -1,22 +1,5 @@
 -- The entries of a bundle's directories, with their names and without.
-use Rattle.std.proofs.Common.{◌≡◌, ℕ, Bool, true, false, cond, eqb, List, [], ◌∷◌, ◌++◌, Some, None, Result, Ok, sym, refl, ap, ◌∙◌, subst, arith}
-use Rattle.std.specs.Prelude.{map}
-use Rattle.std.specs.List.{find, flat_map}
-use Rattle.std.specs.Option.{option_map, option_map_or}
-use Rattle.std.proofs.lemmas.List.{map-append}
-use Rattle.std.proofs.lemmas.Simd.{map-map}
-use Rattle.std.proofs.lemmas.Bool.{eqb-true, eq-eqb}
-use Rattle.trio_lists.specs.Lists.{In}
-use Rattle.trio_layout.specs.Core.{Location}
-use Rattle.trio_layout.specs.Survey.{Met, FileRead, plain, met_in, children_in}
-use Rattle.trio_lists.proofs.Members.{In-map, flat_map-In, map-In}
-use Rattle.trio_lists.proofs.Filters.{find-In, In-find}
-use Rattle.trio_layout.specs.Case.{Case, bundle_core}
-use Rattle.trio_layout.specs.Within.{file_within}
-use Rattle.trio_layout.specs.JudgedFiles.{judged_files, entries_in, judged_entries}
-use Rattle.trio_layout.specs.Listing.{ListedEntry, listing, entry_listed}
-use Rattle.trio_layout.specs.Edges.{proposed_parent, row_parent}
-use Rattle.trio_desk.specs.Shows.{Naming, namings_in, namings, naming_of}
+use Rattle.trio_laws.proofs.Words.{◌++◌, ◌∙◌, ◌∷◌, ◌≡◌, Bool, Case, FileRead, In, In-find, In-map, List, ListedEntry, Location, Met, Naming, None, Ok, Result, Some, [], ap, arith, bundle_core, children_in, cond, entries_in, entry_listed, eq-eqb, eqb, eqb-true, false, file_within, find, find-In, flat_map, flat_map-In, judged_entries, judged_files, listing, map, map-In, map-append, map-map, met_in, naming_of, namings, namings_in, option_map, option_map_or, plain, proposed_parent, refl, row_parent, subst, sym, true, ℕ}
 
 -- the entry without its name
 unfoldable pub met_of : Naming → Met

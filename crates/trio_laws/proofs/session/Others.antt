@@ -1,36 +1,10 @@
 -- What leases show as lent stays true over entries of others.
-use Rattle.std.proofs.Common.{◌≡◌, ℕ, Bool, true, false, cond, not, ◌&&◌, eqb, List, [], ◌∷◌, Option, Some, None, is_some, Ok, Err, sym, refl, ap, ◌∙◌, subst, inl, inr, arith}
-use Rattle.std.specs.Option.{option_map}
-use Rattle.std.proofs.lemmas.Bool.{cases_eq, and_parts, and_from, false≢true, eqb-true, eq-eqb, ne_eqb, not_from_false}
-use Rattle.trio_rights.specs.declared.kind.Kind.{Kind}
-use Rattle.trio_rights.specs.declared.kind.Kind.TheVariants.{Regular, Directory}
-use Rattle.trio_rights.specs.declared.rights.Creds.{Creds}
-use Rattle.trio_nodes.specs.declared.grant.GrantKind.{GrantKind}
-use Rattle.trio_nodes.specs.declared.grant.GrantKind.TheVariants.{Hold}
-use Rattle.trio_lists.specs.Lists.{In}
-use Rattle.trio_lease.specs.Shown.{Shown}
-use Rattle.trio_lease.specs.declared.parts.HoldParts.{HoldParts}
-use Rattle.trio_nodes.specs.declared.node.Node.{Node}
-use Rattle.trio_nodes.specs.declared.call.Done.{Done}
-use Rattle.trio_nodes.specs.declared.entry.Entry.{Entry}
-use Rattle.trio_nodes.specs.declared.entry.Entry.TheVariants.{Grant, Allot, Back, Raw, Batch, Mode as ModeSet}
-use Rattle.trio_nodes.specs.Nodes.{Nodes, node_at, is_in, entry_in}
-use Rattle.trio_nodes.specs.Standing.{Standing, stands_on, is_others, grants_after}
-use Rattle.trio_nodes.specs.GrantKinds.{same_kind}
-use Rattle.trio_nodes.specs.After.{batch_nodes, moded_node, moded_nodes, bytes_in}
-use Rattle.trio_nodes.specs.Libraries.{creds_in}
+use Rattle.trio_laws.proofs.Words.{◌&&◌, ◌∙◌, ◌∷◌, ◌≡◌, Agrees, AllStand, Bool, Creds, Directory, Done, Entry, Err, GrantKind, HasContent, HasFile, HasHeld, HasRights, HasRightsOf, HasStanding, Hold, HoldParts, In, In-filter, In-left, In-list_any, IsTree, IsWithinGrants, KeepsRights, Kind, Leases, LegalCalls, List, NoHoldOnRoot, Node, Nodes, None, Ok, Option, Past, Raw, Regular, Rights, SameContent, Shown, ShownEntry, Sizes, Some, SparesOthers, Standing, [], and_from, and_parts, ap, arith, batch_nodes, bytes_in, cases_eq, cond, creds_in, entry_in, entry_of_node, eq-eqb, eqb, eqb-true, event_of, false, false≢true, inl, inr, is_in, is_others, is_owner, library_of, list_any-In, moded_node, moded_nodes, ne_eqb, node_at, not, not_from_false, option_map, parent_in, past_after, refl, rights_in, rights_of, same_kind, stands_on, subst, sym, tree_stays_through, true, with_node-else, with_node-same, ℕ}
+use Rattle.std.proofs.Common.{is_some}
+use Rattle.trio_nodes.specs.declared.entry.Entry.TheVariants.{Grant, Allot, Back, Batch, Mode as ModeSet}
+use Rattle.trio_nodes.specs.Standing.{grants_after}
 use Rattle.trio_nodes.proofs.LibraryFacts.{batch_either}
-use Rattle.trio_nodes.specs.Legal.{Past, past_after, LegalCalls, SameContent, HasRightsOf, SparesOthers, IsWithinGrants, is_owner, parent_in, KeepsRights}
-use Rattle.trio_nodes.specs.Tree.{IsTree}
-use Rattle.trio_desk.specs.Contents.{Sizes, Rights, rights_of, rights_in, ShownEntry, entry_of_node}
-use Rattle.trio_desk.specs.Agrees.{Leases, Agrees, HasRights, HasContent, HasFile, HasHeld, HasStanding, AllStand}
-use Rattle.trio_laws.specs.Laws.{library_of}
-use Rattle.trio_laws.specs.session.Others.{NoHoldOnRoot, AgreesIsStable, AgreesThrough}
-use Rattle.trio_laws.specs.history.Entries.{event_of}
-use Rattle.trio_nodes.proofs.NodeFacts.{with_node-same, with_node-else}
-use Rattle.trio_onetree.proofs.TreeStays.{tree_stays_through}
-use Rattle.trio_lists.proofs.Filters.{In-filter, In-list_any, list_any-In}
-use Rattle.trio_lists.proofs.Members.{In-left}
+use Rattle.trio_laws.specs.session.Others.{AgreesIsStable, AgreesThrough}
 use Rattle.trio_laws.proofs.session.Counts.{count_pair}
 
 -- ---- one file that is spared

@@ -1,28 +1,7 @@
 -- A file reads the same where the pages that it lists are the same; and which bytes a page of a bundle has.
-use Rattle.std.proofs.Common.{◌≡◌, ℕ, suc, zero, ◌<◌, true, eqb, leb, ltb, min, ◌-◌, List, [], ◌∷◌, ◌++◌, length, Option, Some, None, Ok, sym, refl, ap, ◌∙◌, inl, inr, arith}
-use Rattle.std.specs.Prelude.{replicate}
+use Rattle.trio_laws.proofs.Words.{◌++◌, ◌-◌, ◌<◌, ◌∙◌, ◌∷◌, ◌≡◌, Chain, Core, CoreRange, Directory, FileRead, In, In-left, In-map, In-right, Index, Kind, List, Met, None, Ok, Option, Pages, Regular, Sheet, Some, [], and_parts, ap, are_new, arith, both, cases_Bool, chain_within, entries_where, entries_within, eqb, file_within, flat_map-same, gathered, index_within, inl, inr, is_core, leb, length, length-replicate, ltb, ltb-true, map-In, min, one_keyed, page_from, page_of, pages_bytes, place_there, refl, replicate, rest_of, result_map-Ok, result_then, result_then-Ok, sheet_numbers, suc, sym, true, with_names_apart, with_other, with_pages, with_pages_known, within_from, within_to, zero, ℕ}
 use Rattle.std.specs.Option.{unwrap_or}
-use Rattle.std.proofs.lemmas.List.{length-replicate}
-use Rattle.std.proofs.lemmas.Bool.{and_parts, ltb-true, cases_Bool}
-use Rattle.trio_rights.specs.declared.kind.Kind.{Kind}
-use Rattle.trio_rights.specs.declared.kind.Kind.TheVariants.{Regular, Directory}
-use Rattle.trio_rights.specs.Sheets.{Sheet, sheet_numbers, with_pages}
-use Rattle.trio_lists.specs.Lists.{In, are_new, both, gathered, result_then}
-use Rattle.trio_lists.proofs.Members.{In-left, In-right, In-map, map-In, result_map-Ok, result_then-Ok, flat_map-same}
-use Rattle.trio_lists.proofs.Gathered.{one_keyed}
-use Rattle.trio_layout.specs.declared.range.CoreRange.{CoreRange}
-use Rattle.trio_layout.specs.Range.{is_core}
-use Rattle.trio_layout.specs.Chain.{Chain}
-use Rattle.trio_layout.specs.Core.{Core, page_of}
-use Rattle.trio_layout.specs.Entries.{with_names_apart}
-use Rattle.trio_layout.specs.Index.{Index}
-use Rattle.trio_layout.specs.Survey.{FileRead, Met}
-use Rattle.trio_layout.specs.Within.{chain_within, entries_where, entries_within, file_within, index_within}
-use Rattle.trio_layout.proofs.WithinCore.{rest_of, within_from, within_to}
-use Rattle.trio_surveys.proofs.Sheets.{Pages, page_from, place_there, with_pages_known}
 use Rattle.trio_surveys.proofs.SheetLaws.{page_of_at}
-use Rattle.trio_surveys.specs.Reading.{with_other}
-use Rattle.trio_desk.specs.Shows.{pages_bytes}
 
 module _ (core : Core) (pages : Pages) where
   abbrev other : Core

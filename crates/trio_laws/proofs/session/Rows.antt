@@ -1,15 +1,6 @@
 -- The rows of a kept state say the same as its nodes.
-use Rattle.std.proofs.Common.{◌≡◌, ℕ, ◌+◌, length, Option, Some, None, sym, refl, ap, ◌∙◌}
-use Rattle.std.specs.Option.{option_map}
-use Rattle.trio_rights.specs.Row.{Row}
-use Rattle.trio_layout.specs.Survey.{plain, survey, row_of}
-use Rattle.trio_layout.specs.Image.{row_at}
-use Rattle.trio_state.specs.State.{OpenGrant, State, settled}
-use Rattle.trio_state.specs.Kept.{Kept}
-use Rattle.trio_lists.proofs.Tabulated.{tabulated-length}
-use Rattle.trio_laws.specs.history.Stands.{node_by, writer_of, nodes_of}
+use Rattle.trio_laws.proofs.Words.{◌+◌, ◌∙◌, ◌≡◌, Kept, None, OpenGrant, Option, Row, SaySame, Some, State, ap, length, node_by, node_says, nodes_of, option_map, plain, refl, row_at, row_of, row_says, settled, survey, sym, tabulated-length, writer_of, ℕ}
 use Rattle.trio_laws.proofs.history.Facts.{node_is}
-use Rattle.trio_desk.specs.Agrees.{row_says, node_says, SaySame}
 
 module _ (s : State) (k : Kept s) where
   -- there is a row for each number, from 0 up to the last

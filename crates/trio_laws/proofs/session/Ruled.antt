@@ -1,35 +1,7 @@
 -- A bundle that differs from one that shows nodes in one file, in what it holds or in what it was allotted: rules I1, I2 and I4 hold
 -- of it, and its namings and bytes are those of the other but for that file.
-use Rattle.std.proofs.Common.{◌≡◌, ℕ, true, ◌||◌, eqb, is_ok, List, [], ◌++◌, Option, Some, None, Result, Ok, sym, refl, ap, ◌∙◌, subst, inl, inr, ◌⊎◌, arith}
-use Rattle.std.specs.Prelude.{map, take, is_some}
-use Rattle.std.specs.List.{find, flat_map, list_all}
-use Rattle.std.specs.Option.{option_and_then}
-use Rattle.std.proofs.lemmas.Bool.{and_parts, and_from, or_left, eqb-true, eq-eqb}
-use Rattle.std.proofs.lemmas.Simd.{map-map}
-use Rattle.trio_rights.specs.Row.{Row, row_in}
-use Rattle.trio_rights.specs.declared.kind.Kind.{Kind}
-use Rattle.trio_rights.specs.declared.kind.Kind.TheVariants.{Regular, Directory}
-use Rattle.trio_rights.specs.declared.rights.Creds.{Creds}
-use Rattle.trio_rights.specs.Bundle.{Bundle, bundle_pages, is_written}
-use Rattle.trio_lists.specs.Lists.{In, is_among, are_new}
-use Rattle.trio_lists.proofs.Members.{In-flat, In-is_among, In-map, In-right, flat_map-In, is_among-In, is_ok-Ok, list_all-In, list_all-each, map-In}
-use Rattle.trio_lists.proofs.Filters.{find-In, In-find}
-use Rattle.trio_lists.proofs.Gathered.{each_new, gathered_new, one_keyed, one_of}
-use Rattle.trio_layout.specs.Allowed.{has_kind}
-use Rattle.trio_layout.specs.Core.{Location, page_of}
-use Rattle.trio_layout.specs.Entries.{Listed}
-use Rattle.trio_layout.specs.Survey.{Met, FileRead, plain, met_in, numbers, pages_in, children_in}
-use Rattle.trio_layout.specs.Case.{Case, Held, bundle_core}
-use Rattle.trio_layout.specs.Within.{file_within}
-use Rattle.trio_layout.specs.JudgedFiles.{entries_in, judged_entries, judged_files, judged_pages, pages_within}
-use Rattle.trio_layout.specs.Listing.{is_kept}
-use Rattle.trio_layout.specs.Rules.{entry_in_grammar, entry_is_own, entry_keeps_rights, file_keeps_rights, meets_grammar, meets_owning, meets_rights}
-use Rattle.trio_layout.proofs.Walks.{numbers-flat}
-use Rattle.trio_surveys.proofs.Images.{same_met}
-use Rattle.trio_nodes.specs.declared.node.Node.{Node}
-use Rattle.trio_nodes.specs.Nodes.{Nodes, node_at}
-use Rattle.trio_desk.specs.Contents.{Sizes}
-use Rattle.trio_desk.specs.Shows.{Naming, namings_in, namings, naming_of, bytes_read, bytes_now, node_now, Shows}
+use Rattle.trio_laws.proofs.Words.{◌++◌, ◌||◌, ◌∙◌, ◌≡◌, ◌⊎◌, Bundle, Case, Creds, Directory, FileRead, Held, In, In-find, In-flat, In-is_among, In-map, In-right, Kind, List, Listed, Location, Met, Naming, Node, Nodes, None, Ok, Option, Regular, Result, Row, Shows, Sizes, Some, [], and_from, and_parts, ap, are_new, arith, bundle_core, bundle_pages, bytes_now, bytes_read, children_in, each_new, entries_in, entry_in_grammar, entry_is_own, entry_keeps_rights, eq-eqb, eqb, eqb-true, file_keeps_rights, file_within, find, find-In, flat_map, flat_map-In, gathered_new, has_kind, inl, inr, is_among, is_among-In, is_kept, is_ok, is_ok-Ok, is_some, is_written, judged_entries, judged_files, judged_pages, list_all, list_all-In, list_all-each, map, map-In, map-map, meets_grammar, meets_owning, meets_rights, met_in, naming_of, namings, namings_in, node_at, node_now, numbers, numbers-flat, one_keyed, one_of, option_and_then, or_left, page_of, pages_in, pages_within, plain, refl, row_in, same_met, subst, sym, true, ℕ}
+use Rattle.std.specs.Prelude.{take}
 use Rattle.trio_laws.proofs.session.Namings.{met_of, judged_named}
 use Rattle.trio_laws.proofs.session.Reading.{bytes_as_before, file_as_before}
 

@@ -1,55 +1,9 @@
 -- What a session sees of the nodes that it shows.
-use Rattle.std.proofs.Common.{◌≡◌, ℕ, true, false, cond, ◌&&◌, eqb, List, [], ◌++◌, Option, Some, None, Ok, sym, refl, ap, ◌∙◌, subst, arith}
-use Rattle.std.specs.Prelude.{map, is_some}
-use Rattle.std.specs.List.{find, flat_map, list_all}
-use Rattle.std.specs.Option.{option_and_then, option_map}
-use Rattle.std.specs.Str.{bytes_eq}
-use Rattle.std.proofs.lemmas.Bool.{and_parts, eqb-true, eq-eqb, false_from_ne_true, false≢true}
-use Rattle.std.proofs.lemmas.List.{length-map, map-append}
-use Rattle.std.proofs.lemmas.Simd.{map-map}
-use Rattle.trio_lists.proofs.Gathered.{each_new}
-use Rattle.trio_layout.proofs.Walks.{numbers-flat}
+use Rattle.trio_laws.proofs.Words.{◌&&◌, ◌++◌, ◌∙◌, ◌≡◌, ArePossible, Body, Bundle, Case, DeskSeen, FileRead, HasContent, HasFile, HasRights, HasRightsOf, Held, In, In-find, In-flat, In-is_among, In-left, In-map, InHand, IsAmong, IsForeign, IsInOrder, IsTree, IsView, IsWellLent, Kind, LentFile, List, Listed, MayShow, Met, Naming, Node, Nodes, None, Ok, Option, Regular, Rights, Row, Said, Sheet, Shown, Shows, Some, Written, [], and_parts, ap, are_new, arith, bare_file, body_at, body_of, bundle_core, bundle_of, bundle_sheets, bytes_eq, bytes_eq-Decides, bytes_in, bytes_listed, bytes_now, bytes_read, bytes_shown, case_in_hand, children_in, cond, core_in_hand, each_new, entries_in, entries_shown, entry_in, entry_keeps_rights, entry_of_node, eq-eqb, eqb, eqb-true, false, false_from_ne_true, false≢true, file_keeps_rights, file_within, find, find-In, find_named, find_named-Child, flat_map, has_rights, is_among, is_among-In, is_in, is_place_of, is_some, is_written, judged_entries, judged_files, length-map, lent_files, lent_numbers, lent_sheet, list_all, list_all-In, map, map-In, map-append, map-map, met_in, naming_of, namings_in, node_at, node_left, node_says, numbers, numbers-flat, option_and_then, option_map, placed, plain, read_in_hand, refl, rights_in, rights_of, row_in, row_says, same_met, some_of, some_one, subst, sym, true, with_bytes, within_from, written_at, written_in, written_met, ℕ}
 use Rattle.trio_laws.proofs.session.Counts.{count_numbers}
-use Rattle.std.proofs.lemmas.Slice.Eq.{bytes_eq-Decides}
-use Rattle.trio_rights.specs.Row.{Row, row_in}
-use Rattle.trio_rights.specs.declared.kind.Kind.{Kind}
-use Rattle.trio_rights.specs.declared.kind.Kind.TheVariants.{Regular}
-use Rattle.trio_rights.specs.Bundle.{Bundle, Written, bundle_sheets, is_written}
-use Rattle.trio_rights.specs.Sheets.{Sheet}
 use Rattle.trio_laws.proofs.judgement.JudgedFacts.{written_body_at, written_ino, written_ino_at, written_kind_at}
-use Rattle.trio_lists.specs.Lists.{In, is_among, are_new}
-use Rattle.trio_lists.proofs.Members.{In-flat, In-left, In-is_among, In-map, is_among-In, list_all-In, map-In}
-use Rattle.trio_lists.proofs.Filters.{find-In, In-find, some_one}
-use Rattle.trio_layout.specs.declared.body.Body.{Body}
-use Rattle.trio_layout.specs.Body.{body_at, body_of}
-use Rattle.trio_layout.specs.Entries.{Listed}
-use Rattle.trio_layout.specs.Proposed.{is_place_of}
-use Rattle.trio_layout.specs.Survey.{Met, FileRead, plain, met_in, numbers, children_in}
-use Rattle.trio_layout.specs.Case.{Case, Held, bundle_core}
-use Rattle.trio_layout.specs.Within.{file_within}
-use Rattle.trio_layout.specs.JudgedFiles.{entries_in, judged_entries, judged_files, written_at, written_met}
-use Rattle.trio_layout.specs.Rules.{entry_keeps_rights, file_keeps_rights, has_rights}
-use Rattle.trio_layout.proofs.WithinCore.{within_from}
-use Rattle.trio_lease.specs.Shown.{Shown, LentFile}
-use Rattle.trio_lease.specs.Views.{lent_sheet, written_in}
-use Rattle.trio_nodes.specs.declared.node.Node.{Node}
-use Rattle.trio_nodes.specs.Nodes.{Nodes, node_at, entry_in, find_named, is_in}
-use Rattle.trio_nodes.specs.After.{bytes_in}
-use Rattle.trio_nodes.specs.Tree.{IsTree}
-use Rattle.trio_nodes.specs.Legal.{HasRightsOf}
-use Rattle.trio_onetree.proofs.Children.{Child, Child-find_named, find_named-Child}
-use Rattle.trio_surveys.proofs.Images.{same_met, some_of}
-use Rattle.trio_desk.specs.Contents.{Rights, bytes_shown, entries_shown, entry_of_node, rights_in, rights_of}
-use Rattle.trio_desk.specs.Agrees.{HasContent, HasFile, HasRights, Said, node_says, row_says}
-use Rattle.trio_desk.specs.Call.{DeskSeen}
-use Rattle.trio_desk.specs.Out.{IsWellLent, lent_numbers}
-use Rattle.trio_desk.specs.Among.{IsAmong, IsForeign}
-use Rattle.trio_desk.specs.Shows.{Naming, Shows, bytes_now, bytes_read, naming_of, namings_in, node_left, placed, with_bytes}
-use Rattle.trio_desk.specs.Ready.{ArePossible, bundle_of, lent_files}
-use Rattle.trio_desk.specs.Edits.{InHand, MayShow}
-use Rattle.trio_laws.specs.session.Takes.{IsInOrder, case_in_hand}
-use Rattle.trio_laws.specs.session.FileEdits.{bare_file, bytes_listed, core_in_hand, read_in_hand}
-use Rattle.trio_laws.specs.session.Sees.{IsLeaseIn, IsView, IsLeftAlone, Lists, SeesEntryRights, SeesJudged, SeesLease, SeesLent, SeesMade, SeesRoot, SeesUntouched, SeesWritten, UntouchedReads}
+use Rattle.trio_onetree.proofs.Children.{Child, Child-find_named}
+use Rattle.trio_laws.specs.session.Sees.{IsLeaseIn, IsLeftAlone, Lists, SeesEntryRights, SeesJudged, SeesLease, SeesLent, SeesMade, SeesRoot, SeesUntouched, SeesWritten, UntouchedReads}
 use Rattle.trio_laws.proofs.session.Again.{hand_files_once, said_alike}
 use Rattle.trio_laws.proofs.session.FileEdits.{bare_at, body_stands, written_among}
 use Rattle.trio_laws.proofs.session.Edges.{node_row}

@@ -1,46 +1,14 @@
 -- What a settle comes to, and that the history allows it.
-use Rattle.std.proofs.Common.{◌≡◌, ℕ, List, arith, true, false, not, ◌&&◌, eqb, sym, refl, ap, ◌∙◌, subst, inl, inr}
-use Rattle.std.specs.Prelude.{None, is_some, map}
-use Rattle.std.proofs.lemmas.Bool.{cases_eq, false_from_ne_true, and_parts, eqb-true, eq-eqb, false≢true, not_from_true}
-use Rattle.trio_rights.specs.declared.rights.Creds.{Creds}
-use Rattle.trio_nodes.specs.declared.grant.GrantKind.{GrantKind}
-use Rattle.trio_nodes.specs.declared.grant.GrantKind.TheVariants.{Read, Write, Hold}
-use Rattle.trio_lists.specs.Lists.{In}
-use Rattle.trio_rights.specs.Bundle.{Bundle, Written}
-use Rattle.trio_layout.specs.Proposed.{proposed, proposed_pick}
-use Rattle.trio_layout.specs.Image.{Image, row_at}
-use Rattle.trio_surveys.proofs.Images.{row_at_is}
+use Rattle.trio_laws.proofs.Words.{◌&&◌, ◌∙◌, ◌≡◌, Beside, Bundle, Case, Creds, DeskSeen, Done, Ends, GrantKind, HasGrant, Hold, Image, In, IsForeign, IsJudgeable, IsMoment, KeepsRights, LegalCalls, List, NoMemory, Nodes, OpenGrant, Parcel, Read, Ready, Settle, Settled, Shown, SparesOthers, Standing, State, Step, Write, Written, and_parts, ap, arith, batch_nodes, bundle_of, case_of, cases_eq, creds_of, eq-eqb, eqb, eqb-true, false, false_from_ne_true, false≢true, inl, inr, is_accepted, is_others, is_read, is_some, list_any-In, list_any-map, map, map-In, next, nodes_of, not, not_from_true, proposed, proposed_pick, refl, row_at, row_at_is, settled, standing_of, subst, sym, true, within_some, ℕ}
+use Rattle.std.specs.Prelude.{None}
 use Rattle.trio_laws.proofs.Survivors.{unheld_row}
 use Rattle.trio_laws.proofs.judgement.Taking.{fit, sound}
-use Rattle.trio_state.specs.Given.{HasGrant}
-use Rattle.trio_state.specs.State.{OpenGrant, State, settled, creds_of}
-use Rattle.trio_nodes.specs.GrantKinds.{is_read}
-use Rattle.trio_desk.specs.Call.{DeskSeen}
-use Rattle.trio_desk.specs.Out.{Parcel}
-use Rattle.trio_desk.specs.Ready.{Ready, bundle_of}
-use Rattle.trio_lease.specs.Shown.{Shown}
-use Rattle.trio_nodes.specs.declared.call.Done.{Done}
 use Rattle.trio_onetree.proofs.Lengths.{IsNumbered, batch_length}
-use Rattle.trio_tables.proofs.OutLemmas.{within_some}
-use Rattle.trio_laws.specs.history.Entries.{Beside}
 use Rattle.trio_laws.proofs.history.Grows.{history_grows}
 use Rattle.trio_laws.proofs.history.WithNode.{nodes_long, nodes_same}
-use Rattle.trio_state.specs.Step.{Step, Settle, Settled, NoMemory}
-use Rattle.trio_layout.specs.Accept.{is_accepted, next}
-use Rattle.trio_state.specs.Bundles.{Ends}
 use Rattle.trio_laws.proofs.StateFacts.{alone}
-use Rattle.trio_layout.specs.Case.{Case, case_of}
-use Rattle.trio_laws.specs.RuleLaws.{IsJudgeable}
-use Rattle.trio_nodes.specs.Nodes.{Nodes}
-use Rattle.trio_nodes.specs.Standing.{Standing, is_others}
-use Rattle.trio_nodes.specs.After.{batch_nodes}
-use Rattle.trio_nodes.specs.Legal.{SparesOthers, KeepsRights, LegalCalls}
-use Rattle.trio_laws.specs.history.Stands.{nodes_of, standing_of}
-use Rattle.trio_desk.specs.Among.{IsForeign}
-use Rattle.trio_laws.specs.session.Settles.{IsMoment, SettleEndsInCalls, SettleIsRecorded, ReadyIsLegal, PlacesStay}
+use Rattle.trio_laws.specs.session.Settles.{SettleEndsInCalls, SettleIsRecorded, ReadyIsLegal, PlacesStay}
 use Rattle.trio_laws.proofs.history.StandsTree.{states_are_trees}
-use Rattle.trio_lists.proofs.Filters.{list_any-In, list_any-map}
-use Rattle.trio_lists.proofs.Members.{map-In}
 use Rattle.trio_laws.proofs.session.AcceptedShown.{accepted_is_shown}
 use Rattle.trio_laws.proofs.session.Spares.{shown_spares}
 use Rattle.trio_laws.proofs.session.Accepting.{closed_hold, written_grant, among, replies_then, shown_then, tree_then}

@@ -1,31 +1,6 @@
 -- What slots list before and after they are written, and which entries keep to the rules.
-use Rattle.std.proofs.Common.{◌≡◌, ℕ, true, false, ◌||◌, List, [], ◌∷◌, Some, None, Ok, sym, refl, ap, ◌∙◌, subst, inl, inr, arith}
-use Rattle.std.specs.Prelude.{is_some}
-use Rattle.std.specs.List.{list_all}
-use Rattle.std.proofs.lemmas.Bool.{and_from, and_parts, false_from_ne_true, not_from_false, or_left, or_right}
-use Rattle.trio_rights.specs.Row.{row_in}
-use Rattle.trio_rights.specs.declared.kind.Kind.{Kind}
-use Rattle.trio_lists.specs.Lists.{In, is_among}
-use Rattle.trio_lists.proofs.Members.{In-is_among, is_among-In, list_all-In}
-use Rattle.trio_layout.specs.declared.slot.EntryPart.{EntryPart}
-use Rattle.trio_layout.specs.declared.slot.SlotRead.{SlotRead}
-use Rattle.trio_layout.specs.declared.slot.SlotRead.TheVariants.{Empty, Entry}
-use Rattle.trio_layout.specs.Allowed.{has_kind}
-use Rattle.trio_layout.specs.Body.{body_at, body_of}
-use Rattle.trio_layout.specs.Entries.{Listed, listed_at}
-use Rattle.trio_layout.specs.Proposed.{is_place_of}
-use Rattle.trio_layout.specs.Survey.{Met}
-use Rattle.trio_layout.specs.Case.{Case}
-use Rattle.trio_layout.specs.JudgedFiles.{judged_entries}
-use Rattle.trio_layout.specs.Listing.{is_kept}
-use Rattle.trio_layout.specs.Rules.{entry_in_grammar, entry_is_own, entry_keeps_rights, lent_body}
-use Rattle.trio_layout.proofs.Reading.{true-bytes_eq}
-use Rattle.trio_surveys.proofs.Images.{some_of}
-use Rattle.trio_nodes.specs.declared.node.Node.{Node}
-use Rattle.trio_nodes.specs.Nodes.{Nodes, node_at}
-use Rattle.trio_desk.specs.Contents.{entries_or_none}
-use Rattle.trio_desk.specs.Shows.{Naming}
-use Rattle.trio_laws.specs.session.SlotEdits.{SlotWrite, body_before}
+use Rattle.trio_laws.proofs.Words.{◌||◌, ◌∙◌, ◌∷◌, ◌≡◌, Case, Empty, EntryPart, In, In-is_among, Kind, List, Listed, Met, Naming, Node, Nodes, None, Ok, SlotRead, SlotWrite, Some, [], and_from, and_parts, ap, arith, body_at, body_before, body_of, entries_or_none, entry_in_grammar, entry_is_own, entry_keeps_rights, false, false_from_ne_true, has_kind, inl, inr, is_among, is_among-In, is_kept, is_place_of, is_some, judged_entries, lent_body, list_all, list_all-In, listed_at, node_at, not_from_false, or_left, or_right, refl, row_in, some_of, subst, sym, true, true-bytes_eq, ℕ}
+use Rattle.trio_layout.specs.declared.slot.SlotRead.TheVariants.{Entry}
 use Rattle.trio_laws.proofs.session.Edges.{row_node}
 use Rattle.trio_laws.proofs.session.Judged.{IsShown, owned}
 

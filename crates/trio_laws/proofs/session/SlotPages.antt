@@ -1,29 +1,11 @@
 -- A directory of which one slot is written anew: its body and its chain read as before, and its entries but for those of the slot.
-use Rattle.std.proofs.Common.{◌≡◌, ℕ, suc, zero, ◌<◌, ◌≤◌, ◌+◌, ◌*◌, true, false, cond, List, [], ◌∷◌, ◌++◌, length, append_assoc, Some, None, Result, Ok, sym, refl, ap, ◌∙◌, subst, inl, inr, ◌⊎◌, arith}
+use Rattle.trio_laws.proofs.Words.{◌*◌, ◌++◌, ◌+◌, ◌<◌, ◌∙◌, ◌∷◌, ◌≡◌, ◌≤◌, ◌⊎◌, Core, Directory, FileRead, In, In-cases, In-left, In-list_any, In-right, List, Listed, Location, Met, None, Ok, Pages, Result, SlotRead, Some, [], ap, append-nil, append_assoc, are_new, are_new-first, arith, block_count, body_in_slot, both, both-Ok, bytes_eq, cases_eq, cond, entries_where, entries_within, false, false_from_ne_true, false≢true, file_within, gathered, gathered_below, has_name, index_count, inl, inr, length, list_any-In, listed_at, page_of, place_of, refl, repeated_name, result_then, result_then-Ok, slot_bytes, slot_entries, slot_of, subst, suc, sym, true, true-bytes_eq, unless_repeated, with_names_apart, with_other, within_from, within_to, zero, ℕ}
 use Rattle.std.specs.Prelude.{slice_range}
-use Rattle.std.specs.Str.{bytes_eq}
-use Rattle.std.proofs.lemmas.Bool.{cases_eq, false≢true, false_from_ne_true}
-use Rattle.std.proofs.lemmas.List.{append-nil}
 use Rattle.trio_page.specs.Field.{with_part}
 use Rattle.trio_page.proofs.Fields.{slice-with_part_above, slice-with_part_below, slice-with_part_same}
 use Rattle.trio_page.proofs.Ranges.{slice-slice}
-use Rattle.trio_rights.specs.declared.kind.Kind.TheVariants.{Directory}
-use Rattle.trio_lists.specs.Lists.{In, are_new, both, gathered, gathered_below, result_then}
-use Rattle.trio_lists.proofs.Members.{In-cases, In-left, In-right, both-Ok, result_then-Ok}
-use Rattle.trio_lists.proofs.Filters.{In-list_any, list_any-In}
-use Rattle.trio_lists.proofs.New.{are_new-first}
-use Rattle.trio_layout.specs.Body.{block_count}
-use Rattle.trio_layout.specs.Chain.{index_count}
-use Rattle.trio_layout.specs.Core.{Core, Location, page_of}
-use Rattle.trio_layout.specs.Entries.{Listed, body_in_slot, entries_on, has_name, listed_at, place_of, repeated_name, slot_bytes, slot_entries, unless_repeated, with_names_apart}
-use Rattle.trio_layout.specs.Slot.{slot_of}
-use Rattle.trio_layout.specs.declared.slot.SlotRead.{SlotRead}
-use Rattle.trio_layout.specs.Survey.{FileRead, Met}
-use Rattle.trio_layout.specs.Within.{entries_where, entries_within, file_within}
-use Rattle.trio_layout.proofs.Reading.{bytes_eq-true, true-bytes_eq}
-use Rattle.trio_layout.proofs.WithinCore.{within_from, within_to}
-use Rattle.trio_surveys.proofs.Sheets.{Pages}
-use Rattle.trio_surveys.specs.Reading.{with_other}
+use Rattle.trio_layout.specs.Entries.{entries_on}
+use Rattle.trio_layout.proofs.Reading.{bytes_eq-true}
 use Rattle.trio_laws.proofs.session.Reading.{chain_same}
 
 -- ---- one of several lists

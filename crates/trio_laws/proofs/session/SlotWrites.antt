@@ -1,41 +1,10 @@
 -- Slots of directories are written anew, so that the file of one number is listed elsewhere, or not at all: each judged file reads as before
 -- but for that; and what follows of the nodes that are shown and of what is judged then.
-use Rattle.std.proofs.Common.{◌≡◌, ◌↔◌, ℕ, true, List, [], ◌++◌, append_assoc, Option, Some, None, Ok, sym, refl, ap, ◌∙◌, subst, inl, inr, ◌⊎◌, arith}
-use Rattle.std.specs.Prelude.{map, take}
-use Rattle.std.specs.Option.{option_map}
-use Rattle.std.proofs.lemmas.Bool.{and_from, and_parts, both_ways, cases_Bool}
-use Rattle.std.proofs.lemmas.List.{map-append}
-use Rattle.std.proofs.lemmas.Simd.{map-map}
-use Rattle.trio_rights.specs.Row.{Row, row_in}
-use Rattle.trio_rights.specs.declared.kind.Kind.{Kind}
-use Rattle.trio_rights.specs.declared.kind.Kind.TheVariants.{Regular, Directory}
-use Rattle.trio_rights.specs.Bundle.{Bundle, Written, is_written}
-use Rattle.trio_lists.specs.Lists.{In, is_among, are_new}
-use Rattle.trio_lists.specs.Sorting.{sorted_by}
-use Rattle.trio_lists.proofs.Members.{In-cases, In-flat, In-is_among, In-left, In-map, In-right, flat_map-In, is_among-In, map-In}
-use Rattle.trio_lists.proofs.Filters.{Ok-one, some_one}
-use Rattle.trio_lists.proofs.Gathered.{each_new, one_keyed, one_of}
-use Rattle.trio_lists.proofs.Marked.{are_new-append}
-use Rattle.trio_lists.proofs.New.{are_new-before, are_new-fewer}
-use Rattle.trio_layout.specs.Core.{Core, page_of}
-use Rattle.trio_layout.specs.Entries.{Listed, listed_at}
-use Rattle.trio_layout.specs.Survey.{FileRead, Met, children_in, met_in, numbers, pages_in, plain}
-use Rattle.trio_layout.specs.Case.{Case, Held, bundle_core}
-use Rattle.trio_layout.specs.Within.{file_within}
-use Rattle.trio_layout.specs.JudgedFiles.{entries_in, judged_entries, judged_files, judged_pages, new_entries, pages_within, written_files, written_met}
-use Rattle.trio_layout.specs.Rules.{entry_in_grammar, entry_is_own, entry_keeps_rights}
-use Rattle.trio_layout.proofs.Walks.{fronts_listed, numbers-flat}
-use Rattle.trio_nodes.specs.Nodes.{Nodes, node_at}
-use Rattle.trio_nodes.specs.Tree.{IsTree}
-use Rattle.trio_desk.specs.Contents.{entries_or_none}
-use Rattle.trio_desk.specs.Call.{DeskSeen}
-use Rattle.trio_desk.specs.Shows.{Naming, Shows, bytes_now, bytes_read, naming_of, node_left, with_bytes}
-use Rattle.trio_desk.specs.Ready.{bundle_of}
-use Rattle.trio_desk.specs.Edits.{InHand, MayShow}
-use Rattle.trio_laws.specs.session.Takes.{Becomes, IsInOrder, case_as_stands, case_in_hand}
-use Rattle.trio_laws.specs.session.FileEdits.{pages_listed}
-use Rattle.trio_laws.specs.session.Listed.{listed_in_hand}
-use Rattle.trio_laws.specs.session.SlotEdits.{AreSlotWrites, IsAfter, IsEmptyFile, IsFreeName, IsListedBy, KeepsTree, SlotWrite, body_after, body_before, slot_after, slot_before}
+use Rattle.trio_laws.proofs.Words.{◌++◌, ◌∙◌, ◌≡◌, ◌⊎◌, Becomes, Bundle, Case, Core, DeskSeen, Directory, FileRead, Held, In, In-cases, In-flat, In-is_among, In-left, In-map, In-right, InHand, IsEmptyFile, IsFreeName, IsInOrder, IsTree, Kind, List, Listed, MayShow, Met, Naming, Nodes, None, Ok, Ok-one, Option, Regular, Row, Shows, SlotWrite, Some, Written, [], and_from, and_parts, ap, append_assoc, are_new, are_new-append, are_new-before, are_new-fewer, arith, body_after, body_before, both_ways, bundle_core, bundle_of, bytes_now, bytes_read, case_as_stands, case_in_hand, cases_Bool, children_in, each_new, entries_in, entries_or_none, entry_in_grammar, entry_is_own, entry_keeps_rights, file_within, flat_map-In, fronts_listed, inl, inr, is_among, is_among-In, is_written, judged_entries, judged_pages, listed_at, listed_in_hand, map, map-In, map-append, map-map, met_in, naming_of, new_entries, node_at, node_left, numbers, numbers-flat, one_keyed, one_of, option_map, page_of, pages_in, pages_listed, pages_within, plain, refl, row_in, slot_after, slot_before, some_one, sorted_by, subst, sym, true, with_bytes, written_files, written_met, ℕ}
+use Rattle.std.proofs.Common.{◌↔◌}
+use Rattle.std.specs.Prelude.{take}
+use Rattle.trio_layout.specs.JudgedFiles.{judged_files}
+use Rattle.trio_laws.specs.session.SlotEdits.{AreSlotWrites, IsAfter, IsListedBy, KeepsTree}
 use Rattle.trio_laws.proofs.session.Again.{hand_files_once, new_between}
 use Rattle.trio_laws.proofs.session.EditedOrder.{bundle_then, case_is, order_stays, possible_before}
 use Rattle.trio_laws.proofs.session.FileEdits.{bare, bare_at, sorted-map, written_among}

@@ -1,26 +1,7 @@
 -- What a settle leaves of others.
-use Rattle.std.proofs.Common.{◌≡◌, ℕ, false, cond, eqb, List, Option, Some, None, sym, refl, ap, ◌∙◌, subst, inl, inr, ◌⊎◌, arith}
-use Rattle.std.specs.List.{find}
-use Rattle.std.specs.Option.{option_map, option_and_then}
-use Rattle.std.proofs.lemmas.Bool.{cases_Bool, eqb-true, ne_eqb, false≢true, false_from_ne_true}
-use Rattle.trio_rights.specs.Row.{Row, row_in}
-use Rattle.trio_lists.specs.Lists.{In, is_among}
-use Rattle.trio_layout.specs.Survey.{Met}
-use Rattle.trio_lists.proofs.Members.{In-map, map-In, flat_map-In, is_among-In}
-use Rattle.trio_lists.proofs.Filters.{find-In, filter-In}
-use Rattle.trio_layout.specs.Case.{Case, bundle_core}
-use Rattle.trio_layout.specs.Within.{file_within}
+use Rattle.trio_laws.proofs.Words.{◌∙◌, ◌≡◌, ◌⊎◌, Case, HasPlaceOf, HasRightsOf, In, In-map, IsAmong, IsForeign, IsTree, List, Met, Naming, Node, Nodes, None, Option, Row, SameContent, Shows, Some, ap, arith, bundle_core, bytes_in, bytes_now, bytes_read, cases_Bool, cond, entry_in, eqb, eqb-true, false, false_from_ne_true, false≢true, file_within, filter-In, find, find-In, flat_map-In, fronts_listed, inl, inr, is_among, is_among-In, map-In, naming_of, ne_eqb, node_at, node_left, node_listed, option_and_then, option_map, placed, refl, row_in, sorted_in, subst, sym, with_bytes, written_numbers, ℕ}
 use Rattle.trio_layout.specs.JudgedFiles.{judged_files}
-use Rattle.trio_layout.proofs.Walks.{fronts_listed}
-use Rattle.trio_lists.proofs.Sorting.{sorted_in}
 use Rattle.trio_laws.proofs.judgement.JudgedFacts.{written_ino}
-use Rattle.trio_nodes.specs.declared.node.Node.{Node}
-use Rattle.trio_nodes.specs.Nodes.{Nodes, node_at, entry_in}
-use Rattle.trio_nodes.specs.After.{bytes_in}
-use Rattle.trio_nodes.specs.Legal.{HasRightsOf, HasPlaceOf, SameContent}
-use Rattle.trio_nodes.specs.Tree.{IsTree}
-use Rattle.trio_desk.specs.Shows.{Naming, naming_of, bytes_read, bytes_now, with_bytes, placed, node_listed, node_left, Shows}
-use Rattle.trio_desk.specs.Among.{written_numbers, IsAmong, IsForeign}
 use Rattle.trio_laws.specs.session.Bundles.{ShownSpares}
 use Rattle.trio_laws.proofs.session.Namings.{naming_is}
 use Rattle.trio_laws.proofs.session.Edges.{row_node, node_row, listed_now, unlisted_now, held_gone, own, new_dead, kept_parent}

@@ -1,22 +1,6 @@
 -- What is in hand reads the same whatever the rows say.
-use Rattle.std.proofs.Common.{◌≡◌, ℕ, eqb, List, [], ◌∷◌, ◌++◌, Option, Result, sym, refl, ap, ◌∙◌, subst, inl, inr, arith}
-use Rattle.std.specs.Prelude.{map}
-use Rattle.std.specs.List.{filter, find, flat_map}
-use Rattle.std.proofs.lemmas.List.Concat.{flat_map-append}
-use Rattle.trio_rights.specs.Row.{Row, row_in}
-use Rattle.trio_rights.specs.declared.kind.Kind.{Kind}
-use Rattle.trio_rights.specs.declared.rights.Creds.{Creds}
-use Rattle.trio_rights.specs.Bundle.{Bundle, Written}
-use Rattle.trio_lists.specs.Lists.{In, is_among}
-use Rattle.trio_lists.specs.Sorting.{sorted_by}
-use Rattle.trio_lists.proofs.Members.{In-cases, In-flat, In-map, In-right, flat_map-In}
-use Rattle.trio_layout.specs.Core.{Core, Location}
-use Rattle.trio_layout.specs.Survey.{Met, FileRead, plain, numbers, pages_in, children_in}
-use Rattle.trio_layout.specs.Case.{Case, Held, bundle_core}
+use Rattle.trio_laws.proofs.Words.{◌++◌, ◌∙◌, ◌∷◌, ◌≡◌, Bundle, Case, Core, Creds, FileRead, Held, In, In-cases, In-flat, In-map, In-right, Kind, List, Location, Met, Naming, Option, Result, Row, Sizes, Written, [], ap, arith, bundle_core, children_in, eqb, filter, find, flat_map, flat_map-In, flat_map-append, inl, inr, is_among, judged_files, judged_pages, map, naming_of, namings_in, numbers, pages_in, plain, refl, row_in, sorted_by, subst, sym, written_at, written_files, written_met, ℕ}
 use Rattle.trio_layout.specs.Within.{file_within}
-use Rattle.trio_layout.specs.JudgedFiles.{judged_files, judged_pages, written_at, written_files, written_met}
-use Rattle.trio_desk.specs.Contents.{Sizes}
-use Rattle.trio_desk.specs.Shows.{Naming, naming_of, namings_in}
 use Rattle.trio_laws.proofs.judgement.JudgedFacts.{written_ino_at, written_kind_at}
 use Rattle.trio_laws.proofs.session.Ruled.{case_with}
 use Rattle.trio_laws.proofs.session.Starts.{Share, shared, start_from, start_judged, start_number, start_to}

@@ -1,22 +1,6 @@
 -- The judged files of a case, by the written ones with which the walk begins.
-use Rattle.std.proofs.Common.{◌≡◌, ℕ, ◌≤◌, Bool, true, false, cond, leb, List, [], ◌∷◌, ◌++◌, Option, sym, refl, ap, ◌∙◌, subst, inl, inr, arith}
-use Rattle.std.specs.Prelude.{map}
-use Rattle.std.specs.List.{flat_map}
-use Rattle.std.proofs.lemmas.Bool.{cases_Bool, false≢true, false_from_ne_true, leb-true}
-use Rattle.std.proofs.lemmas.Bool.Decides.{nat_tests}
-use Rattle.trio_rights.specs.Row.{Row}
-use Rattle.trio_rights.specs.declared.rights.Creds.{Creds}
-use Rattle.trio_rights.specs.Bundle.{Bundle, Written}
-use Rattle.trio_lists.specs.Lists.{In, is_among, are_new}
-use Rattle.trio_lists.specs.Sorting.{inserted_by, sorted_by}
-use Rattle.trio_lists.proofs.Members.{In-left, In-map, map-In, In-is_among, is_among-In}
-use Rattle.trio_lists.proofs.Filters.{filter-In}
-use Rattle.trio_lists.proofs.Sorting.{in_sorted, sorted_in, sorted_new}
-use Rattle.trio_layout.specs.Survey.{Met, Front, numbers}
-use Rattle.trio_layout.specs.Case.{Case, Held}
-use Rattle.trio_layout.specs.JudgedFiles.{entries_in, judged_files, new_entries, written_files, written_met}
-use Rattle.trio_layout.proofs.Walks.{fronts_new, starts_met}
-use Rattle.trio_desk.specs.Contents.{Sizes}
+use Rattle.trio_laws.proofs.Words.{◌++◌, ◌∙◌, ◌∷◌, ◌≡◌, ◌≤◌, Bool, Bundle, Case, Creds, Front, Held, In, In-is_among, In-left, In-map, List, Met, Option, Row, Sizes, Written, [], ap, are_new, arith, cases_Bool, cond, entries_in, false, false_from_ne_true, false≢true, filter-In, flat_map, fronts_new, in_sorted, inl, inr, inserted_by, is_among, is_among-In, leb, leb-true, map, map-In, nat_tests, new_entries, numbers, refl, sorted_by, sorted_in, sorted_new, starts_met, subst, sym, true, written_files, written_met, ℕ}
+use Rattle.trio_layout.specs.JudgedFiles.{judged_files}
 use Rattle.trio_laws.proofs.judgement.JudgedFacts.{written_ino}
 use Rattle.trio_laws.proofs.session.Beside.{alike}
 use Rattle.trio_laws.proofs.session.Ruled.{case_with}

@@ -1,34 +1,8 @@
 -- What leases show holds through the steps of others.
-use Rattle.std.proofs.Common.{◌≡◌, ℕ, false, [], ◌∷◌, map, Option, Some, None, sym, refl, ap, ◌∙◌, subst, inl, inr, arith}
-use Rattle.std.proofs.lemmas.Bool.{and_parts, eqb-true}
-use Rattle.trio_rights.specs.Row.{Row}
-use Rattle.trio_lists.specs.Lists.{In}
-use Rattle.trio_lists.proofs.Members.{In-map, map-In}
-use Rattle.trio_lists.proofs.Filters.{list_any-In}
-use Rattle.trio_layout.specs.Image.{row_at}
-use Rattle.trio_nodes.specs.declared.entry.Entry.{Entry}
-use Rattle.trio_nodes.specs.declared.grant.GrantKind.{GrantKind}
-use Rattle.trio_nodes.specs.declared.grant.GrantKind.TheVariants.{Write, Hold}
-use Rattle.trio_nodes.specs.declared.node.Node.{Node}
-use Rattle.trio_nodes.specs.GrantKinds.{is_read}
-use Rattle.trio_nodes.specs.Legal.{Past}
-use Rattle.trio_nodes.specs.Nodes.{Nodes, node_at}
-use Rattle.trio_nodes.specs.Standing.{Standing}
-use Rattle.trio_nodes.specs.Tree.{IsTree}
-use Rattle.trio_onetree.proofs.Children.{one_node}
-use Rattle.trio_state.specs.Given.{GivenEvent, HasGrant}
-use Rattle.trio_state.specs.Kept.{Kept}
-use Rattle.trio_state.specs.State.{OpenGrant, State, settled, creds_of}
-use Rattle.trio_state.specs.Step.{Event, Grant, Allot, Back, Release, Settle, SetMode, CtlAnswer, Step}
-use Rattle.trio_surveys.proofs.Images.{some_of}
-use Rattle.trio_surveys.proofs.OwnFiles.{place_parts, place_from}
-use Rattle.trio_desk.specs.Contents.{Sizes, Rights}
-use Rattle.trio_desk.specs.Agrees.{Leases, Agrees, HasPlaces, HasStanding, AllStand}
-use Rattle.trio_laws.specs.Laws.{library_of, IsModeSet}
-use Rattle.trio_laws.specs.history.Entries.{entry_of, event_of}
-use Rattle.trio_laws.specs.history.Recorded.{LentWhole}
-use Rattle.trio_laws.specs.history.Stands.{node_by, node_of, nodes_of, past_of, standing_of, writer_of}
-use Rattle.trio_laws.specs.session.Others.{NoHoldOnRoot, LeasesHold, StepLeavesLeases, MovesLeaveLeases}
+use Rattle.trio_laws.proofs.Words.{◌∙◌, ◌∷◌, ◌≡◌, Agrees, AllStand, Allot, Back, CtlAnswer, Entry, Event, GivenEvent, Grant, GrantKind, HasGrant, HasPlaces, HasStanding, Hold, In, In-map, IsTree, Kept, Leases, LentWhole, NoHoldOnRoot, Node, Nodes, None, OpenGrant, Option, Past, Release, Rights, Row, SetMode, Settle, Sizes, Some, Standing, State, Step, Write, [], and_parts, ap, arith, creds_of, entry_of, eqb-true, event_of, false, inl, inr, is_read, library_of, list_any-In, map-In, node_at, node_by, node_of, nodes_of, one_node, past_of, place_from, place_parts, refl, row_at, settled, some_of, standing_of, subst, sym, writer_of, ℕ}
+use Rattle.std.proofs.Common.{map}
+use Rattle.trio_laws.specs.Laws.{IsModeSet}
+use Rattle.trio_laws.specs.session.Others.{LeasesHold, StepLeavesLeases, MovesLeaveLeases}
 use Rattle.trio_laws.proofs.Others.{LeavesTo}
 use Rattle.trio_laws.proofs.OtherSteps.{other_step_leaves}
 use Rattle.trio_laws.proofs.RowSteps.{every_step_keeps_rows}

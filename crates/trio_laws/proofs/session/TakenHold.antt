@@ -1,40 +1,9 @@
 -- A hold is taken on a file that a directory in hand lists: the same nodes are shown.
-use Rattle.std.proofs.Common.{◌≡◌, ℕ, Bool, true, false, cond, not, ◌&&◌, ◌||◌, eqb, List, [], ◌∷◌, ◌++◌, Option, Some, None, sym, refl, ap, ◌∙◌, subst, inl, inr, ◌⊎◌, arith}
-use Rattle.std.specs.Prelude.{map, is_some}
-use Rattle.std.specs.Option.{option_map, option_map_or}
-use Rattle.std.specs.Str.{bytes_eq}
-use Rattle.std.proofs.lemmas.Bool.{both_ways, cases_eq, ne_eqb, or_cases, or_left, or_right}
-use Rattle.std.proofs.lemmas.List.{map-append}
-use Rattle.trio_rights.specs.Row.{Row, row_in}
-use Rattle.trio_rights.specs.Bundle.{Bundle}
-use Rattle.trio_lists.specs.Lists.{In, is_among, are_new}
-use Rattle.trio_lists.proofs.Members.{In-flat, In-left, In-right, In-cases, In-is_among, In-map, flat_map-In, is_among-In}
-use Rattle.trio_lists.proofs.Filters.{some_one}
-use Rattle.trio_lists.proofs.Marked.{is_among-push}
-use Rattle.trio_layout.specs.Allowed.{has_kind}
-use Rattle.trio_layout.specs.Survey.{Met, numbers}
-use Rattle.trio_layout.specs.Case.{Case, Held}
-use Rattle.trio_layout.specs.JudgedFiles.{entries_in, judged_entries, judged_files, new_entries, written_files}
-use Rattle.trio_layout.specs.Listing.{entry_listed, is_kept}
-use Rattle.trio_layout.specs.Rules.{entry_is_own, entry_keeps_rights, lent_body}
-use Rattle.trio_lease.specs.declared.parts.HoldParts.{HoldParts}
-use Rattle.trio_nodes.specs.declared.node.Node.{Node}
-use Rattle.trio_nodes.specs.declared.call.Done.{Done}
-use Rattle.trio_nodes.specs.Nodes.{Nodes, node_at}
-use Rattle.trio_nodes.specs.After.{batch_nodes}
-use Rattle.trio_nodes.specs.Tree.{IsDirectory, IsTree}
-use Rattle.trio_onetree.proofs.TreeStays.{tree_stays_through}
-use Rattle.trio_surveys.proofs.Images.{some_of}
-use Rattle.trio_desk.specs.Contents.{rights_in}
-use Rattle.trio_desk.specs.Agrees.{Said, node_says, row_says}
-use Rattle.trio_desk.specs.Call.{DeskSeen}
+use Rattle.trio_laws.proofs.Words.{◌&&◌, ◌++◌, ◌||◌, ◌∙◌, ◌∷◌, ◌≡◌, ◌⊎◌, ArePossible, Bool, Bundle, Case, DeskSeen, Done, Held, HoldParts, In, In-cases, In-flat, In-is_among, In-left, In-map, In-right, InHand, IsAmong, IsDirectory, IsInOrder, IsTree, LentFile, List, Met, Naming, Node, Nodes, None, Option, Row, Said, Shows, Some, Takes, Written, [], ap, are_new, arith, batch_nodes, both_ways, bundle_of, bytes_eq, bytes_now, case_as_stands, case_in_hand, cases_eq, cond, entries_in, entry_is_own, entry_keeps_rights, entry_listed, eqb, false, file_numbers, flat_map-In, fronts_listed, has_kind, hold_numbers, inl, inr, is_among, is_among-In, is_among-push, is_kept, is_some, judged_entries, lent_body, map, map-append, map-map, naming_of, ne_eqb, new_entries, node_at, node_left, node_now, node_says, not, numbers, option_map, option_map_or, or_cases, or_left, or_right, refl, rights_in, row_in, row_says, some_of, some_one, subst, sym, tree_stays_through, true, with_bytes, written_files, written_in, written_numbers, ℕ}
+use Rattle.trio_layout.specs.JudgedFiles.{judged_files}
 use Rattle.trio_laws.proofs.judgement.JudgedFacts.{written_ino}
-use Rattle.trio_desk.specs.Out.{file_numbers, hold_numbers}
-use Rattle.trio_desk.specs.Among.{IsAmong, written_numbers}
-use Rattle.trio_desk.specs.Shows.{Naming, Shows, bytes_now, naming_of, node_left, node_now, with_bytes}
-use Rattle.trio_desk.specs.Ready.{ArePossible, ComesToShown, bundle_of}
-use Rattle.trio_desk.specs.Edits.{InHand}
-use Rattle.trio_laws.specs.session.Takes.{IsInOrder, Takes, TakesHold, case_as_stands, case_in_hand, with_hold}
+use Rattle.trio_desk.specs.Ready.{ComesToShown}
+use Rattle.trio_laws.specs.session.Takes.{TakesHold, with_hold}
 use Rattle.trio_laws.proofs.session.Again.{hand_files_once, possible_with_less}
 use Rattle.trio_laws.proofs.session.Edges.{kept_parent, listed_now, new_dead, own}
 use Rattle.trio_laws.proofs.session.Namings.{listed_naming, met_of, naming_is}
@@ -44,11 +13,6 @@ use Rattle.trio_laws.proofs.session.Stands.{named_alike}
 use Rattle.trio_laws.proofs.session.Starts.{judged_once, new_entry, start_from}
 use Rattle.trio_laws.proofs.session.LentNodes.{mapped}
 use Rattle.trio_laws.proofs.session.TakenWrite.{find-skip, row_there}
-use Rattle.trio_layout.proofs.Walks.{fronts_listed}
-use Rattle.std.proofs.lemmas.Simd.{map-map}
-use Rattle.trio_rights.specs.Bundle.{Written}
-use Rattle.trio_lease.specs.Shown.{LentFile}
-use Rattle.trio_lease.specs.Views.{written_in}
 
 abbrev pub held_by : HoldParts → Held
 held_by k = record { ino = k.ino; body = k.body }

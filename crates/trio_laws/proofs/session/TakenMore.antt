@@ -1,38 +1,6 @@
 -- Pages, numbers and read leases are taken: the same nodes are shown. And a session begins in order.
-use Rattle.std.proofs.Common.{◌≡◌, ℕ, true, ◌||◌, List, [], ◌++◌, Option, Some, None, append_assoc, sym, refl, ap, ◌∙◌, subst, inl, inr, arith}
-use Rattle.std.specs.Prelude.{map, is_some}
-use Rattle.std.specs.List.{filter, flat_map}
-use Rattle.std.specs.Option.{option_map}
-use Rattle.std.proofs.lemmas.Bool.{and_from, or_cases, or_left, or_right}
-use Rattle.std.proofs.lemmas.List.{map-append}
-use Rattle.std.proofs.lemmas.Simd.{map-map}
-use Rattle.trio_rights.specs.Row.{Row, row_in}
-use Rattle.trio_rights.specs.Bundle.{Bundle, Written, bundle_pages, bundle_sheets}
-use Rattle.trio_rights.specs.Sheets.{Sheet}
-use Rattle.trio_lists.specs.Lists.{In, is_among, are_new}
-use Rattle.trio_lists.proofs.Members.{In-flat, In-left, In-right, In-cases, In-is_among, flat_map-same, is_among-In}
-use Rattle.trio_lists.proofs.Filters.{filter-same}
-use Rattle.trio_lists.proofs.Marked.{are_new-append}
-use Rattle.trio_layout.specs.Survey.{Met, numbers, pages_in}
-use Rattle.trio_layout.specs.Case.{Case, Held, bundle_core}
-use Rattle.trio_layout.specs.Within.{file_within}
-use Rattle.trio_layout.specs.JudgedFiles.{entries_in, judged_entries, judged_files, new_entries, judged_pages, pages_within}
-use Rattle.trio_layout.specs.Listing.{is_kept}
-use Rattle.trio_layout.specs.Rules.{entry_is_own}
-use Rattle.trio_lease.specs.Views.{fresh_sheet}
-use Rattle.trio_lease.specs.declared.fresh.Allotted.{Allotted}
-use Rattle.trio_nodes.specs.declared.node.Node.{Node}
-use Rattle.trio_nodes.specs.Nodes.{Nodes, node_at}
-use Rattle.trio_surveys.proofs.Images.{some_of}
-use Rattle.trio_surveys.proofs.OwnFiles.{place_parts}
-use Rattle.trio_desk.specs.Agrees.{node_says, row_says}
-use Rattle.trio_desk.specs.Call.{DeskSeen}
-use Rattle.trio_desk.specs.Out.{ino_numbers, page_numbers}
-use Rattle.trio_desk.specs.Among.{IsAmong}
-use Rattle.trio_desk.specs.Shows.{Shows, bytes_now, naming_of, node_left, with_bytes}
-use Rattle.trio_desk.specs.Ready.{ArePossible, bundle_of}
-use Rattle.trio_desk.specs.Edits.{InHand, MayShow}
-use Rattle.trio_laws.specs.session.Takes.{BecomesThrough, IsInOrder, NothingIsInOrder, Takes, TakesAllotment, TakesReads, with_allotment}
+use Rattle.trio_laws.proofs.Words.{◌++◌, ◌||◌, ◌∙◌, ◌≡◌, Allotted, ArePossible, Bundle, Case, DeskSeen, Held, In, In-cases, In-flat, In-is_among, In-left, In-right, InHand, IsAmong, IsInOrder, List, MayShow, Met, Node, Nodes, None, Option, Row, Sheet, Shows, Some, Takes, Written, [], and_from, ap, append_assoc, are_new, are_new-append, arith, bundle_core, bundle_of, bundle_pages, bundle_sheets, bytes_now, entries_in, entry_is_own, file_within, filter, filter-same, flat_map, flat_map-same, fresh_sheet, inl, ino_numbers, inr, is_among, is_among-In, is_kept, is_some, judged_entries, judged_files, judged_pages, map, map-append, map-map, naming_of, new_entries, node_at, node_left, node_says, numbers, option_map, or_cases, or_left, or_right, page_numbers, pages_in, pages_within, place_parts, refl, row_in, row_says, some_of, subst, sym, true, with_allotment, with_bytes, ℕ}
+use Rattle.trio_laws.specs.session.Takes.{BecomesThrough, NothingIsInOrder, TakesAllotment, TakesReads}
 use Rattle.trio_laws.proofs.session.Again.{hand_files_once, entries_again, entry_own, page_again, pages_more, possible_with_less, read_again}
 use Rattle.trio_laws.proofs.session.Calls.{fewer}
 use Rattle.trio_laws.proofs.session.Ruled.{IsFurther, bytes_same, case_with, naming_same, shows_by}

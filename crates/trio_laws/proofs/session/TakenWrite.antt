@@ -1,47 +1,6 @@
 -- A write lease is taken, untouched: the same nodes are shown.
-use Rattle.std.proofs.Common.{◌≡◌, ℕ, Bool, true, false, cond, eqb, List, [], ◌∷◌, ◌++◌, Option, Some, None, Result, Ok, Err, sym, refl, ap, ◌∙◌, subst, inl, inr, ◌⊎◌, arith}
-use Rattle.std.specs.Prelude.{map, is_some}
-use Rattle.std.specs.List.{filter, find, flat_map}
-use Rattle.std.specs.Option.{option_map}
-use Rattle.std.proofs.lemmas.Bool.{and_from, cases_eq, eqb-true, eq-eqb, false_from_ne_true, ne_eqb, or_cases}
-use Rattle.std.proofs.lemmas.List.{append-nil, map-append}
-use Rattle.std.proofs.lemmas.List.Concat.{flat_map-append}
-use Rattle.std.proofs.lemmas.Simd.{map-map}
-use Rattle.trio_rights.specs.Row.{Row, row_in}
-use Rattle.trio_rights.specs.declared.kind.Kind.{Kind}
-use Rattle.trio_rights.specs.declared.kind.Kind.TheVariants.{Regular, Directory}
-use Rattle.trio_rights.specs.Bundle.{Bundle, Written, bundle_pages, bundle_sheets, is_written}
-use Rattle.trio_rights.specs.Sheets.{Sheet, sheet_numbers}
-use Rattle.trio_lists.specs.Lists.{In, is_among, are_new}
-use Rattle.trio_lists.proofs.Members.{In-flat, flat_map-In, In-left, In-right, In-cases, In-is_among, In-map, flat_map-same, is_among-In, map-In}
-use Rattle.trio_lists.proofs.Filters.{filter-none, find-In, In-find, some_one}
-use Rattle.trio_lists.proofs.Marked.{are_new-append}
-use Rattle.trio_lists.proofs.Gathered.{new_beside}
-use Rattle.trio_layout.specs.Allowed.{has_kind}
-use Rattle.trio_layout.specs.Core.{Location}
-use Rattle.trio_layout.specs.Entries.{Listed}
-use Rattle.trio_layout.specs.Proposed.{is_place_of}
-use Rattle.trio_layout.specs.Survey.{Met, FileRead, plain, met_in, numbers, children_in, pages_in}
-use Rattle.trio_layout.specs.Case.{Case, Held, bundle_core}
-use Rattle.trio_layout.specs.Within.{file_within}
-use Rattle.trio_layout.specs.JudgedFiles.{entries_in, judged_files, new_entries, written_files, written_met, judged_pages, pages_within}
-use Rattle.trio_layout.specs.Listing.{is_kept}
-use Rattle.trio_layout.specs.Rules.{file_keeps_rights}
-use Rattle.trio_lease.specs.Shown.{Shown, LentFile}
-use Rattle.trio_lease.specs.Views.{written_in}
-use Rattle.trio_lease.specs.declared.parts.HoldParts.{HoldParts}
-use Rattle.trio_nodes.specs.declared.node.Node.{Node}
-use Rattle.trio_nodes.specs.Nodes.{Nodes, node_at, entry_in}
-use Rattle.trio_surveys.proofs.OwnFiles.{place_parts}
-use Rattle.trio_desk.specs.Contents.{Rights, bytes_shown, entries_shown, rights_in, rights_of}
-use Rattle.trio_desk.specs.Agrees.{HasContent, HasFile, node_says, row_says}
-use Rattle.trio_desk.specs.Out.{file_numbers, numbers_of_file}
-use Rattle.trio_desk.specs.Call.{DeskSeen}
-use Rattle.trio_desk.specs.Among.{IsAmong, IsForeign, written_numbers}
-use Rattle.trio_desk.specs.Shows.{Naming, Shows, bytes_now, bytes_read, naming_of, node_left, node_now, placed, with_bytes}
-use Rattle.trio_desk.specs.Ready.{ArePossible, bundle_of, lent_files}
-use Rattle.trio_desk.specs.Edits.{InHand, MayShow}
-use Rattle.trio_laws.specs.session.Takes.{IsInOrder, IsUntouched, Takes, TakesWrite, case_in_hand, with_write}
+use Rattle.trio_laws.proofs.Words.{◌++◌, ◌∙◌, ◌∷◌, ◌≡◌, ◌⊎◌, ArePossible, Bool, Bundle, Case, DeskSeen, Directory, Err, FileRead, HasContent, HasFile, Held, HoldParts, In, In-cases, In-find, In-flat, In-is_among, In-left, In-map, In-right, InHand, IsAmong, IsForeign, IsInOrder, IsUntouched, Kind, LentFile, List, Listed, Location, MayShow, Met, Naming, Node, Nodes, None, Ok, Option, Regular, Result, Rights, Row, Sheet, Shown, Shows, Some, Takes, Written, [], and_from, ap, append-nil, are_new, are_new-append, arith, bundle_core, bundle_of, bundle_pages, bundle_sheets, bytes_now, bytes_read, bytes_shown, case_in_hand, cases_eq, children_in, cond, entries_in, entries_shown, entry_in, eq-eqb, eqb, eqb-true, false, false_from_ne_true, file_keeps_rights, file_numbers, file_within, filter, filter-none, find, find-In, flat_map, flat_map-In, flat_map-append, flat_map-same, has_kind, inl, inr, is_among, is_among-In, is_kept, is_place_of, is_some, is_written, judged_files, judged_pages, lent_files, map, map-In, map-append, map-map, met_in, naming_of, ne_eqb, new_beside, new_entries, node_at, node_left, node_now, node_says, numbers, numbers_of_file, option_map, or_cases, pages_in, pages_within, place_parts, placed, plain, refl, rights_in, rights_of, row_in, row_says, sheet_numbers, some_one, subst, sym, true, with_bytes, with_write, written_files, written_in, written_met, written_numbers, ℕ}
+use Rattle.trio_laws.specs.session.Takes.{TakesWrite}
 use Rattle.trio_laws.proofs.judgement.JudgedFacts.{written_body, written_ino, written_kind}
 use Rattle.trio_laws.proofs.judgement.RuleParts.{same_kind_from}
 use Rattle.trio_laws.proofs.session.Again.{hand_files_once, entries_again, entry_own, judged_page, new_between, page_again, pages_more, possible_with_less, read_again, said_alike}

@@ -1,29 +1,6 @@
 -- A written regular file is edited: of the nodes that are shown it alone has other bytes. It is a judged file, and this is an edit of one.
-use Rattle.std.proofs.Common.{◌≡◌, ℕ, List, [], Option, None, Ok, sym, refl, ap, ◌∙◌, subst, inl}
-use Rattle.std.specs.Prelude.{map}
-use Rattle.std.proofs.lemmas.Simd.{map-map}
-use Rattle.trio_rights.specs.Row.{Row, row_in}
-use Rattle.trio_rights.specs.declared.kind.Kind.TheVariants.{Regular}
-use Rattle.trio_rights.specs.Bundle.{Bundle, Written}
-use Rattle.trio_lists.specs.Lists.{In}
-use Rattle.trio_lists.proofs.Members.{In-map}
-use Rattle.trio_layout.specs.Body.{body_at}
-use Rattle.trio_layout.specs.declared.body.Body.{Body}
-use Rattle.trio_layout.specs.Survey.{FileRead, Met, pages_in}
-use Rattle.trio_layout.specs.Case.{Case, Held, bundle_core}
-use Rattle.trio_layout.specs.JudgedFiles.{judged_files, written_at, written_met}
-use Rattle.trio_layout.specs.Within.{file_within}
-use Rattle.trio_layout.proofs.WithinCore.{within_from}
-use Rattle.trio_lease.specs.Shown.{LentFile}
-use Rattle.trio_lease.specs.Views.{written_in}
-use Rattle.trio_nodes.specs.Nodes.{Nodes}
-use Rattle.trio_desk.specs.Call.{DeskSeen}
-use Rattle.trio_desk.specs.Ready.{bundle_of}
-use Rattle.trio_desk.specs.Shows.{Shows}
-use Rattle.trio_desk.specs.Edits.{InHand, MayShow}
-use Rattle.trio_laws.specs.session.Takes.{Becomes, IsInOrder, case_in_hand}
-use Rattle.trio_laws.specs.session.FileEdits.{FileEditShows, IsFileEdit, bare_file, bytes_listed, core_in_hand, files_in_hand, read_in_hand, with_body, with_content}
-use Rattle.trio_laws.specs.session.JudgedEdits.{IsJudgedEdit, content_of}
+use Rattle.trio_laws.proofs.Words.{◌∙◌, ◌≡◌, Becomes, Body, Bundle, Case, DeskSeen, FileRead, Held, In, In-map, InHand, IsInOrder, IsJudgedEdit, LentFile, List, MayShow, Met, Nodes, None, Ok, Option, Regular, Row, Shows, Written, [], ap, bare_file, body_at, bundle_core, bundle_of, bytes_listed, case_in_hand, content_of, core_in_hand, file_within, files_in_hand, inl, judged_files, map, map-map, pages_in, read_in_hand, refl, row_in, subst, sym, with_body, with_content, within_from, written_at, written_in, written_met, ℕ}
+use Rattle.trio_laws.specs.session.FileEdits.{FileEditShows, IsFileEdit}
 use Rattle.trio_laws.specs.session.Listed.{ListedAfterEdit}
 use Rattle.trio_laws.proofs.session.Again.{judged_reads}
 use Rattle.trio_laws.proofs.session.EditedOrder.{order_stays, possible_before}

@@ -1,6 +1,4 @@
-use Rattle.std.proofs.Common.{◌≡◌, length}
-use Rattle.std.specs.List.{list_any}
-use Rattle.trio_script.specs.Script.{lines_of, says_library}
+use Rattle.trio_script.proofs.Words.{◌≡◌, length, lines_of, list_any, says_library}
 use Rattle.trio_script.proofs.has_library.Given as goal
 
 abbrev pub invariant-loop-rest : goal.invariant-loop-rest

@@ -1,4 +1,5 @@
-use Rattle.std.proofs.Common.{eqb-true, sym}
+use Rattle.trio_script.proofs.Words.{sym}
+use Rattle.std.proofs.Common.{eqb-true}
 use Rattle.std.proofs.lemmas.List.{nil_from_length}
 use Rattle.trio_script.proofs.Limits.{closed_within}
 use Rattle.trio_script.proofs.read_script.Goals as goal

@@ -1,7 +1,6 @@
-use Rattle.std.proofs.Common.{◌≡◌, ◌≤◌, length, is_some, ◌||◌, None}
-use Rattle.std.specs.List.{list_any}
-use Rattle.trio_script.specs.Script.{lines_of, says_library, first_bad, libs_from}
-use Rattle.trio_script.specs.inner.Taken.{count_of, kind_of, libs_and}
+use Rattle.trio_script.proofs.Words.{◌||◌, ◌≡◌, ◌≤◌, None, count_of, is_some, length, libs_and, libs_from, lines_of, list_any, says_library}
+use Rattle.trio_script.specs.Script.{first_bad}
+use Rattle.trio_script.specs.inner.Taken.{kind_of}
 use Rattle.trio_script.proofs.read_script.Given as goal
 
 abbrev pub invariant-loop-rest : goal.invariant-loop-rest

@@ -1,4 +1,4 @@
-use Rattle.std.proofs.Common.{sym, ◌∙◌, arith}
+use Rattle.trio_script.proofs.Words.{◌∙◌, arith, sym}
 use Rattle.trio_script.proofs.Libraries.{library_takes, form_takes}
 use Rattle.trio_script.proofs.take_line.Goals as goal
 

@@ -1,4 +1,4 @@
-use Rattle.std.proofs.Common.{arith, ◌∙◌}
+use Rattle.trio_app.proofs.Words.{◌∙◌, arith}
 use Rattle.trio_app.proofs.Gens.{calls_all, calls_put}
 use Rattle.trio_app.proofs.generating.calls_told.Goals as goal
 

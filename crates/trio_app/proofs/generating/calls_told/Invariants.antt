@@ -1,5 +1,5 @@
-use Rattle.std.proofs.Common.{◌≡◌, map, take}
-use Rattle.trio_app.specs.Gen.{calls_told}
+use Rattle.trio_app.proofs.Words.{◌≡◌, calls_told, take}
+use Rattle.std.proofs.Common.{map}
 use Rattle.trio_app.proofs.generating.calls_told.Given as goal
 
 abbrev pub invariant-loop-at : goal.invariant-loop-at

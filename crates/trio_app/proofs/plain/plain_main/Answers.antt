@@ -1,8 +1,4 @@
-use Rattle.std.proofs.Common.{refl, subst, sym}
-use Rattle.std.specs.Prelude.{Contains}
-use Rattle.trio_io.specs.Names.{texts_of}
-use Rattle.trio_commands.specs.Command.{Command}
-use Rattle.trio_commands.specs.declared.status.Status.TheVariants.{Done, Usage}
+use Rattle.trio_app.proofs.Words.{Command, Contains, Done, Usage, refl, subst, sym, texts_of}
 use Rattle.trio_commands.specs.Lines.{usage_line, version_line}
 use Rattle.trio_app.proofs.Decided.{main_decided}
 use Rattle.trio_app.proofs.Gens.{gen_files}

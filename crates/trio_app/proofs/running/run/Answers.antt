@@ -1,4 +1,4 @@
-use Rattle.trio_app.specs.Run.{RunDone}
+use Rattle.trio_app.proofs.Words.{RunDone}
 use Rattle.trio_app.proofs.Ends.{inputs_stop_it, run_saved}
 use Rattle.trio_app.proofs.running.run.Goals as goal
 

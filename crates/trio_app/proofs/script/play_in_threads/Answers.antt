@@ -1,5 +1,4 @@
-use Rattle.std.proofs.Common.{◌∙◌, ap, sym}
-use Rattle.trio_state.specs.State.{State}
+use Rattle.trio_app.proofs.Words.{◌∙◌, State, ap, sym}
 use Rattle.trio_app.proofs.Ends.{nobody_writes_then, started_on, threads_end}
 use Rattle.trio_app.proofs.script.play_in_threads.Goals as goal
 

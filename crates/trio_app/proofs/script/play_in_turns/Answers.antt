@@ -1,4 +1,4 @@
-use Rattle.std.proofs.Common.{◌∙◌}
+use Rattle.trio_app.proofs.Words.{◌∙◌}
 use Rattle.trio_app.proofs.Ends.{nobody_writes, play_end, started_on}
 use Rattle.trio_app.proofs.script.play_in_turns.Goals as goal
 

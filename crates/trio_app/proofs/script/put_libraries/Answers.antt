@@ -1,4 +1,4 @@
-use Rattle.std.proofs.Common.{arith, ap, ◌∙◌, ◌++◌}
+use Rattle.trio_app.proofs.Words.{◌++◌, ◌∙◌, ap, arith}
 use Rattle.trio_app.proofs.Ends.{libs_all, libs_put}
 use Rattle.trio_app.proofs.script.put_libraries.Goals as goal
 

@@ -1,5 +1,4 @@
-use Rattle.std.proofs.Common.{◌≡◌, ◌++◌, take}
-use Rattle.trio_app.specs.Report.{libs_text}
+use Rattle.trio_app.proofs.Words.{◌++◌, ◌≡◌, libs_text, take}
 use Rattle.trio_app.proofs.script.put_libraries.Given as goal
 
 abbrev pub invariant-loop-at : goal.invariant-loop-at

@@ -1,9 +1,5 @@
-use Rattle.std.proofs.Common.{◌≡◌, ◌++◌, ◌∙◌, ap}
-use Rattle.trio_survey.specs.Stored.{core_in}
-use Rattle.trio_layout.specs.Tree.{tree_of}
-use Rattle.trio_report.specs.Report.{counts_text, tree_text}
+use Rattle.trio_app.proofs.Words.{◌++◌, ◌∙◌, ◌≡◌, ap, core_in, counts_text, libs_text, tree_of, tree_text}
 use Rattle.trio_report.specs.declared.report.Counts.{Counts as Totals}
-use Rattle.trio_app.specs.Report.{libs_text}
 use Rattle.trio_app.proofs.Ends.{image_again, joined}
 use Rattle.trio_app.proofs.script.report.Goals as goal
 

@@ -1,7 +1,4 @@
-use Rattle.std.proofs.Common.{sym, subst}
-use Rattle.trio_image.specs.Image.{ImagePages}
-use Rattle.trio_survey.specs.Stored.{image_in}
-use Rattle.trio_app.specs.inner.RunEnd.{IsThreadsRunEnd}
+use Rattle.trio_app.proofs.Words.{ImagePages, IsThreadsRunEnd, image_in, subst, sym}
 use Rattle.trio_app.proofs.Ends.{threads_run_end}
 use Rattle.trio_app.proofs.script.run_in_threads.Goals as goal
 

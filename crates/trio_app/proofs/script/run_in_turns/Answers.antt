@@ -1,7 +1,4 @@
-use Rattle.std.proofs.Common.{sym, subst}
-use Rattle.trio_image.specs.Image.{ImagePages}
-use Rattle.trio_survey.specs.Stored.{image_in}
-use Rattle.trio_app.specs.inner.RunEnd.{IsRunEnd}
+use Rattle.trio_app.proofs.Words.{ImagePages, IsRunEnd, image_in, subst, sym}
 use Rattle.trio_app.proofs.Ends.{run_end}
 use Rattle.trio_app.proofs.script.run_in_turns.Goals as goal
 

@@ -1,4 +1,4 @@
-use Rattle.std.proofs.Common.{arith}
+use Rattle.trio_app.proofs.Words.{arith}
 use Rattle.trio_app.proofs.Causes.{main_read_fault, main_write_fault, no_read_cause, no_write_cause}
 use Rattle.trio_app.proofs.sure.sure_trio_main.Goals as goal
 

@@ -1,8 +1,4 @@
-use Rattle.std.proofs.Common.{◌≡◌, subst, sym}
-use Rattle.std.specs.Prelude.{Contains}
-use Rattle.trio_io.specs.Names.{texts_of}
-use Rattle.trio_commands.specs.Command.{Command, command_of, without_threads}
-use Rattle.trio_app.specs.Main.{Main}
+use Rattle.trio_app.proofs.Words.{◌≡◌, Command, Contains, Main, command_of, subst, sym, texts_of, without_threads}
 use Rattle.trio_app.proofs.Decided.{main_decided}
 use Rattle.trio_app.proofs.Names.{EachName, each_name}
 use Rattle.trio_app.proofs.Requests.{no_run}

@@ -1,4 +1,4 @@
-use Rattle.trio_app.specs.Turns.{TurnsDone}
+use Rattle.trio_app.proofs.Words.{TurnsDone}
 use Rattle.trio_app.proofs.Ends.{inputs_stop_it, turns_saved}
 use Rattle.trio_app.proofs.turns.turns.Goals as goal
 

@@ -1,5 +1,4 @@
-use Rattle.std.proofs.Common.{◌≡◌, None, Some, [], length, ◌∙◌, rules}
-use Rattle.std.proofs.lemmas.List.{set_at}
+use Rattle.trio_auxdir.proofs.Words.{◌∙◌, ◌≡◌, None, Some, [], length, rules, set_at}
 use Rattle.trio_auxdir.proofs.SlotLists.{slot_with-push}
 use Rattle.trio_auxdir.proofs.Indexes.{index_push, slice_get-push}
 use Rattle.trio_auxdir.proofs.index.add_slot.Goals as goal

@@ -1,6 +1,5 @@
-use Rattle.std.proofs.Common.{◌≡◌, ℕ, ◌++◌, ap, ◌∙◌, arith}
-use Rattle.trio_lists.specs.Lists.{tabulated}
-use Rattle.trio_auxdir.specs.Slots.{slot_on, slots_on}
+use Rattle.trio_auxdir.proofs.Words.{◌++◌, ◌∙◌, ◌≡◌, ap, arith, slot_on, tabulated, ℕ}
+use Rattle.trio_auxdir.specs.Slots.{slots_on}
 use Rattle.trio_auxdir.proofs.Indexes.{new_on, more_on}
 use Rattle.trio_auxdir.proofs.index.add_slots.Goals as goal
 

@@ -1,7 +1,5 @@
-use Rattle.std.proofs.Common.{◌≡◌, ◌+◌, ◌≤◌, ◌++◌, vec_len, vec_capacity}
-use Rattle.trio_lists.specs.Lists.{tabulated}
-use Rattle.trio_auxdir.specs.inner.Index.{IsIndex, spare}
-use Rattle.trio_auxdir.specs.Slots.{slot_on}
+use Rattle.trio_auxdir.proofs.Words.{◌++◌, ◌+◌, ◌≡◌, ◌≤◌, IsIndex, slot_on, tabulated, vec_capacity, vec_len}
+use Rattle.trio_auxdir.specs.inner.Index.{spare}
 use Rattle.trio_auxdir.proofs.index.add_slots.Given as goal
 
 abbrev pub invariant-loop-slot : goal.invariant-loop-slot

@@ -1,5 +1,4 @@
-use Rattle.std.proofs.Common.{length, ◌-◌, ◌≤◌}
-use Rattle.trio_auxdir.specs.inner.Index.{gap}
+use Rattle.trio_auxdir.proofs.Words.{◌-◌, ◌≤◌, gap, length}
 use Rattle.trio_auxdir.proofs.index.first_from.Given as goal
 
 abbrev pub invariant-loop-at : goal.invariant-loop-at

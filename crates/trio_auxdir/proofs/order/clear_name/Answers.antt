@@ -1,6 +1,5 @@
-use Rattle.std.proofs.Common.{◌≡◌, ap, sym, Some, ◌∙◌}
+use Rattle.trio_auxdir.proofs.Words.{◌∙◌, ◌≡◌, Some, ap, nth, sym}
 use Rattle.std.proofs.lemmas.List.{get_or_default}
-use Rattle.trio_auxdir.specs.inner.Index.{nth}
 use Rattle.trio_auxdir.proofs.Indexes.{found_at, index_emptied, meets}
 use Rattle.trio_auxdir.proofs.order.clear_name.Goals as goal
 

@@ -1,4 +1,4 @@
-use Rattle.std.proofs.Common.{sym}
+use Rattle.trio_auxdir.proofs.Words.{sym}
 use Rattle.trio_auxdir.proofs.Indexes.{absent_at, found_at}
 use Rattle.trio_auxdir.proofs.order.number_of.Goals as goal
 

@@ -1,5 +1,4 @@
-use Rattle.std.proofs.Common.{◌+◌, ◌-◌, ◌/◌, ◌<◌, ℕ, length, sym, ◌∙◌, arith}
-use Rattle.trio_auxdir.specs.inner.Index.{nth_name, slot_at}
+use Rattle.trio_auxdir.proofs.Words.{◌+◌, ◌-◌, ◌/◌, ◌<◌, ◌∙◌, arith, length, nth_name, slot_at, sym, ℕ}
 use Rattle.trio_auxdir.proofs.Sought.{above_more, below_more, greater_less, same_at}
 use Rattle.trio_auxdir.proofs.order.position.Goals as goal
 

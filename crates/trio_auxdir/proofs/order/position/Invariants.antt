@@ -1,5 +1,4 @@
-use Rattle.std.proofs.Common.{ℕ, ◌-◌, ◌<◌, ◌≤◌, length}
-use Rattle.trio_auxdir.specs.inner.Index.{IsLess, nth_name, slot_at}
+use Rattle.trio_auxdir.proofs.Words.{◌-◌, ◌<◌, ◌≤◌, IsLess, length, nth_name, slot_at, ℕ}
 use Rattle.trio_auxdir.proofs.order.position.Given as goal
 
 abbrev pub invariant-loop-low : goal.invariant-loop-low

@@ -1,5 +1,4 @@
-use Rattle.std.proofs.Common.{◌<◌, None, length, rules}
-use Rattle.std.proofs.lemmas.Option.{slice_get_within}
+use Rattle.trio_auxdir.proofs.Words.{◌<◌, None, length, rules, slice_get_within}
 use Rattle.trio_auxdir.proofs.Indexes.{index_put, misses}
 use Rattle.trio_auxdir.proofs.order.put_name.Goals as goal
 

@@ -1,6 +1,4 @@
-use Rattle.std.proofs.Common.{sym, subst}
-use Rattle.trio_nodes.specs.declared.call.Call.{Call}
-use Rattle.trio_calls_dir.specs.Dir.{DirCalled, IsDirCall}
+use Rattle.trio_calls_dir.proofs.Words.{Call, DirCalled, IsDirCall, subst, sym}
 use Rattle.trio_calls_dir.proofs.CallKinds.{entry_called, entry_is}
 use Rattle.trio_calls_dir.proofs.calls.dir_call.Goals as goal
 

@@ -1,5 +1,5 @@
-use Rattle.trio_edit_laws.proofs.Called.{may_settled, settle_may}
-use Rattle.trio_walk.proofs.Retrying.{nothing_left, settled}
+use Rattle.trio_calls_dir.proofs.Words.{may_settled, settle_may, settled}
+use Rattle.trio_walk.proofs.Retrying.{nothing_left}
 use Rattle.trio_calls_dir.specs.Chmods.{Begun}
 use Rattle.trio_calls_dir.proofs.chmods.chmod.Goals as goal
 

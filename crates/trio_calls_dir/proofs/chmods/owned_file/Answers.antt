@@ -1,15 +1,8 @@
-use Rattle.std.proofs.Common.{◌∙◌, ap, refl, sym}
-use Rattle.trio_page.specs.Home.{raised}
-use Rattle.trio_rights.specs.declared.rights.Creds.{Creds}
-use Rattle.trio_nodes.specs.Walk.{dir_of, name_of}
-use Rattle.trio_nodes.specs.declared.call.Reply.TheVariants.{Denied, NotFound}
-use Rattle.trio_walk.specs.declared.walks.WalkEnd.TheVariants.{At, Reply}
-use Rattle.trio_calls_dir.specs.inner.Chmods.{owner_met}
-use Rattle.trio_session.specs.Seen.{SessionSeen}
+use Rattle.trio_calls_dir.proofs.Words.{◌∙◌, At, Creds, Denied, NotFound, SessionSeen, alike_finds, ap, dir_of, name_of, owner_met, raised, refl, sym}
+use Rattle.trio_walk.specs.declared.walks.WalkEnd.TheVariants.{Reply}
 use Rattle.trio_calls_dir.proofs.ChmodsFinds.{found_absent, found_as, found_owned, found_root, found_short, found_stopped, found_stranger, looked_none, looked_some, search_may, walk_as}
 use Rattle.trio_calls_dir.proofs.ChmodsReads.{found_alone, none_alone, reads_alone}
 use Rattle.trio_calls_dir.proofs.chmods.owned_file.Goals as goal
-use Rattle.trio_session.proofs.Alike.{alike_finds}
 use Rattle.trio_calls_dir.proofs.Walkable.{may_walk}
 
 pub returns-then-is_root-clause-found : goal.returns-then-is_root-clause-found

@@ -1,8 +1,4 @@
-use Rattle.std.proofs.Common.{sym, subst}
-use Rattle.trio_nodes.specs.declared.call.Call.{Call}
-use Rattle.trio_walk.specs.Walks.{shows_root}
-use Rattle.trio_walk.specs.Needs.{dir_needs}
-use Rattle.trio_calls_dir.specs.inner.Goes.{Goes, number_made, try_ends}
+use Rattle.trio_calls_dir.proofs.Words.{Call, Goes, dir_needs, number_made, shows_root, subst, sym, try_ends}
 use Rattle.trio_calls_dir.proofs.Others.{stop_others}
 use Rattle.trio_calls_dir.proofs.ListsWalked.{comes_here, list_goes, list_others, list_stops}
 use Rattle.trio_calls_dir.proofs.Walked.{way_may}

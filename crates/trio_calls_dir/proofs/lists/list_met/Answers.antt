@@ -1,6 +1,4 @@
-use Rattle.std.proofs.Common.{◌≡◌, Some, ap, sym, ◌∙◌}
-use Rattle.trio_rights.specs.declared.rights.Creds.{Creds}
-use Rattle.trio_calls_dir.specs.inner.Lists.{met_refusal}
+use Rattle.trio_calls_dir.proofs.Words.{◌∙◌, ◌≡◌, Creds, Some, ap, met_refusal, sym}
 use Rattle.trio_calls_dir.proofs.ListsMet.{met_refused}
 use Rattle.trio_calls_dir.proofs.lists.list_met.Goals as goal
 

@@ -1,12 +1,5 @@
-use Rattle.std.proofs.Common.{◌≡◌, ◌<◌, length, sym, subst}
-use Rattle.std.specs.Prelude.{MatchResult}
-use Rattle.trio_rights.specs.declared.rights.Creds.{Creds}
-use Rattle.trio_nodes.specs.declared.call.Call.TheVariants.{List as ListNames}
-use Rattle.trio_nodes.specs.declared.grant.Holder.{Holder}
+use Rattle.trio_calls_dir.proofs.Words.{◌<◌, ◌≡◌, BusyAt, Creds, Goes, Holder, LacksMemory, ListNames, MatchResult, length, list_reply, listing_at, subst, sym}
 use Rattle.trio_walk.specs.declared.outcome.Outcome.TheVariants.{Busy as IsBusyEnd}
-use Rattle.trio_walk.specs.declared.outcome.Stop.TheVariants.{NoMemory as LacksMemory}
-use Rattle.trio_calls_dir.specs.inner.Goes.{Goes}
-use Rattle.trio_calls_dir.specs.inner.Lists.{BusyAt, list_reply, listing_at}
 use Rattle.trio_calls_dir.proofs.ListsMet.{busy_at, busy_goes, denied_goes, listed_goes, may_take, short_goes, taken_had}
 use Rattle.trio_calls_dir.proofs.lists.list_unrefused.Goals as goal
 use Rattle.trio_calls_dir.proofs.Walkable.{may_walk}

@@ -1,9 +1,6 @@
-use Rattle.std.proofs.Common.{◌≡◌, ℕ, List, ◌∙◌, ◌+◌, ◌-◌, ap, arith, drop, length, min, take}
-use Rattle.trio_rights.specs.declared.kind.Kind.{Kind}
-use Rattle.trio_nodes.specs.declared.call.Answer.TheVariants.{Names}
+use Rattle.trio_calls_dir.proofs.Words.{◌+◌, ◌-◌, ◌∙◌, ◌≡◌, Kind, List, Names, ap, arith, drop, length, min, names_here, take, ℕ}
 use Rattle.trio_calls_dir.proofs.ListsSome.{names_from}
 use Rattle.trio_calls_dir.proofs.lists.names_at.Goals as goal
-use Rattle.trio_session.specs.Deeds.{names_here}
 
 pub returns : goal.returns
 returns c =

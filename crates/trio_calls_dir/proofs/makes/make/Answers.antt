@@ -1,15 +1,9 @@
-use Rattle.std.proofs.Common.{◌≡◌, Some, None, refl, subst}
-use Rattle.trio_nodes.specs.Nodes.{find_named}
-use Rattle.trio_page.specs.Home.{raised}
-use Rattle.trio_walk.specs.declared.walks.WalkEnd.TheVariants.{At}
-use Rattle.trio_walk.specs.Walks.{InAllShown}
-use Rattle.trio_calls_dir.specs.inner.Goes.{number_made, try_ends}
+use Rattle.trio_calls_dir.proofs.Words.{◌≡◌, At, InAllShown, None, Some, alike_finds, find_named, number_made, raised, refl, subst, try_ends}
 use Rattle.trio_calls_dir.proofs.Ends.{lacks}
 use Rattle.trio_calls_dir.proofs.Others.{stop_others}
 use Rattle.trio_calls_dir.proofs.Entered.{had_as, open_alike, walked_as}
 use Rattle.trio_calls_dir.proofs.MakesWalk.{make_comes, make_goes, make_may, make_stops, make_there}
 use Rattle.trio_calls_dir.proofs.makes.make.Goals as goal
-use Rattle.trio_session.proofs.Alike.{alike_finds}
 use Rattle.trio_calls_dir.proofs.Walkable.{may_walk}
 
 pub returns-in_default-clause-goes : goal.returns-in_default-clause-goes

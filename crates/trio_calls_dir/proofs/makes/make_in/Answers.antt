@@ -1,16 +1,8 @@
-use Rattle.std.proofs.Common.{◌≡◌, [], None, Some, sym, ap, ◌∙◌, subst}
-use Rattle.trio_layout.specs.Body.{body_of}
-use Rattle.trio_layout.specs.declared.range.CoreRange.{CoreRange}
-use Rattle.trio_nodes.specs.Walk.{name_of}
-use Rattle.trio_session.specs.Seen.{MayBeMade, fill}
-use Rattle.trio_rights.specs.declared.rights.Creds.{Creds}
-use Rattle.trio_walk.specs.Asks.{IsNotBusy}
-use Rattle.trio_calls_dir.specs.inner.Goes.{Goes, number_made, try_ends}
+use Rattle.trio_calls_dir.proofs.Words.{◌∙◌, ◌≡◌, CoreRange, Creds, Goes, IsNotBusy, MayBeMade, None, Some, [], ap, body_of, fill, name_of, new_body, number_made, subst, sym, try_ends}
 use Rattle.trio_calls_dir.proofs.Ends.{never_busy}
 use Rattle.trio_calls_dir.proofs.MakesFill.{body_made}
 use Rattle.trio_calls_dir.proofs.MakesRoom.{MayMake, above1, lacked_goes, made_goes, may_be_made, some_number}
 use Rattle.trio_calls_dir.proofs.makes.make_in.Goals as goal
-use Rattle.trio_session.specs.Deeds.{new_body}
 
 pub fill-requires-clause-number : goal.fill-requires-clause-number
 fill-requires-clause-number g c =

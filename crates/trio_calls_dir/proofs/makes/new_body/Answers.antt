@@ -1,5 +1,4 @@
-use Rattle.std.proofs.Common.{◌^◌, ◌<◌, refl, ap, ◌∙◌, arith}
-use Rattle.trio_layout.specs.Body.{body_of}
+use Rattle.trio_calls_dir.proofs.Words.{◌<◌, ◌^◌, ◌∙◌, ap, arith, body_of, refl}
 use Rattle.trio_calls_dir.proofs.MakesTree.{new_body_read}
 use Rattle.trio_calls_dir.proofs.makes.new_body.Goals as goal
 

@@ -1,11 +1,4 @@
-use Rattle.std.proofs.Common.{Ok, ap, ◌∙◌, sym, subst}
-use Rattle.trio_nodes.specs.declared.grant.GrantKind.TheVariants.{Hold}
-use Rattle.trio_nodes.specs.declared.grant.Holder.{Holder}
-use Rattle.trio_walk.specs.declared.outcome.Outcome.TheVariants.{Busy}
-use Rattle.trio_walk.specs.Walks.{Took}
-use Rattle.trio_walk.specs.Needs.{moving_needs}
-use Rattle.trio_calls_dir.specs.inner.Goes.{Goes, number_made, try_ends}
-use Rattle.trio_calls_dir.specs.inner.Moves.{NeedsBusyAt}
+use Rattle.trio_calls_dir.proofs.Words.{◌∙◌, Busy, Goes, Hold, Holder, NeedsBusyAt, Ok, Took, ap, moving_needs, number_made, subst, sym, try_ends}
 use Rattle.trio_calls_dir.proofs.MovesHeld.{busy_goes, held_goes, hold_off, itself_goes, may_hold, may_move, short_goes}
 use Rattle.trio_calls_dir.proofs.moves.move_across.Goals as goal
 use Rattle.trio_calls_dir.proofs.Walkable.{may_walk}

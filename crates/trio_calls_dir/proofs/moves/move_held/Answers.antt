@@ -1,10 +1,5 @@
-use Rattle.std.proofs.Common.{[], refl, sym, ap, ◌∙◌, subst}
-use Rattle.std.specs.Prelude.{is_some, not}
-use Rattle.trio_walk.specs.Asks.{IsNotBusy}
-use Rattle.trio_calls_dir.specs.inner.Goes.{Goes, number_made, try_ends}
+use Rattle.trio_calls_dir.proofs.Words.{◌∙◌, Goes, IsNotBusy, MayPut, PutFile, [], ap, is_some, name_of, not, number_made, refl, subst, sym, try_ends}
 use Rattle.trio_calls_dir.proofs.Ends.{lacks, never_busy}
-use Rattle.trio_nodes.specs.Walk.{name_of}
-use Rattle.trio_deeds.specs.Slots.{MayPut, PutFile}
 use Rattle.trio_calls_dir.proofs.MovesRoom.{lacked_goes, may_put1, put_goes}
 use Rattle.trio_calls_dir.proofs.moves.move_held.Goals as goal
 

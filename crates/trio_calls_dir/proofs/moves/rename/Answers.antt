@@ -1,4 +1,4 @@
-use Rattle.std.proofs.Common.{◌∙◌, sym}
+use Rattle.trio_calls_dir.proofs.Words.{◌∙◌, sym}
 use Rattle.trio_calls_dir.proofs.MovesPaths.{early_goes}
 use Rattle.trio_calls_dir.proofs.moves.rename.Goals as goal
 

@@ -1,8 +1,4 @@
-use Rattle.std.proofs.Common.{◌≡◌, None, subst}
-use Rattle.trio_nodes.specs.Nodes.{find_named}
-use Rattle.trio_page.specs.Home.{raised}
-use Rattle.trio_walk.specs.Walks.{InAllShown}
-use Rattle.trio_calls_dir.specs.inner.Goes.{number_made, try_ends}
+use Rattle.trio_calls_dir.proofs.Words.{◌≡◌, InAllShown, None, find_named, number_made, raised, subst, try_ends}
 use Rattle.trio_calls_dir.proofs.MovesFound.{absent_goes, found_one, looked_across, looked_busy, looked_goes}
 use Rattle.trio_calls_dir.proofs.moves.rename_across.Goals as goal
 use Rattle.trio_calls_dir.proofs.Walkable.{may_walk}

@@ -1,7 +1,4 @@
-use Rattle.std.proofs.Common.{◌∷◌, [], ◌∙◌, ap, inl, refl}
-use Rattle.trio_nodes.specs.Walk.{Path, dir_of}
-use Rattle.trio_walk.specs.declared.walks.WalkEnd.TheVariants.{At}
-use Rattle.trio_calls_dir.specs.inner.Goes.{number_made, try_ends}
+use Rattle.trio_calls_dir.proofs.Words.{◌∙◌, ◌∷◌, At, Path, [], ap, dir_of, inl, number_made, refl, try_ends}
 use Rattle.trio_calls_dir.proofs.Ends.{lacks}
 use Rattle.trio_calls_dir.proofs.MovesBusy.{out_others}
 use Rattle.trio_calls_dir.proofs.MovesWalk.{had_both, is_out, out_goes, out_stops, walked_both}

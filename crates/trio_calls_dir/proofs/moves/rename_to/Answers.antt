@@ -1,6 +1,5 @@
-use Rattle.std.proofs.Common.{ap, get_or, inl, inr, refl}
-use Rattle.trio_walk.specs.declared.walks.WalkEnd.TheVariants.{At}
-use Rattle.trio_calls_dir.specs.inner.Goes.{number_made, try_ends}
+use Rattle.trio_calls_dir.proofs.Words.{At, ap, inl, inr, number_made, refl, try_ends}
+use Rattle.std.proofs.Common.{get_or}
 use Rattle.trio_calls_dir.proofs.MovesBusy.{to_busy, to_stop_busy}
 use Rattle.trio_calls_dir.proofs.MovesWalk.{had_both, is_across, to_goes, to_stops, walked_both}
 use Rattle.trio_calls_dir.proofs.moves.rename_to.Goals as goal

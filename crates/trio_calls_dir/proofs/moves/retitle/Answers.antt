@@ -1,4 +1,4 @@
-use Rattle.std.proofs.Common.{refl}
+use Rattle.trio_calls_dir.proofs.Words.{refl}
 use Rattle.trio_calls_dir.proofs.MovesRetitle.{retitled_alike}
 use Rattle.trio_calls_dir.proofs.RemovesClear.{room_after}
 use Rattle.trio_calls_dir.proofs.moves.retitle.Goals as goal

@@ -1,5 +1,4 @@
-use Rattle.std.proofs.Common.{rules, arith, ◌∙◌, ap}
-use Rattle.trio_nodes.specs.Walk.{is_above}
+use Rattle.trio_calls_dir.proofs.Words.{◌∙◌, ap, arith, is_above, rules}
 use Rattle.trio_onetree.proofs.PathFacts.{above-short, above-long}
 use Rattle.trio_calls_dir.proofs.paths.is_above.Goals as goal
 

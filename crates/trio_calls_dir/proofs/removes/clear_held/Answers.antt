@@ -1,4 +1,4 @@
-use Rattle.std.proofs.Common.{refl}
+use Rattle.trio_calls_dir.proofs.Words.{refl}
 use Rattle.trio_calls_dir.proofs.RemovesClear.{cleared_alike, room_after}
 use Rattle.trio_calls_dir.proofs.removes.clear_held.Goals as goal
 

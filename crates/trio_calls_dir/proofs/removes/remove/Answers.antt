@@ -1,23 +1,10 @@
-use Rattle.std.proofs.Common.{rules, ◌≡◌, ◌<◌, Some, None, true, length, refl, ◌∙◌, sym, ap, subst}
-use Rattle.std.specs.Prelude.{MatchResult}
-use Rattle.std.proofs.lemmas.Bool.{false≢true}
-use Rattle.trio_session.specs.Seen.{SessionSeen}
-use Rattle.trio_walk.specs.declared.outcome.Stop.TheVariants.{NoMemory as LacksMemory}
-use Rattle.trio_walk.specs.Needs.{named_needs, removing_needs}
-use Rattle.trio_nodes.specs.Nodes.{find_named}
-use Rattle.trio_nodes.specs.Walk.{name_of}
-use Rattle.trio_page.specs.Home.{raised}
-use Rattle.trio_walk.specs.declared.walks.WalkEnd.TheVariants.{At}
-use Rattle.trio_walk.specs.Walks.{InAllShown}
-use Rattle.trio_calls_dir.specs.inner.Goes.{Goes, number_made, try_ends}
+use Rattle.trio_calls_dir.proofs.Words.{◌<◌, ◌∙◌, ◌≡◌, At, Goes, InAllShown, LacksMemory, MatchResult, None, SessionSeen, Some, alike_finds, ap, false≢true, find_named, length, lib_same, name_of, named_needs, number_made, raised, refl, removing_needs, rules, subst, sym, true, try_ends}
 use Rattle.trio_calls_dir.proofs.Ends.{lacks}
 use Rattle.trio_calls_dir.proofs.Others.{stop_others}
 use Rattle.trio_calls_dir.proofs.Entered.{had_as, open_alike, walked_as}
 use Rattle.trio_calls_dir.proofs.RemovesBusy.{hold_others}
-use Rattle.trio_walk.proofs.Possible.{lib_same}
 use Rattle.trio_calls_dir.proofs.RemovesWalk.{finds_alike, remove_absent, remove_comes, remove_goes, remove_may, remove_other, remove_stops}
 use Rattle.trio_calls_dir.proofs.removes.remove.Goals as goal
-use Rattle.trio_session.proofs.Alike.{alike_finds}
 use Rattle.trio_calls_dir.proofs.Walkable.{may_walk}
 
 pub returns-in_default-clause-goes : goal.returns-in_default-clause-goes

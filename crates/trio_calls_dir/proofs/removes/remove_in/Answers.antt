@@ -1,12 +1,4 @@
-use Rattle.std.proofs.Common.{Some, Ok, ap, ◌∙◌, sym, subst}
-use Rattle.trio_nodes.specs.declared.grant.GrantKind.TheVariants.{Hold}
-use Rattle.trio_nodes.specs.declared.grant.Holder.{Holder}
-use Rattle.trio_walk.specs.declared.outcome.Outcome.TheVariants.{Busy}
-use Rattle.trio_walk.specs.Walks.{Took}
-use Rattle.trio_walk.specs.Needs.{named_needs, removing_needs}
-use Rattle.trio_calls_dir.specs.inner.Goes.{Goes, number_made, try_ends}
-use Rattle.trio_calls_dir.specs.inner.Removes.{HoldBusyAt}
-use Rattle.trio_nodes.specs.Walk.{name_of}
+use Rattle.trio_calls_dir.proofs.Words.{◌∙◌, Busy, Goes, Hold, HoldBusyAt, Holder, Ok, Some, Took, ap, name_of, named_needs, number_made, removing_needs, subst, sym, try_ends}
 use Rattle.trio_calls_dir.proofs.RemovesTake.{busy_goes, busy_off, held_goes, may_clear, may_hold, short_goes}
 use Rattle.trio_calls_dir.proofs.RemovesClear.{above_none, cleared_goes, full_goes, there_some}
 use Rattle.trio_calls_dir.proofs.removes.remove_in.Goals as goal

@@ -1,5 +1,4 @@
-use Rattle.std.proofs.Common.{sym}
-use Rattle.trio_rights.specs.declared.kind.Kind.TheVariants.{Directory, Regular}
+use Rattle.trio_calls_dir.proofs.Words.{Directory, Regular, sym}
 use Rattle.trio_calls_dir.proofs.MakesWalk.{root_made}
 use Rattle.trio_calls_dir.proofs.RemovesWalk.{root_goes}
 use Rattle.trio_calls_dir.proofs.replies.reply_to.Goals as goal

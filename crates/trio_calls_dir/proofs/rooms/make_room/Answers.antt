@@ -1,14 +1,6 @@
-use Rattle.std.proofs.Common.{◌≡◌, ◌+◌, ◌≤◌, length, sym, ap, ◌∙◌, subst}
-use Rattle.trio_layout.specs.Body.{block_count}
-use Rattle.trio_rights.specs.declared.kind.Kind.TheVariants.{Directory}
-use Rattle.trio_session.specs.Asked.{Allots}
-use Rattle.trio_session.specs.Deeds.{slot_growth}
-use Rattle.trio_session.specs.Layout.{size_in}
-use Rattle.trio_session.specs.Seen.{SessionSeen, chain_in, room_in}
-use Rattle.trio_session.proofs.Alike.{alike_room, on_alike}
+use Rattle.trio_calls_dir.proofs.Words.{◌+◌, ◌∙◌, ◌≡◌, ◌≤◌, Allots, Directory, SessionSeen, alike_room, ap, block_count, chain_in, length, on_alike, open_chain, room_in, size_in, slot_growth, subst, sym}
 use Rattle.trio_session.proofs.Shows.{body_had-open}
 use Rattle.trio_edit_laws.proofs.Had.{open_had}
-use Rattle.trio_edit_laws.proofs.OpenChain.{open_chain}
 use Rattle.trio_calls_dir.proofs.RoomsMade.{may_add, room_lacked, room_made, room_short}
 use Rattle.trio_calls_dir.proofs.rooms.make_room.Goals as goal
 

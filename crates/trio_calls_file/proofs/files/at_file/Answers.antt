@@ -1,7 +1,4 @@
-use Rattle.std.proofs.Common.{◌≡◌, sym, ap, ◌∙◌, Some}
-use Rattle.trio_rights.specs.declared.rights.Creds.{Creds}
-use Rattle.trio_calls_file.specs.inner.Goes.{checked, refusal_at}
-use Rattle.trio_walk.specs.Walks.{gives_met}
+use Rattle.trio_calls_file.proofs.Words.{◌∙◌, ◌≡◌, Creds, Some, ap, checked, gives_met, refusal_at, sym}
 use Rattle.trio_calls_file.proofs.AtFile.{refused_goes}
 use Rattle.trio_calls_file.proofs.files.at_file.Goals as goal
 

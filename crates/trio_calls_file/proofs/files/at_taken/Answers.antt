@@ -1,11 +1,4 @@
-use Rattle.std.proofs.Common.{◌≡◌, true, None, sym, refl, ap, ◌∙◌, subst}
-use Rattle.trio_nodes.specs.declared.call.Call.{Call}
-use Rattle.trio_rights.specs.declared.rights.Creds.{Creds}
-use Rattle.trio_walk.specs.Needs.{path_of}
-use Rattle.trio_nodes.specs.declared.call.Call.TheVariants.{Write, Truncate}
-use Rattle.trio_calls_file.specs.Asks.{IsFileCall}
-use Rattle.trio_calls_file.specs.inner.Goes.{ComesHere, Goes, checked, grant_for, try_ends, wants_pages_for}
-use Rattle.trio_session.specs.Seen.{serves}
+use Rattle.trio_calls_file.proofs.Words.{◌∙◌, ◌≡◌, Call, ComesHere, Creds, Goes, IsFileCall, None, Truncate, Write, ap, checked, grant_for, path_of, refl, serves, subst, sym, true, try_ends, wants_pages_for}
 use Rattle.trio_calls_file.proofs.AtFile.{read_regular}
 use Rattle.trio_calls_file.proofs.AtTaken.{edit_goes, read_goes, stat_goes, write_open}
 use Rattle.trio_calls_file.proofs.files.at_taken.Goals as goal

@@ -1,10 +1,6 @@
-use Rattle.std.proofs.Common.{true, false, Ok, Err, sym, subst}
-use Rattle.trio_nodes.specs.declared.grant.GrantKind.{GrantKind}
-use Rattle.trio_nodes.specs.declared.grant.Holder.{Holder}
-use Rattle.trio_walk.specs.Walks.{MayTake}
+use Rattle.trio_calls_file.proofs.Words.{BusyAt, Err, Goes, GrantKind, Holder, MayTake, Ok, asks_at, false, subst, sym, true}
 use Rattle.trio_walk.specs.declared.outcome.Outcome.TheVariants.{Busy as IsBusyEnd}
 use Rattle.trio_walk.specs.declared.outcome.Stop.TheVariants.{Busy, NoMemory}
-use Rattle.trio_calls_file.specs.inner.Goes.{BusyAt, Goes, asks_at}
 use Rattle.trio_calls_file.proofs.AtFile.{busy_stopped, comes_still, may_take, met_still, root_denied_goes, stopped_goes, taken_goes, taken_had, taken_kind, taken_limits, took_for, unchecked_still}
 use Rattle.trio_calls_file.proofs.Taking.{took_at, took_busy, took_false, took_reply, took_short, took_true}
 use Rattle.trio_calls_file.proofs.Walkable.{may_walk}

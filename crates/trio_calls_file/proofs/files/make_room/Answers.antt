@@ -1,7 +1,4 @@
-use Rattle.std.proofs.Common.{◌≤◌, subst}
-use Rattle.trio_session.specs.Asked.{Allots}
-use Rattle.trio_session.specs.Seen.{room_in}
-use Rattle.trio_session.proofs.Alike.{alike_room, on_alike}
+use Rattle.trio_calls_file.proofs.Words.{◌≤◌, Allots, alike_room, on_alike, room_in, subst}
 use Rattle.trio_calls_file.proofs.Rooms.{room_made, room_short}
 use Rattle.trio_calls_file.proofs.files.make_room.Goals as goal
 

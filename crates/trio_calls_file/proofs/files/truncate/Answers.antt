@@ -1,18 +1,8 @@
-use Rattle.std.proofs.Common.{refl, sym, ap, ◌∙◌, subst}
-use Rattle.trio_nodes.specs.Apply.{resized}
+use Rattle.trio_calls_file.proofs.Words.{◌∙◌, Goes, IsNotBusy, Regular, Truncate, alike_room, ap, body_had-open, bytes_in, refl, resized, size_in, sized, subst, sym, try_ends, wants_pages_for}
 use Rattle.trio_nodes.specs.declared.call.Answer.TheVariants.{Done}
-use Rattle.trio_nodes.specs.declared.call.Call.TheVariants.{Truncate}
-use Rattle.trio_session.specs.Layout.{size_in}
-use Rattle.trio_edit_laws.specs.Written.{bytes_in}
-use Rattle.trio_walk.specs.Asks.{IsNotBusy}
-use Rattle.trio_calls_file.specs.inner.Goes.{Goes, try_ends, wants_pages_for}
 use Rattle.trio_calls_file.proofs.Ends.{blocks_room, calls_room, edits_room, goes_done, goes_fault, idle_fault, old_room, open_room, pages_room, writes_size}
-use Rattle.trio_rights.specs.declared.kind.Kind.TheVariants.{Regular}
 use Rattle.trio_calls_file.proofs.Writes.{edits_alike}
 use Rattle.trio_calls_file.proofs.files.truncate.Goals as goal
-use Rattle.trio_session.proofs.Alike.{alike_room}
-use Rattle.trio_session.specs.Deeds.{sized}
-use Rattle.trio_session.proofs.Shows.{body_had-open}
 
 pub resize-requires-clause-open : goal.resize-requires-clause-open
 resize-requires-clause-open g c =

@@ -1,26 +1,8 @@
-use Rattle.std.proofs.Common.{◌≡◌, ℕ, ◌+◌, eqb, true, false, max, List, length, refl, sym, ap, subst, ◌∙◌, arith}
-use Rattle.std.proofs.lemmas.Bool.{eqb-true}
-use Rattle.trio_nodes.specs.Apply.{put_at}
-use Rattle.trio_nodes.specs.declared.call.Answer.TheVariants.{Count}
-use Rattle.trio_nodes.specs.declared.call.Call.TheVariants.{Write}
-use Rattle.trio_session.specs.Layout.{size_in}
-use Rattle.trio_nodes.specs.declared.call.Reply.TheVariants.{Ok as IsReplied}
-use Rattle.trio_session.specs.Seen.{SessionSeen, body_in, put}
-use Rattle.trio_edit_laws.specs.Written.{bytes_in}
-use Rattle.trio_calls_file.specs.Asks.{edited}
-use Rattle.trio_walk.specs.declared.outcome.Outcome.TheVariants.{Replied}
-use Rattle.trio_walk.specs.Asks.{IsNotBusy}
-use Rattle.trio_calls_file.specs.inner.Goes.{Goes, try_ends, wants_pages_for}
-use Rattle.trio_session.proofs.Others.{put_alike}
+use Rattle.trio_calls_file.proofs.Words.{◌+◌, ◌∙◌, ◌≡◌, Count, Goes, IsAlike, IsNotBusy, IsReplied, List, Regular, Replied, SessionSeen, Write, alike_room, ap, arith, body_had-open, body_in, bytes_in, edited, eqb, eqb-true, false, length, max, put, put_alike, put_at, refl, size_in, sized, subst, sym, true, try_ends, wants_pages_for, ℕ}
 use Rattle.trio_calls_file.proofs.Alike.{edited_none, edited_some, open_alike}
 use Rattle.trio_calls_file.proofs.Ends.{blocks_room, calls_room, edits_room, goes_done, goes_fault, idle_fault, none_room, old_room, open_room, pages_room, put_at-none, put_room, size_none, size_room, size_some, size_within, writes_bytes}
-use Rattle.trio_rights.specs.declared.kind.Kind.TheVariants.{Regular}
 use Rattle.trio_calls_file.proofs.Writes.{Edits, edits_alike, room_put}
 use Rattle.trio_calls_file.proofs.files.write.Goals as goal
-use Rattle.trio_session.specs.Asked.{IsAlike}
-use Rattle.trio_session.proofs.Alike.{alike_room}
-use Rattle.trio_session.specs.Deeds.{sized}
-use Rattle.trio_session.proofs.Shows.{body_had-open}
 
 pub resize-requires-clause-open : goal.resize-requires-clause-open
 resize-requires-clause-open g c =

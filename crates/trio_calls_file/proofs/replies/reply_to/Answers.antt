@@ -1,11 +1,6 @@
-use Rattle.std.proofs.Common.{[], sym, subst}
-use Rattle.trio_nodes.specs.declared.grant.Holder.{Holder}
-use Rattle.trio_nodes.specs.Walk.{Path}
-use Rattle.trio_walk.specs.declared.walks.WalkEnd.TheVariants.{At, Reply, Busy, NoMemory}
-use Rattle.trio_walk.specs.Walks.{Walked, Walks}
+use Rattle.trio_calls_file.proofs.Words.{At, Holder, OthersHold, Path, RepliesTo, Walked, Walks, [], subst, sym, try_ends}
+use Rattle.trio_walk.specs.declared.walks.WalkEnd.TheVariants.{Reply, Busy, NoMemory}
 use Rattle.trio_walk.specs.declared.outcome.Outcome.TheVariants.{Busy as IsBusy}
-use Rattle.trio_calls_file.specs.inner.Goes.{RepliesTo, try_ends}
-use Rattle.trio_walk.specs.Tries.{OthersHold}
 use Rattle.trio_calls_file.proofs.OwnReads.{others_there}
 use Rattle.trio_calls_file.proofs.WholeTries.{busy_others, busy_there, comes_there, refused_there, replied_there, short_there, went_there}
 use Rattle.trio_calls_file.proofs.Walkable.{may_walk}

@@ -1,9 +1,4 @@
-use Rattle.std.proofs.Common.{rules, ◌≡◌, ◌∙◌, None, Some, refl, ap, sym, map}
-use Rattle.std.specs.Prelude.{slice_get}
-use Rattle.std.specs.Option.{option_and_then, option_copied, option_map}
-use Rattle.std.proofs.lemmas.Option.{slice_get_past, slice_get_read}
-use Rattle.trio_lease.specs.declared.parts.HoldParts.{HoldParts}
-use Rattle.trio_case.specs.Order.{place_of}
+use Rattle.trio_case.proofs.Words.{◌∙◌, ◌≡◌, HoldParts, None, Some, ap, map, option_and_then, option_copied, option_map, place_of, refl, rules, slice_get, slice_get_past, slice_get_read, sym}
 use Rattle.trio_case.proofs.CaseRows.{body_at}
 use Rattle.trio_case.proofs.case.body_lent.Goals as goal
 

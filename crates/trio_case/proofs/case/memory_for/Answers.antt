@@ -1,4 +1,4 @@
-use Rattle.std.proofs.Common.{◌∙◌, ap, arith}
+use Rattle.trio_case.proofs.Words.{◌∙◌, ap, arith}
 use Rattle.trio_case.specs.declared.size.BundleSize.{BundleSize}
 use Rattle.trio_case.proofs.case.memory_for.Goals as goal
 

@@ -1,5 +1,4 @@
-use Rattle.std.proofs.Common.{◌≡◌, ◌≤◌, ◌+◌, ◌++◌, take, vec_len}
-use Rattle.std.specs.Prelude.{vec_capacity}
+use Rattle.trio_case.proofs.Words.{◌++◌, ◌+◌, ◌≡◌, ◌≤◌, take, vec_capacity, vec_len}
 use Rattle.trio_case.proofs.chain.add_part.Given as goal
 
 abbrev pub invariant-loop-number : goal.invariant-loop-number

@@ -1,4 +1,4 @@
-use Rattle.std.proofs.Common.{rules, ◌<◌, ◌^◌}
+use Rattle.trio_case.proofs.Words.{◌<◌, ◌^◌, rules}
 use Rattle.trio_case.proofs.IndexOnce.{beq_differ, index_once}
 use Rattle.trio_case.proofs.chain.is_for.Goals as goal
 

@@ -1,12 +1,4 @@
-use Rattle.std.proofs.Common.{◌≡◌, ◌∙◌, [], Some, not, sym, refl, ap, arith}
-use Rattle.std.specs.Prelude.{is_some}
-use Rattle.std.proofs.lemmas.List.{append-nil}
-use Rattle.std.proofs.lemmas.Option.{slice_get_within}
-use Rattle.trio_case.specs.declared.kept.KeptPage.{KeptPage}
-use Rattle.trio_case.specs.declared.kept.KeptPages.{KeptPages}
-use Rattle.std.specs.Vec.{with_item}
-use Rattle.trio_case.specs.Places.{bytes_at}
-use Rattle.trio_case.specs.Rooms.{part}
+use Rattle.trio_case.proofs.Words.{◌∙◌, ◌≡◌, KeptPage, KeptPages, Some, [], ap, append-nil, arith, bytes_at, is_some, not, part, refl, slice_get_within, sym, with_item}
 use Rattle.trio_case.proofs.Keeping.{Grows, count-set_less, count-set_same, index_unread, kept_at, keeps_set}
 use Rattle.trio_case.proofs.chain.keep_index.Goals as goal
 

@@ -1,6 +1,4 @@
-use Rattle.std.proofs.Common.{◌≡◌, ◌-◌, ◌∙◌, sym, arith}
-use Rattle.trio_layout.specs.Case.{bundle_core}
-use Rattle.trio_case.specs.Cases.{case_in}
+use Rattle.trio_case.proofs.Words.{◌-◌, ◌∙◌, ◌≡◌, arith, bundle_core, case_in, sym}
 use Rattle.trio_case.proofs.Chains.{no_page_at, no_index_at, one_index_more}
 use Rattle.trio_case.proofs.chain.read_chain.Goals as goal
 

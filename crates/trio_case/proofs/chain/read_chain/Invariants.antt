@@ -1,13 +1,5 @@
-use Rattle.std.proofs.Common.{◌≡◌, ◌≤◌, ◌+◌, vec_len}
-use Rattle.std.specs.Prelude.{vec_capacity}
+use Rattle.trio_case.proofs.Words.{◌+◌, ◌≡◌, ◌≤◌, HasPlaces, KeepsPages, bundle_core, case_in, chain_of_within, index_count, looks_left, result_map, unread_blocks, vec_capacity, vec_len, writes_directory}
 use Rattle.trio_layout.specs.Body.{block_count}
-use Rattle.trio_layout.specs.Case.{bundle_core}
-use Rattle.trio_layout.specs.Chain.{index_count}
-use Rattle.trio_layout.specs.Within.{chain_of_within}
-use Rattle.trio_lists.specs.Lists.{result_map}
-use Rattle.trio_case.specs.Cases.{case_in}
-use Rattle.trio_case.specs.Memory.{writes_directory}
-use Rattle.trio_case.specs.Rooms.{looks_left, unread_blocks, HasPlaces, KeepsPages}
 use Rattle.trio_case.proofs.Chains.{after, rest_of}
 use Rattle.trio_case.proofs.chain.read_chain.Given as goal
 

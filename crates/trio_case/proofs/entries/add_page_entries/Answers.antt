@@ -1,6 +1,4 @@
-use Rattle.std.proofs.Common.{ap, sym, ◌∙◌, Ok, arith, vec_len}
-use Rattle.trio_layout.specs.Entries.{slot_bytes, slot_entries}
-use Rattle.trio_lists.specs.Lists.{both}
+use Rattle.trio_case.proofs.Words.{◌∙◌, Ok, ap, arith, both, slot_bytes, slot_entries, sym, vec_len}
 use Rattle.trio_case.proofs.Gathers.{slot_is, entries_on_fault, entries_on_all, gathered_below_more, take_before}
 use Rattle.trio_case.proofs.Keeping.{front_trans, named_more, seen_more}
 use Rattle.trio_case.proofs.entries.add_page_entries.Goals as goal

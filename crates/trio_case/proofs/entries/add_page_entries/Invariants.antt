@@ -1,9 +1,4 @@
-use Rattle.std.proofs.Common.{◌≡◌, ◌≤◌, ◌+◌, drop, length, map, take, Ok, vec_len}
-use Rattle.std.specs.Prelude.{vec_capacity}
-use Rattle.trio_layout.specs.Entries.{slot_entries}
-use Rattle.trio_lists.specs.Lists.{gathered_below}
-use Rattle.trio_case.specs.Reading.{listed_seen, AreNamed}
-use Rattle.trio_case.specs.inner.Steps.{IsFront}
+use Rattle.trio_case.proofs.Words.{◌+◌, ◌≡◌, ◌≤◌, AreNamed, IsFront, Ok, drop, gathered_below, length, listed_seen, map, slot_entries, take, vec_capacity, vec_len}
 use Rattle.trio_case.proofs.entries.add_page_entries.Given as goal
 
 abbrev pub invariant-loop-slot : goal.invariant-loop-slot

@@ -1,6 +1,4 @@
-use Rattle.std.proofs.Common.{◌≡◌, ◌-◌, [], get_or, vec_len, refl, ap, sym, ◌∙◌, take, drop, inl, inr, arith}
-use Rattle.std.proofs.lemmas.List.{take_rest}
-use Rattle.std.proofs.lemmas.Option.{get_or_from_slice_get, slice_get_within}
+use Rattle.trio_case.proofs.Words.{◌-◌, ◌∙◌, ◌≡◌, [], ap, arith, drop, get_or, get_or_from_slice_get, inl, inr, refl, slice_get_within, sym, take, take_rest, vec_len}
 use Rattle.trio_case.proofs.Keeping.{last_is}
 use Rattle.trio_case.proofs.entries.add_slot_entry.Goals as goal
 

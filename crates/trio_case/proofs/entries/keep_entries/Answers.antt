@@ -1,11 +1,4 @@
-use Rattle.std.proofs.Common.{◌∙◌, [], Some, not, drop, length, vec_len, sym, refl, ap, arith}
-use Rattle.std.specs.Prelude.{is_some}
-use Rattle.std.specs.Vec.{with_item}
-use Rattle.std.proofs.lemmas.List.{append-nil}
-use Rattle.std.proofs.lemmas.Option.{slice_get_within}
-use Rattle.trio_case.specs.declared.kept.KeptPage.{KeptPage}
-use Rattle.trio_case.specs.declared.kept.KeptPages.{KeptPages}
-use Rattle.trio_case.specs.Places.{bytes_at}
+use Rattle.trio_case.proofs.Words.{◌∙◌, KeptPage, KeptPages, Some, [], ap, append-nil, arith, bytes_at, drop, is_some, length, not, refl, slice_get_within, sym, vec_len, with_item}
 use Rattle.trio_case.proofs.Keeping.{Grows, behind, block_here, block_keeps, block_others, block_unread, count-set_less, count-set_same}
 use Rattle.trio_case.proofs.entries.keep_entries.Goals as goal
 

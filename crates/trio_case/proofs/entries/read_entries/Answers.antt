@@ -1,12 +1,4 @@
-use Rattle.std.proofs.Common.{◌≡◌, ◌∙◌, ◌+◌, ℕ, List, [], ◌∷◌, ◌++◌, Result, get_or, take, sym, inl, inr, arith, refl}
-use Rattle.std.proofs.lemmas.List.{take_more, take_all}
-use Rattle.trio_lists.proofs.Members.{In-cases}
-use Rattle.trio_layout.specs.Case.{bundle_core}
-use Rattle.trio_layout.specs.Core.{Location, page_of}
-use Rattle.trio_layout.specs.Entries.{Listed}
-use Rattle.trio_layout.specs.Within.{entries_where}
-use Rattle.trio_case.specs.Cases.{case_in}
-use Rattle.trio_case.specs.Rooms.{entries_kept}
+use Rattle.trio_case.proofs.Words.{◌++◌, ◌+◌, ◌∙◌, ◌∷◌, ◌≡◌, In-cases, List, Listed, Location, Result, [], arith, bundle_core, case_in, entries_kept, entries_where, get_or, inl, inr, page_of, refl, sym, take, take_all, take_more, ℕ}
 use Rattle.trio_case.proofs.Gathers.{gathered_all, gathered_fault_at}
 use Rattle.trio_case.proofs.entries.read_entries.Goals as goal
 

@@ -1,7 +1,4 @@
-use Rattle.std.proofs.Common.{◌≡◌, ◌≤◌, ◌+◌, ◌*◌, ℕ, true, length, take}
-use Rattle.trio_lists.specs.Lists.{In}
-use Rattle.trio_case.specs.Rooms.{unread_blocks, unread_index, HasPlaces, KeepsPages}
-use Rattle.trio_case.specs.inner.Steps.{IsDone}
+use Rattle.trio_case.proofs.Words.{◌*◌, ◌+◌, ◌≡◌, ◌≤◌, HasPlaces, In, IsDone, KeepsPages, length, take, true, unread_blocks, unread_index, ℕ}
 use Rattle.trio_case.proofs.entries.read_entries.Given as goal
 
 abbrev pub invariant-loop-block : goal.invariant-loop-block

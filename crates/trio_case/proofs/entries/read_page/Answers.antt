@@ -1,5 +1,4 @@
-use Rattle.std.proofs.Common.{◌≡◌, ◌∙◌, ◌-◌, Ok, Some, drop, map, take, ap, sym, subst, arith}
-use Rattle.trio_case.specs.Reading.{listed_seen, AreNamed}
+use Rattle.trio_case.proofs.Words.{◌-◌, ◌∙◌, ◌≡◌, AreNamed, Ok, Some, ap, arith, drop, listed_seen, map, subst, sym, take}
 use Rattle.trio_case.proofs.Gathers.{rest_is}
 use Rattle.trio_case.proofs.entries.read_page.Goals as goal
 

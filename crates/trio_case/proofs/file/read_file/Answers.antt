@@ -1,12 +1,4 @@
-use Rattle.std.proofs.Common.{rules, ◌≡◌, ◌∙◌, List, Some, sym}
-use Rattle.std.specs.List.{flat_map}
-use Rattle.trio_rights.specs.declared.kind.Kind.TheVariants.{Directory}
-use Rattle.trio_layout.specs.Body.{body_of}
-use Rattle.trio_layout.specs.Case.{bundle_core}
-use Rattle.trio_layout.specs.Chain.{Chain}
-use Rattle.trio_layout.specs.Entries.{Listed}
-use Rattle.trio_case.specs.Cases.{case_in}
-use Rattle.trio_case.specs.Rooms.{entries_kept}
+use Rattle.trio_case.proofs.Words.{◌∙◌, ◌≡◌, Chain, Directory, List, Listed, Some, body_of, bundle_core, case_in, entries_kept, flat_map, rules, sym}
 use Rattle.trio_case.proofs.Files.{file_directory}
 use Rattle.trio_case.proofs.file.read_file.Goals as goal
 

@@ -1,11 +1,4 @@
-use Rattle.std.proofs.Common.{◌≡◌, ◌∙◌, Some, sym, ap, refl, arith}
-use Rattle.std.specs.Prelude.{slice_get}
-use Rattle.std.specs.Option.{option_map}
-use Rattle.std.proofs.lemmas.Option.{slice_get_read}
-use Rattle.trio_lease.specs.declared.parts.FreshParts.{FreshParts}
-use Rattle.trio_case.specs.Rooms.{IsUnread}
-use Rattle.trio_case.specs.declared.kept.KeptPage.{KeptPage}
-use Rattle.trio_case.specs.inner.Unread.{numbers_of}
+use Rattle.trio_case.proofs.Words.{◌∙◌, ◌≡◌, FreshParts, IsUnread, KeptPage, Some, ap, arith, numbers_of, option_map, refl, slice_get, slice_get_read, sym}
 use Rattle.trio_case.proofs.Making.{more_numbers, one_counted, one_unread}
 use Rattle.trio_case.proofs.kept.add_fresh.Goals as goal
 

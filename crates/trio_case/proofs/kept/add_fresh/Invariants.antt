@@ -1,7 +1,5 @@
-use Rattle.std.proofs.Common.{◌≡◌, ◌+◌, ◌≤◌, ◌++◌, map, take}
-use Rattle.std.specs.Prelude.{vec_capacity, vec_len}
-use Rattle.trio_lease.specs.Bundles.{Bundled}
-use Rattle.trio_case.specs.inner.Unread.{numbers_of, AreUnread, CountsItself}
+use Rattle.trio_case.proofs.Words.{◌++◌, ◌+◌, ◌≡◌, ◌≤◌, AreUnread, Bundled, CountsItself, map, numbers_of, take, vec_capacity}
+use Rattle.std.specs.Prelude.{vec_len}
 use Rattle.trio_case.proofs.kept.add_fresh.Given as goal
 
 abbrev pub invariant-loop-at : goal.invariant-loop-at

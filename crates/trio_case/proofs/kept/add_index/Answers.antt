@@ -1,10 +1,4 @@
-use Rattle.std.proofs.Common.{◌≡◌, ◌∙◌, sym, ap, refl, arith}
-use Rattle.std.specs.Option.{option_and_then, option_map}
-use Rattle.trio_lease.specs.Shown.{LentFile, no_at}
-use Rattle.trio_lease.specs.declared.parts.LentPage.{LentPage}
-use Rattle.trio_case.specs.Rooms.{IsUnread}
-use Rattle.trio_case.specs.declared.kept.KeptPage.{KeptPage}
-use Rattle.trio_case.specs.inner.Unread.{numbers_of}
+use Rattle.trio_case.proofs.Words.{◌∙◌, ◌≡◌, IsUnread, KeptPage, LentFile, LentPage, ap, arith, no_at, numbers_of, option_and_then, option_map, refl, sym}
 use Rattle.trio_case.proofs.Making.{more_numbers, one_counted, one_unread, there_of}
 use Rattle.trio_case.proofs.kept.add_index.Goals as goal
 

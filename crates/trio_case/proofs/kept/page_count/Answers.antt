@@ -1,6 +1,4 @@
-use Rattle.std.proofs.Common.{length, ap, arith}
-use Rattle.std.specs.List.{flat_map}
-use Rattle.std.proofs.lemmas.List.{take_all}
+use Rattle.trio_case.proofs.Words.{ap, arith, flat_map, length, take_all}
 use Rattle.trio_case.proofs.Making.{bundle_length, file_numbers}
 use Rattle.trio_case.proofs.kept.page_count.Goals as goal
 

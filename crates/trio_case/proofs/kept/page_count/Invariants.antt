@@ -1,5 +1,4 @@
-use Rattle.std.proofs.Common.{◌≡◌, ◌+◌, length, take}
-use Rattle.std.specs.List.{flat_map}
+use Rattle.trio_case.proofs.Words.{◌+◌, ◌≡◌, flat_map, length, take}
 use Rattle.trio_case.proofs.Making.{file_numbers}
 use Rattle.trio_case.proofs.kept.page_count.Given as goal
 

@@ -1,5 +1,4 @@
-use Rattle.std.proofs.Common.{◌≡◌, ◌≤◌, map, take, vec_len}
-use Rattle.std.specs.Prelude.{vec_capacity}
+use Rattle.trio_case.proofs.Words.{◌≡◌, ◌≤◌, map, take, vec_capacity, vec_len}
 use Rattle.trio_case.proofs.kept.set_numbers.Given as goal
 
 abbrev pub invariant-loop-page : goal.invariant-loop-page

@@ -1,14 +1,4 @@
-use Rattle.std.proofs.Common.{◌≡◌, ◌+◌, ◌∙◌, ◌++◌, List, ℕ, length, map, take, Some, sym, ap, refl, append_assoc, subst, arith}
-use Rattle.std.specs.Prelude.{slice_get}
-use Rattle.std.specs.List.{flat_map}
-use Rattle.std.proofs.lemmas.List.{length-append, length-map, take_all}
-use Rattle.std.proofs.lemmas.Option.{slice_get_read}
-use Rattle.trio_lease.specs.Shown.{LentFile}
-use Rattle.trio_lease.specs.declared.parts.FreshParts.{FreshParts}
-use Rattle.trio_lease.specs.declared.parts.LentPage.{LentPage}
-use Rattle.trio_case.specs.Rooms.{AreCountedIn}
-use Rattle.trio_case.specs.declared.kept.KeptPage.{KeptPage}
-use Rattle.trio_case.specs.inner.Unread.{numbers_of}
+use Rattle.trio_case.proofs.Words.{◌++◌, ◌+◌, ◌∙◌, ◌≡◌, AreCountedIn, FreshParts, KeptPage, LentFile, LentPage, List, Some, ap, append_assoc, arith, flat_map, length, length-append, length-map, map, numbers_of, refl, slice_get, slice_get_read, subst, sym, take, take_all, ℕ}
 use Rattle.trio_case.proofs.Making.{bundle_numbers, file_numbers, files_few, files_more, flat_map_more}
 use Rattle.trio_case.proofs.kept.set_pages.Goals as goal
 

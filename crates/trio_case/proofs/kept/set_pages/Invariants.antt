@@ -1,7 +1,4 @@
-use Rattle.std.proofs.Common.{◌≡◌, ◌≤◌, ◌++◌, map, take}
-use Rattle.std.specs.List.{flat_map}
-use Rattle.std.specs.Prelude.{vec_capacity}
-use Rattle.trio_case.specs.inner.Unread.{numbers_of, AreUnread, CountsItself}
+use Rattle.trio_case.proofs.Words.{◌++◌, ◌≡◌, ◌≤◌, AreUnread, CountsItself, flat_map, map, numbers_of, take, vec_capacity}
 use Rattle.trio_case.proofs.kept.set_pages.Given as goal
 
 abbrev pub invariant-loop-file : goal.invariant-loop-file

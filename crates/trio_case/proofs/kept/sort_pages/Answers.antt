@@ -1,6 +1,4 @@
-use Rattle.std.proofs.Common.{rules}
-use Rattle.std.proofs.lemmas.List.Sorted.{IsNonDecreasingBy-from_sort, answers_always}
-use Rattle.trio_case.specs.declared.kept.KeptPage.{KeptPage}
+use Rattle.trio_case.proofs.Words.{IsNonDecreasingBy-from_sort, KeptPage, answers_always, rules}
 use Rattle.trio_case.proofs.Unstable.{permuted_in, sorted_numbers}
 use Rattle.trio_case.proofs.kept.sort_pages.Goals as goal
 

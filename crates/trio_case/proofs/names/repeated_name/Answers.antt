@@ -1,8 +1,4 @@
-use Rattle.std.proofs.Common.{◌∙◌, ◌++◌, [], false, length, take, sym, ap, arith, subst, refl}
-use Rattle.std.specs.List.{flat_map}
-use Rattle.std.proofs.lemmas.List.{length-replicate}
-use Rattle.trio_case.specs.Rooms.{entries_kept}
-use Rattle.trio_case.specs.inner.Named.{MarksNames}
+use Rattle.trio_case.proofs.Words.{◌++◌, ◌∙◌, MarksNames, [], ap, arith, entries_kept, false, flat_map, length, length-replicate, refl, subst, sym, take}
 use Rattle.trio_case.proofs.Naming.{block_passed, block_repeats, blocks_taken, none_marked}
 use Rattle.trio_case.proofs.names.repeated_name.Goals as goal
 

@@ -1,8 +1,4 @@
-use Rattle.std.proofs.Common.{◌≡◌, [], length, take, drop}
-use Rattle.std.specs.List.{flat_map}
-use Rattle.trio_layout.specs.Entries.{repeated_name}
-use Rattle.trio_case.specs.Rooms.{entries_kept}
-use Rattle.trio_case.specs.inner.Named.{MarksNames}
+use Rattle.trio_case.proofs.Words.{◌≡◌, MarksNames, [], drop, entries_kept, flat_map, length, repeated_name, take}
 use Rattle.trio_case.proofs.names.repeated_name.Given as goal
 
 abbrev pub invariant-loop-block : goal.invariant-loop-block

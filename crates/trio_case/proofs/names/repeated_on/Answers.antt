@@ -1,7 +1,4 @@
-use Rattle.std.proofs.Common.{◌≡◌, ◌∙◌, ◌+◌, ◌++◌, get_or, length, map, take, ap, sym, subst, true, arith}
-use Rattle.std.proofs.lemmas.List.{length-set, take_all}
-use Rattle.trio_case.specs.Reading.{listed_seen}
-use Rattle.trio_case.specs.inner.Named.{MarksNames}
+use Rattle.trio_case.proofs.Words.{◌++◌, ◌+◌, ◌∙◌, ◌≡◌, MarksNames, ap, arith, get_or, length, length-set, listed_seen, map, subst, sym, take, take_all, true}
 use Rattle.trio_case.proofs.Naming.{blank, comes_again, goes_on, is_in, marks_on, stands}
 use Rattle.trio_case.proofs.names.repeated_on.Goals as goal
 

@@ -1,7 +1,4 @@
-use Rattle.std.proofs.Common.{◌≡◌, ℕ, ◌++◌, List, length, map, take, drop}
-use Rattle.trio_layout.specs.Entries.{Listed, repeated_name}
-use Rattle.trio_case.specs.Reading.{listed_seen, AreNamed}
-use Rattle.trio_case.specs.inner.Named.{MarksNames}
+use Rattle.trio_case.proofs.Words.{◌++◌, ◌≡◌, AreNamed, List, Listed, MarksNames, drop, length, listed_seen, map, repeated_name, take, ℕ}
 use Rattle.trio_case.proofs.names.repeated_on.Given as goal
 
 abbrev pub invariant-loop-listed : goal.invariant-loop-listed

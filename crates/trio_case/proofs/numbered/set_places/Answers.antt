@@ -1,5 +1,4 @@
-use Rattle.std.proofs.Common.{arith}
-use Rattle.std.proofs.lemmas.Option.{slice_get-get_or}
+use Rattle.trio_case.proofs.Words.{arith, slice_get-get_or}
 use Rattle.trio_case.proofs.Counted.{counted_more, numbers_more}
 use Rattle.trio_case.proofs.numbered.set_places.Goals as goal
 

@@ -1,6 +1,4 @@
-use Rattle.std.proofs.Common.{◌≡◌, ◌≤◌, take, vec_len}
-use Rattle.std.specs.Prelude.{vec_capacity}
-use Rattle.trio_case.specs.inner.Numbered.{AreCounted, counted_numbers}
+use Rattle.trio_case.proofs.Words.{◌≡◌, ◌≤◌, AreCounted, counted_numbers, take, vec_capacity, vec_len}
 use Rattle.trio_case.proofs.numbered.set_places.Given as goal
 
 abbrev pub invariant-loop-at : goal.invariant-loop-at

@@ -1,6 +1,4 @@
-use Rattle.std.proofs.Common.{rules}
-use Rattle.std.proofs.lemmas.List.Sorted.{IsNonDecreasingBy-from_sort, answers_always}
-use Rattle.trio_case.specs.declared.numbered.NumberPlace.{NumberPlace}
+use Rattle.trio_case.proofs.Words.{IsNonDecreasingBy-from_sort, NumberPlace, answers_always, rules}
 use Rattle.trio_case.proofs.Unstable.{permuted_in, sorted_numbers}
 use Rattle.trio_case.proofs.numbered.sort_places.Goals as goal
 

@@ -1,7 +1,4 @@
-use Rattle.std.proofs.Common.{◌≡◌, false, sym, arith}
-use Rattle.std.specs.List.{list_any}
-use Rattle.trio_case.specs.inner.Maps.{rows_seen}
-use Rattle.trio_case.specs.Memory.{is_directory}
+use Rattle.trio_case.proofs.Words.{◌≡◌, arith, false, is_directory, list_any, rows_seen, sym}
 use Rattle.trio_case.proofs.CaseRows.{own_copied}
 use Rattle.trio_case.proofs.CopiedCount.{most_of}
 use Rattle.trio_case.proofs.numbers.copy_rows.Goals as goal

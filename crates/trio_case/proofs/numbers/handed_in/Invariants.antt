@@ -1,5 +1,4 @@
-use Rattle.std.proofs.Common.{◌≡◌, length, map, take, vec_len}
-use Rattle.trio_case.specs.inner.Numbered.{HasNumberPlaces}
+use Rattle.trio_case.proofs.Words.{◌≡◌, HasNumberPlaces, length, map, take, vec_len}
 use Rattle.trio_case.proofs.numbers.handed_in.Given as goal
 
 abbrev pub invariant-loop-ino : goal.invariant-loop-ino

@@ -1,9 +1,4 @@
-use Rattle.std.proofs.Common.{◌≡◌, ◌<◌, ℕ}
-use Rattle.trio_rights.specs.Row.{row_in}
-use Rattle.trio_lease.specs.Bundles.{Bundled}
-use Rattle.trio_lease.specs.Views.{bundle_in}
-use Rattle.trio_layout.specs.Copied.{copied_row}
-use Rattle.trio_case.specs.inner.Maps.{row_kept, Tells}
+use Rattle.trio_case.proofs.Words.{◌<◌, ◌≡◌, Bundled, Tells, bundle_in, copied_row, row_in, row_kept, ℕ}
 use Rattle.trio_case.proofs.numbers.is_copied.Given as goal
 
 -- the rows so far

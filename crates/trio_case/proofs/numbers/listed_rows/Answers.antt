@@ -1,6 +1,4 @@
-use Rattle.std.proofs.Common.{◌∙◌, ◌<◌, ◌≤◌, length, ap, sym, arith}
-use Rattle.trio_lease.specs.Views.{bundle_in}
-use Rattle.trio_layout.specs.Copied.{copied_row}
+use Rattle.trio_case.proofs.Words.{◌<◌, ◌∙◌, ◌≤◌, ap, arith, bundle_in, copied_row, length, sym}
 use Rattle.trio_case.proofs.CaseRows.{copied_if}
 use Rattle.trio_case.proofs.Copying.{all_listed, listed_more, listed_skip, place_next}
 use Rattle.trio_case.proofs.numbers.listed_rows.Goals as goal

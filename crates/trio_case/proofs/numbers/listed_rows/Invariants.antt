@@ -1,6 +1,4 @@
-use Rattle.std.proofs.Common.{◌≤◌}
-use Rattle.std.specs.Prelude.{vec_capacity}
-use Rattle.trio_case.specs.inner.Maps.{most_copied}
+use Rattle.trio_case.proofs.Words.{◌≤◌, most_copied, vec_capacity}
 use Rattle.trio_case.proofs.Copying.{AreListed}
 use Rattle.trio_case.proofs.numbers.listed_rows.Given as goal
 

@@ -1,7 +1,4 @@
-use Rattle.std.proofs.Common.{◌≡◌, ◌+◌, ◌≤◌, ◌++◌, length, map, take, vec_len}
-use Rattle.std.specs.Prelude.{vec_capacity}
-use Rattle.trio_rights.specs.Row.{row_in}
-use Rattle.trio_case.specs.inner.Maps.{rows_seen}
+use Rattle.trio_case.proofs.Words.{◌++◌, ◌+◌, ◌≡◌, ◌≤◌, length, map, row_in, rows_seen, take, vec_capacity, vec_len}
 use Rattle.trio_case.proofs.numbers.own_rows.Given as goal
 
 abbrev pub invariant-loop-lease : goal.invariant-loop-lease

@@ -1,6 +1,4 @@
-use Rattle.std.proofs.Common.{◌≡◌, ◌∙◌, ◌+◌, None, Some, length, ap, sym, arith}
-use Rattle.std.specs.Option.{option_map}
-use Rattle.trio_case.specs.Order.{place_of}
+use Rattle.trio_case.proofs.Words.{◌+◌, ◌∙◌, ◌≡◌, None, Some, ap, arith, length, option_map, place_of, sym}
 use Rattle.trio_case.proofs.Counted.{place_left, place_right, place_within}
 use Rattle.trio_case.proofs.numbers.place_in_both.Goals as goal
 

@@ -1,4 +1,4 @@
-use Rattle.std.proofs.Common.{◌≡◌, ◌++◌, take}
+use Rattle.trio_checkpoint.proofs.Words.{◌++◌, ◌≡◌, take}
 use Rattle.trio_checkpoint.proofs.chain.add_numbers.Given as goal
 
 abbrev pub invariant-loop-i : goal.invariant-loop-i

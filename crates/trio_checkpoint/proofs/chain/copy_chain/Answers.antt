@@ -1,7 +1,4 @@
-use Rattle.std.proofs.Common.{◌≡◌, ◌-◌, ◌∙◌, Some, None, IsSome, ap, sym, get_or, arith}
-use Rattle.trio_layout.specs.Core.{page_of}
-use Rattle.trio_layout.specs.Chain.{chain_of}
-use Rattle.trio_checkpoint.specs.Covered.{core_of}
+use Rattle.trio_checkpoint.proofs.Words.{◌-◌, ◌∙◌, ◌≡◌, IsSome, None, Some, ap, arith, chain_of, core_of, get_or, page_of, sym}
 use Rattle.trio_checkpoint.proofs.Chains.{page_is_there, one_index_more, index_is_there}
 use Rattle.trio_checkpoint.proofs.Copies.{at_its_number, one_copy_more, one_more_there}
 use Rattle.trio_checkpoint.proofs.chain.copy_chain.Goals as goal

@@ -1,8 +1,4 @@
-use Rattle.std.proofs.Common.{◌≡◌, ◌≤◌, IsTrue}
-use Rattle.trio_layout.specs.Chain.{chain_of}
-use Rattle.trio_lists.specs.Lists.{result_map}
-use Rattle.trio_checkpoint.specs.Covered.{are_there, core_of}
-use Rattle.trio_checkpoint.specs.inner.Steps.{AreCopies}
+use Rattle.trio_checkpoint.proofs.Words.{◌≡◌, ◌≤◌, AreCopies, IsTrue, are_there, chain_of, core_of, result_map}
 use Rattle.trio_checkpoint.proofs.Chains.{after, rest_of}
 use Rattle.trio_checkpoint.proofs.chain.copy_chain.Given as goal
 

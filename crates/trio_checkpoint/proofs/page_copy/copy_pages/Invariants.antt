@@ -1,5 +1,4 @@
-use Rattle.std.proofs.Common.{◌≡◌, ◌≤◌, take}
-use Rattle.trio_checkpoint.specs.inner.Steps.{AreCopies}
+use Rattle.trio_checkpoint.proofs.Words.{◌≡◌, ◌≤◌, AreCopies, take}
 use Rattle.trio_checkpoint.proofs.page_copy.copy_pages.Given as goal
 
 abbrev pub invariant-loop-number : goal.invariant-loop-number

@@ -1,7 +1,5 @@
-use Rattle.std.proofs.Common.{◌≡◌, IsTrue, length}
+use Rattle.trio_checkpoint.proofs.Words.{◌≡◌, IsTrue, all_below, length, sheet_numbers, with_pages}
 use Rattle.std.specs.Vec.Iter.{into_iter_items}
-use Rattle.trio_lists.specs.Marked.{all_below}
-use Rattle.trio_rights.specs.Sheets.{sheet_numbers, with_pages}
 use Rattle.trio_checkpoint.proofs.page_copy.put_all_back.Given as goal
 
 abbrev pub invariant-loop-copy : goal.invariant-loop-copy

@@ -1,6 +1,5 @@
-use Rattle.std.proofs.Common.{arith}
+use Rattle.trio_checkpoint.proofs.Words.{arith, renewed}
 use Rattle.std.proofs.lemmas.List.Edits.{map_over_more}
-use Rattle.trio_checkpoint.specs.Covered.{renewed}
 use Rattle.trio_checkpoint.proofs.page_copy.renew_all.Goals as goal
 
 pub loop-copy-preserved : goal.loop-copy-preserved

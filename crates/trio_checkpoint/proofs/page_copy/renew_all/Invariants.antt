@@ -1,5 +1,5 @@
-use Rattle.std.proofs.Common.{◌≡◌, ◌++◌, map, take, drop}
-use Rattle.trio_checkpoint.specs.Covered.{renewed}
+use Rattle.trio_checkpoint.proofs.Words.{◌++◌, ◌≡◌, renewed, take}
+use Rattle.std.proofs.Common.{map, drop}
 use Rattle.trio_checkpoint.proofs.page_copy.renew_all.Given as goal
 
 abbrev pub invariant-loop-copy : goal.invariant-loop-copy

@@ -1,5 +1,4 @@
-use Rattle.std.proofs.Common.{◌∙◌, ap, sym, refl}
-use Rattle.trio_commit.specs.inner.Putting.{looks_for}
+use Rattle.trio_commit.proofs.Words.{◌∙◌, ap, looks_for, refl, sym}
 use Rattle.trio_commit.proofs.Placing.{looks_other, raised_le, set_back}
 use Rattle.trio_commit.proofs.bodies.move_on.Goals as goal
 

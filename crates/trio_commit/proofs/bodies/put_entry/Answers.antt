@@ -1,7 +1,4 @@
-use Rattle.std.proofs.Common.{ap, sym}
-use Rattle.trio_case.specs.Listed.{entry_seen}
-use Rattle.trio_commit.specs.Bodies.{kept_body}
-use Rattle.trio_commit.specs.inner.Putting.{with_taken}
+use Rattle.trio_commit.proofs.Words.{ap, entry_seen, kept_body, sym, with_taken}
 use Rattle.trio_commit.proofs.Placing.{entry_put}
 use Rattle.trio_commit.proofs.bodies.put_entry.Goals as goal
 

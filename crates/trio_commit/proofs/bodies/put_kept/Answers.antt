@@ -1,7 +1,4 @@
-use Rattle.std.proofs.Common.{◌+◌, None, get_or, map, arith}
-use Rattle.trio_case.specs.Listed.{entry_seen}
-use Rattle.trio_commit.specs.Bodies.{kept_children, page_changes}
-use Rattle.trio_commit.specs.inner.Putting.{taken_number, with_taken}
+use Rattle.trio_commit.proofs.Words.{◌+◌, None, arith, entry_seen, get_or, kept_children, map, page_changes, taken_number, with_taken}
 use Rattle.trio_commit.proofs.Cells.{no_entry}
 use Rattle.trio_commit.proofs.Placing.{entry_In, next_kept, next_looks}
 use Rattle.trio_commit.proofs.bodies.put_kept.Goals as goal

@@ -1,8 +1,5 @@
-use Rattle.std.proofs.Common.{◌≡◌, ◌+◌, ◌≤◌, None, drop, map, take}
-use Rattle.trio_layout.specs.Accept.{with_bodies}
-use Rattle.trio_case.specs.Listed.{entry_seen}
-use Rattle.trio_commit.specs.Bodies.{kept_children, page_changes}
-use Rattle.trio_commit.specs.inner.Putting.{IsAway, taken_number, with_taken}
+use Rattle.trio_commit.proofs.Words.{◌+◌, ◌≡◌, ◌≤◌, None, drop, entry_seen, kept_children, map, page_changes, take, taken_number, with_bodies, with_taken}
+use Rattle.trio_commit.specs.inner.Putting.{IsAway}
 use Rattle.trio_commit.proofs.bodies.put_kept.Given as goal
 
 abbrev pub invariant-loop-entry : goal.invariant-loop-entry

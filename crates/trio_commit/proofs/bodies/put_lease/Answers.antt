@@ -1,8 +1,4 @@
-use Rattle.std.proofs.Common.{◌≡◌, ◌∙◌, ◌==◌, Some, false, ap, sym}
-use Rattle.std.proofs.lemmas.Bool.{ne_eqb}
-use Rattle.trio_lease.specs.Shown.{LentFile}
-use Rattle.trio_rights.specs.Row.{row_in}
-use Rattle.trio_tables.specs.Row.{as_row}
+use Rattle.trio_commit.proofs.Words.{◌==◌, ◌∙◌, ◌≡◌, LentFile, Some, ap, as_row, false, ne_eqb, row_in, sym}
 use Rattle.trio_commit.proofs.Placing.{one_placed}
 use Rattle.trio_commit.proofs.bodies.put_lease.Goals as goal
 

@@ -1,6 +1,5 @@
-use Rattle.std.proofs.Common.{◌∙◌, ap, sym}
+use Rattle.trio_commit.proofs.Words.{◌∙◌, ap, option_map_or, sym}
 use Rattle.std.specs.Prelude.{ℕ, List, Option}
-use Rattle.std.specs.Option.{option_map_or}
 use Rattle.trio_commit.proofs.Placing.{root_found}
 use Rattle.trio_commit.proofs.bodies.put_root.Goals as goal
 

@@ -1,4 +1,4 @@
-use Rattle.std.proofs.Common.{arith}
+use Rattle.trio_commit.proofs.Words.{arith}
 use Rattle.trio_commit.proofs.Placing.{next_home, next_placed}
 use Rattle.trio_commit.proofs.bodies.put_written.Goals as goal
 

@@ -1,4 +1,4 @@
-use Rattle.std.proofs.Common.{◌+◌, ◌≤◌, take}
+use Rattle.trio_commit.proofs.Words.{◌+◌, ◌≤◌, take}
 use Rattle.trio_commit.proofs.Placing.{AreHome}
 use Rattle.trio_commit.proofs.bodies.put_written.Given as goal
 

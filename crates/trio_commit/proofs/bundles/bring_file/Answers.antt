@@ -1,11 +1,5 @@
-use Rattle.std.proofs.Common.{◌≡◌, ◌++◌, ◌∙◌, ap, length, IsTrue, sym, subst}
-use Rattle.trio_lists.specs.Marked.{all_below}
+use Rattle.trio_commit.proofs.Words.{◌++◌, ◌∙◌, ◌≡◌, IsTrue, all_below, ap, below_parts, length, length-with_all, lent_sheets, put_both, sheet_numbers, subst, sym, with_all, with_pages, within_still}
 use Rattle.trio_lease.specs.Shown.{Shown}
-use Rattle.trio_rights.specs.Sheets.{sheet_numbers, with_pages}
-use Rattle.trio_tables.specs.Out.{with_all}
-use Rattle.trio_tables.proofs.OutLemmas.{length-with_all}
-use Rattle.trio_checkpoint.proofs.Restoring.{below_parts, put_both, within_still}
-use Rattle.trio_commit.specs.inner.Files.{lent_sheets}
 use Rattle.trio_commit.proofs.Bringing.{disowned_both}
 use Rattle.trio_commit.proofs.bundles.bring_file.Goals as goal
 

@@ -1,6 +1,4 @@
-use Rattle.std.proofs.Common.{reverse}
-use Rattle.std.specs.List.{flat_map}
-use Rattle.trio_commit.specs.inner.Files.{file_sheets}
+use Rattle.trio_commit.proofs.Words.{file_sheets, flat_map, reverse}
 use Rattle.trio_commit.proofs.Bringing.{front_within, last_first, less_both}
 use Rattle.trio_commit.proofs.bundles.bring_files.Goals as goal
 

@@ -1,6 +1,4 @@
-use Rattle.std.proofs.Common.{reverse, vec_len}
-use Rattle.std.specs.List.{flat_map}
-use Rattle.trio_commit.specs.inner.Files.{file_sheets}
+use Rattle.trio_commit.proofs.Words.{file_sheets, flat_map, reverse, vec_len}
 use Rattle.trio_commit.proofs.Bringing.{LeftBoth}
 use Rattle.trio_commit.proofs.bundles.bring_files.Given as goal
 

@@ -1,8 +1,5 @@
-use Rattle.std.proofs.Common.{◌≡◌, IsTrue, length}
+use Rattle.trio_commit.proofs.Words.{◌≡◌, IsTrue, all_below, length, lent_sheets, sheet_numbers, with_pages}
 use Rattle.std.specs.Vec.Iter.{into_iter_items}
-use Rattle.trio_lists.specs.Marked.{all_below}
-use Rattle.trio_rights.specs.Sheets.{sheet_numbers, with_pages}
-use Rattle.trio_commit.specs.inner.Files.{lent_sheets}
 use Rattle.trio_commit.proofs.bundles.bring_pages.Given as goal
 
 abbrev pub invariant-loop-lent : goal.invariant-loop-lent

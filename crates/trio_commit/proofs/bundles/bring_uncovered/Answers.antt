@@ -1,12 +1,4 @@
-use Rattle.std.proofs.Common.{◌∙◌, ◌<◌, ℕ, Option, List, length, map, IsTrue, ap, sym, subst}
-use Rattle.std.specs.Prelude.{All}
-use Rattle.std.specs.List.{flat_map}
-use Rattle.trio_lists.specs.Marked.{all_below}
-use Rattle.trio_page.specs.Home.{Pages}
-use Rattle.trio_lease.specs.Views.{fresh_sheet}
-use Rattle.trio_rights.specs.Sheets.{Sheet, sheet_numbers, with_pages}
-use Rattle.trio_checkpoint.proofs.Restoring.{below_parts, put_both, within_still}
-use Rattle.trio_commit.specs.inner.Files.{uncovered_sheets}
+use Rattle.trio_commit.proofs.Words.{◌<◌, ◌∙◌, All, IsTrue, List, Option, Pages, Sheet, all_below, ap, below_parts, flat_map, fresh_sheet, length, map, put_both, sheet_numbers, subst, sym, uncovered_sheets, with_pages, within_still, ℕ}
 use Rattle.trio_commit.proofs.Bringing.{All-below, places_of, returned_are, less_within, sheets_are, uncovered_are}
 use Rattle.trio_commit.proofs.Outs.{fresh_is, fresh_numbers}
 use Rattle.trio_commit.proofs.bundles.bring_uncovered.Goals as goal

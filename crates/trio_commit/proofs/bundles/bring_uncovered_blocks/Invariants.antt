@@ -1,6 +1,4 @@
-use Rattle.std.proofs.Common.{reverse, vec_len}
-use Rattle.std.specs.List.{flat_map}
-use Rattle.trio_commit.specs.inner.Files.{uncovered_sheets}
+use Rattle.trio_commit.proofs.Words.{flat_map, reverse, uncovered_sheets, vec_len}
 use Rattle.trio_commit.proofs.Bringing.{Left}
 use Rattle.trio_commit.proofs.bundles.bring_uncovered_blocks.Given as goal
 

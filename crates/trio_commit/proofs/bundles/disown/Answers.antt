@@ -1,6 +1,4 @@
-use Rattle.std.proofs.Common.{◌∙◌, arith}
-use Rattle.trio_rights.specs.Sheets.{sheet_numbers}
-use Rattle.trio_commit.specs.inner.Files.{lent_sheets}
+use Rattle.trio_commit.proofs.Words.{◌∙◌, arith, lent_sheets, sheet_numbers}
 use Rattle.trio_commit.proofs.Cells.{lent_number, next_below, set_next}
 use Rattle.trio_commit.proofs.bundles.disown.Goals as goal
 

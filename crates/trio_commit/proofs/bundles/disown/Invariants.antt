@@ -1,7 +1,4 @@
-use Rattle.std.proofs.Common.{◌≡◌, take}
-use Rattle.trio_rights.specs.Sheets.{sheet_numbers}
-use Rattle.trio_tables.specs.Out.{with_all}
-use Rattle.trio_commit.specs.inner.Files.{lent_sheets}
+use Rattle.trio_commit.proofs.Words.{◌≡◌, lent_sheets, sheet_numbers, take, with_all}
 use Rattle.trio_commit.proofs.bundles.disown.Given as goal
 
 abbrev pub invariant-loop-lent : goal.invariant-loop-lent

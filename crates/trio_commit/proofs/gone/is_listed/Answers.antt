@@ -1,4 +1,5 @@
-use Rattle.std.proofs.Common.{◌∙◌, ap, is_some}
+use Rattle.trio_commit.proofs.Words.{◌∙◌, ap}
+use Rattle.std.proofs.Common.{is_some}
 use Rattle.trio_commit.proofs.Naming.{listed_by_dir}
 use Rattle.trio_commit.proofs.gone.is_listed.Goals as goal
 

@@ -1,5 +1,4 @@
-use Rattle.std.proofs.Common.{◌∙◌, sym, arith}
-use Rattle.std.specs.Prelude.{slice_index}
+use Rattle.trio_commit.proofs.Words.{◌∙◌, arith, slice_index, sym}
 use Rattle.trio_commit.proofs.Cells.{all_stay, freed_all, freed_size, freed_turn}
 use Rattle.trio_commit.proofs.owners.free_gone.Goals as goal
 

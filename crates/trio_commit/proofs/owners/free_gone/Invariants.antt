@@ -1,6 +1,4 @@
-use Rattle.std.proofs.Common.{◌≡◌, ℕ, ◌<◌, ◌≤◌, length}
-use Rattle.std.specs.Prelude.{slice_index}
-use Rattle.trio_commit.specs.inner.Tables.{owner_staying}
+use Rattle.trio_commit.proofs.Words.{◌<◌, ◌≡◌, ◌≤◌, length, owner_staying, slice_index, ℕ}
 use Rattle.trio_commit.proofs.owners.free_gone.Given as goal
 
 abbrev pub invariant-loop-no : goal.invariant-loop-no

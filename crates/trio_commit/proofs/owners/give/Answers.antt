@@ -1,4 +1,4 @@
-use Rattle.std.proofs.Common.{◌∙◌, get_or, refl, arith}
+use Rattle.trio_commit.proofs.Words.{◌∙◌, arith, get_or, refl}
 use Rattle.trio_commit.proofs.Cells.{next_below, set_next}
 use Rattle.trio_commit.proofs.owners.give.Goals as goal
 

@@ -1,5 +1,4 @@
-use Rattle.std.proofs.Common.{◌≡◌, take}
-use Rattle.trio_tables.specs.Out.{with_all}
+use Rattle.trio_commit.proofs.Words.{◌≡◌, take, with_all}
 use Rattle.trio_commit.proofs.owners.give.Given as goal
 
 abbrev pub invariant-loop-page : goal.invariant-loop-page

@@ -1,8 +1,5 @@
-use Rattle.std.proofs.Common.{◌-◌, ◌∙◌, ap, subst, sym, get_or, length, arith}
-use Rattle.trio_layout.specs.Listing.{Listing, ListedFile}
+use Rattle.trio_commit.proofs.Words.{◌-◌, ◌∙◌, HasPagesBelow, ListedFile, Listing, ap, arith, get_or, length, length-with_all, subst, sym}
 use Rattle.trio_lists.proofs.Members.{In-left, In-right}
-use Rattle.trio_tables.proofs.OutLemmas.{length-with_all}
-use Rattle.trio_commit.specs.Listed.{HasPagesBelow}
 use Rattle.trio_commit.proofs.Cells.{file_at, listed_turn, no_file, told_below}
 use Rattle.trio_commit.proofs.owners.give_listed.Goals as goal
 

@@ -1,6 +1,4 @@
-use Rattle.std.proofs.Common.{◌≡◌, ℕ, ◌≤◌, length, drop}
-use Rattle.std.specs.Prelude.{slice_index}
-use Rattle.trio_commit.specs.inner.Tables.{owner_listed}
+use Rattle.trio_commit.proofs.Words.{◌≡◌, ◌≤◌, drop, length, owner_listed, slice_index, ℕ}
 use Rattle.trio_commit.proofs.owners.give_listed.Given as goal
 
 abbrev pub invariant-loop-left : goal.invariant-loop-left

@@ -1,4 +1,4 @@
-use Rattle.std.proofs.Common.{◌∙◌, None, arith}
+use Rattle.trio_commit.proofs.Words.{◌∙◌, None, arith}
 use Rattle.trio_case.specs.declared.listing.ListedFile.{ListedFile}
 use Rattle.trio_commit.proofs.Cells.{set_mapped}
 use Rattle.trio_commit.proofs.restoring.end_grants.Goals as goal

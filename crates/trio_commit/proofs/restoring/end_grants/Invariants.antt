@@ -1,5 +1,4 @@
-use Rattle.std.proofs.Common.{◌≡◌, None, take, map}
-use Rattle.trio_tables.specs.Out.{with_all}
+use Rattle.trio_commit.proofs.Words.{◌≡◌, None, map, take, with_all}
 use Rattle.trio_case.specs.declared.listing.ListedFile.{ListedFile}
 use Rattle.trio_commit.proofs.restoring.end_grants.Given as goal
 

@@ -1,4 +1,4 @@
-use Rattle.std.proofs.Common.{arith}
+use Rattle.trio_commit.proofs.Words.{arith}
 use Rattle.trio_commit.proofs.PutBack.{next_put_back, next_within}
 use Rattle.trio_commit.proofs.restoring.restore_written.Goals as goal
 

@@ -1,5 +1,4 @@
-use Rattle.std.proofs.Common.{take}
-use Rattle.trio_commit.specs.inner.Files.{lease_numbers}
+use Rattle.trio_commit.proofs.Words.{lease_numbers, take}
 use Rattle.trio_commit.proofs.PutBack.{ArePutBack}
 use Rattle.trio_commit.proofs.restoring.restore_written.Given as goal
 

@@ -1,6 +1,4 @@
-use Rattle.std.proofs.Common.{◌∙◌, get_or, subst, arith}
-use Rattle.trio_lists.specs.Lists.{In}
-use Rattle.trio_lists.proofs.Filters.{get_or-In}
+use Rattle.trio_commit.proofs.Words.{◌∙◌, In, arith, get_or, get_or-In, subst}
 use Rattle.trio_commit.proofs.Cells.{all_gone, gone_turn, size_kept}
 use Rattle.trio_commit.proofs.rows.end_gone.Goals as goal
 

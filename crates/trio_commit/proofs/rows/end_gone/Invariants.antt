@@ -1,8 +1,4 @@
-use Rattle.std.proofs.Common.{◌≡◌, ℕ, ◌&&◌, length, take, None}
-use Rattle.std.specs.Prelude.{if◌then◌else◌, not}
-use Rattle.trio_lists.specs.Lists.{is_among}
-use Rattle.trio_rights.specs.Row.{row_in}
-use Rattle.trio_layout.specs.Edges.{is_listed}
+use Rattle.trio_commit.proofs.Words.{if◌then◌else◌, ◌&&◌, ◌≡◌, None, is_among, is_listed, length, not, row_in, take, ℕ}
 use Rattle.trio_commit.proofs.rows.end_gone.Given as goal
 
 abbrev pub invariant-loop-ino : goal.invariant-loop-ino

@@ -1,4 +1,4 @@
-use Rattle.std.proofs.Common.{◌-◌, ◌∙◌, ap, get_or, length, arith, length-set}
+use Rattle.trio_commit.proofs.Words.{◌-◌, ◌∙◌, ap, arith, get_or, length, length-set}
 use Rattle.trio_commit.proofs.Cells.{no_entry, entry_number, moved_turn}
 use Rattle.trio_commit.proofs.rows.move_listed.Goals as goal
 

@@ -1,7 +1,4 @@
-use Rattle.std.proofs.Common.{◌≡◌, ℕ, ◌≤◌, length, drop, map}
-use Rattle.trio_rights.specs.Row.{row_in}
-use Rattle.trio_case.specs.Listed.{entry_seen}
-use Rattle.trio_commit.specs.inner.Tables.{row_moved}
+use Rattle.trio_commit.proofs.Words.{◌≡◌, ◌≤◌, drop, entry_seen, length, map, row_in, row_moved, ℕ}
 use Rattle.trio_commit.proofs.rows.move_listed.Given as goal
 
 abbrev pub invariant-loop-left : goal.invariant-loop-left

@@ -1,4 +1,4 @@
-use Rattle.std.proofs.Common.{◌-◌, ◌∙◌, ap, get_or, length, arith, length-set}
+use Rattle.trio_commit.proofs.Words.{◌-◌, ◌∙◌, ap, arith, get_or, length, length-set}
 use Rattle.trio_commit.proofs.Cells.{no_file, file_number, judged_turn}
 use Rattle.trio_commit.proofs.rows.put_judged.Goals as goal
 

@@ -1,6 +1,4 @@
-use Rattle.std.proofs.Common.{◌≡◌, ℕ, ◌≤◌, length, drop}
-use Rattle.trio_rights.specs.Row.{row_in}
-use Rattle.trio_commit.specs.inner.Tables.{row_judged}
+use Rattle.trio_commit.proofs.Words.{◌≡◌, ◌≤◌, drop, length, row_in, row_judged, ℕ}
 use Rattle.trio_commit.proofs.rows.put_judged.Given as goal
 
 abbrev pub invariant-loop-left : goal.invariant-loop-left

@@ -1,10 +1,4 @@
-use Rattle.std.proofs.Common.{◌==◌, ◌∙◌, List, Option, Some, ap, subst, sym, length}
-use Rattle.std.specs.List.{find}
-use Rattle.std.specs.Option.{option_map_or}
-use Rattle.trio_rights.specs.Row.{Row, row_in}
-use Rattle.trio_layout.specs.Listing.{Listing, ListedFile}
-use Rattle.trio_commit.specs.Listed.{HasNumbersBelow}
-use Rattle.trio_commit.specs.inner.Tables.{row_moved}
+use Rattle.trio_commit.proofs.Words.{◌==◌, ◌∙◌, HasNumbersBelow, List, ListedFile, Listing, Option, Row, Some, ap, find, length, option_map_or, row_in, row_moved, subst, sym}
 use Rattle.trio_commit.proofs.Cells.{entries_within, files_within, judged_same, rows_put}
 use Rattle.trio_commit.proofs.rows.put_rows.Goals as goal
 

@@ -1,4 +1,4 @@
-use Rattle.std.proofs.Common.{refl}
+use Rattle.trio_commit.proofs.Words.{refl}
 use Rattle.trio_commit.proofs.Placing.{body_put}
 use Rattle.trio_commit.proofs.taken_page.put_body_home.Goals as goal
 

@@ -1,4 +1,4 @@
-use Rattle.std.proofs.Common.{ap, reverse, subst, ◌∙◌}
+use Rattle.trio_ctl.proofs.Words.{◌∙◌, ap, reverse, subst}
 use Rattle.std.proofs.lemmas.List.{reverse-reverse}
 use Rattle.trio_ctl.proofs.LeasesBack.{Left, last_back, left_begins, left_given, left_next}
 use Rattle.trio_ctl.proofs.backs.give_back_all.Goals as goal

@@ -1,4 +1,5 @@
-use Rattle.std.proofs.Common.{reverse, vec_len}
+use Rattle.trio_ctl.proofs.Words.{reverse}
+use Rattle.std.proofs.Common.{vec_len}
 use Rattle.trio_ctl.proofs.LeasesBack.{Left}
 use Rattle.trio_ctl.proofs.backs.give_back_all.Given as goal
 

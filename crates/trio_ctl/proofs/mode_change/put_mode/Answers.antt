@@ -1,8 +1,5 @@
-use Rattle.std.proofs.Common.{◌≡◌, None, Some, ap, set-set, sym, ◌∙◌}
-use Rattle.std.specs.Prelude.{slice_index_or, slice_set}
-use Rattle.std.specs.Option.{option_map}
-use Rattle.trio_page.specs.Home.{Pages}
-use Rattle.trio_open.specs.inner.Modes.{with_mode_in}
+use Rattle.trio_ctl.proofs.Words.{◌∙◌, ◌≡◌, None, Pages, Some, ap, option_map, slice_index_or, slice_set, sym, with_mode_in}
+use Rattle.std.proofs.Common.{set-set}
 use Rattle.trio_ctl.proofs.mode_change.put_mode.Goals as goal
 
 pub returns-clause-pages : goal.returns-clause-pages

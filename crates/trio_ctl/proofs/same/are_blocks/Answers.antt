@@ -1,7 +1,5 @@
-use Rattle.std.proofs.Common.{◌≡◌, true, arith, rules}
-use Rattle.trio_entries.specs.Handed.{block_in}
+use Rattle.trio_ctl.proofs.Words.{◌≡◌, arith, block_in, rules, same_more, true}
 use Rattle.trio_ctl.proofs.Sames.{block_at}
-use Rattle.trio_open.proofs.Places.{same_more}
 use Rattle.trio_ctl.proofs.same.are_blocks.Goals as goal
 
 pub loop-i-preserved : goal.loop-i-preserved

@@ -1,5 +1,4 @@
-use Rattle.std.proofs.Common.{◌≡◌, length, map, take}
-use Rattle.trio_entries.specs.Handed.{block_in}
+use Rattle.trio_ctl.proofs.Words.{◌≡◌, block_in, length, map, take}
 use Rattle.trio_ctl.proofs.same.are_blocks.Given as goal
 
 -- the same so far

@@ -1,8 +1,4 @@
-use Rattle.std.proofs.Common.{◌∙◌, ap, map, sym}
-use Rattle.std.proofs.lemmas.Bool.{false≢true}
-use Rattle.trio_lease.specs.Shown.{LentFile}
-use Rattle.trio_nodes.specs.Handed.{head_of}
-use Rattle.trio_entries.specs.Handed.{file_in}
+use Rattle.trio_ctl.proofs.Words.{◌∙◌, LentFile, ap, false≢true, file_in, head_of, map, sym}
 use Rattle.trio_ctl.proofs.SamePages.{same_files}
 use Rattle.trio_ctl.proofs.same.are_files.Goals as goal
 

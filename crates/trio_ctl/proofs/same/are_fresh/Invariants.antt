@@ -1,5 +1,4 @@
-use Rattle.std.proofs.Common.{◌≡◌, length, map, take}
-use Rattle.trio_entries.specs.Handed.{fresh_in}
+use Rattle.trio_ctl.proofs.Words.{◌≡◌, fresh_in, length, map, take}
 use Rattle.trio_ctl.proofs.same.are_fresh.Given as goal
 
 -- the same so far

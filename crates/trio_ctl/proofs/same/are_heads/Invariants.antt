@@ -1,7 +1,4 @@
-use Rattle.std.proofs.Common.{◌≡◌, length, map, take}
-use Rattle.trio_lease.specs.Shown.{LentFile}
-use Rattle.trio_nodes.specs.Handed.{head_of}
-use Rattle.trio_entries.specs.Handed.{file_in}
+use Rattle.trio_ctl.proofs.Words.{◌≡◌, LentFile, file_in, head_of, length, map, take}
 use Rattle.trio_ctl.proofs.same.are_heads.Given as goal
 
 -- the same so far

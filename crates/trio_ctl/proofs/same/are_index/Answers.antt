@@ -1,7 +1,5 @@
-use Rattle.std.proofs.Common.{◌≡◌, true, arith, rules}
-use Rattle.trio_entries.specs.Handed.{index_in}
+use Rattle.trio_ctl.proofs.Words.{◌≡◌, arith, index_in, rules, same_more, true}
 use Rattle.trio_ctl.proofs.Sames.{index_at}
-use Rattle.trio_open.proofs.Places.{same_more}
 use Rattle.trio_ctl.proofs.same.are_index.Goals as goal
 
 pub loop-i-preserved : goal.loop-i-preserved

@@ -1,5 +1,4 @@
-use Rattle.std.proofs.Common.{◌≡◌, length, map, take}
-use Rattle.trio_entries.specs.Handed.{index_in}
+use Rattle.trio_ctl.proofs.Words.{◌≡◌, index_in, length, map, take}
 use Rattle.trio_ctl.proofs.same.are_index.Given as goal
 
 -- the same so far

@@ -1,8 +1,4 @@
-use Rattle.std.proofs.Common.{◌≡◌, ◌↔◌, ◌∙◌, ◌<◌, ◌≤◌, true, List, ap, arith, get_or, length, map, subst}
-use Rattle.std.proofs.lemmas.Bool.{false≢true}
-use Rattle.trio_lease.specs.Shown.{LentFile}
-use Rattle.trio_lease.specs.declared.parts.FreshParts.{FreshParts}
-use Rattle.trio_entries.specs.Handed.{fresh_in}
+use Rattle.trio_ctl.proofs.Words.{◌<◌, ◌↔◌, ◌∙◌, ◌≡◌, ◌≤◌, FreshParts, LentFile, List, ap, arith, false≢true, fresh_in, get_or, length, map, subst, true}
 use Rattle.trio_ctl.proofs.SamePages.{all_behind, not_behind}
 use Rattle.trio_ctl.proofs.same.are_pages.Goals as goal
 

@@ -1,6 +1,4 @@
-use Rattle.std.proofs.Common.{◌≡◌, ◌++◌, take}
-use Rattle.std.specs.List.{flat_map}
-use Rattle.trio_entries.specs.Handed.{file_pages}
+use Rattle.trio_ctl.proofs.Words.{◌++◌, ◌≡◌, file_pages, flat_map, take}
 use Rattle.trio_ctl.proofs.same.are_pages.Given as goal
 
 -- the pages begin with those of the leases so far

@@ -1,5 +1,4 @@
-use Rattle.std.proofs.Common.{◌≡◌, None}
-use Rattle.std.specs.Prelude.{replicate}
+use Rattle.trio_ctl.proofs.Words.{◌≡◌, None, replicate}
 use Rattle.trio_ctl.proofs.start.empty_places.Given as goal
 
 abbrev pub invariant-loop-i : goal.invariant-loop-i

@@ -1,5 +1,4 @@
-use Rattle.std.proofs.Common.{◌≡◌, ◌≤◌, ◌++◌}
-use Rattle.trio_ctl.specs.inner.Pages.{pages_from}
+use Rattle.trio_ctl.proofs.Words.{◌++◌, ◌≡◌, ◌≤◌, pages_from}
 use Rattle.trio_ctl.proofs.stored.add_core_pages.Given as goal
 
 abbrev pub invariant-loop-at : goal.invariant-loop-at

@@ -1,5 +1,4 @@
-use Rattle.std.proofs.Common.{◌≡◌, ◌≤◌, ◌++◌}
-use Rattle.trio_ctl.specs.inner.Pages.{fillings_from}
+use Rattle.trio_ctl.proofs.Words.{◌++◌, ◌≡◌, ◌≤◌, fillings_from}
 use Rattle.trio_ctl.proofs.stored.add_fillings.Given as goal
 
 abbrev pub invariant-loop-at : goal.invariant-loop-at

@@ -1,6 +1,4 @@
-use Rattle.std.proofs.Common.{◌≡◌, ℕ, ◌+◌, ◌-◌, ◌≤◌, ◌<◌, None, length}
-use Rattle.std.specs.Prelude.{slice_index_or}
-use Rattle.trio_ctl.specs.inner.Pages.{page_or}
+use Rattle.trio_ctl.proofs.Words.{◌+◌, ◌-◌, ◌<◌, ◌≡◌, ◌≤◌, None, length, page_or, slice_index_or, ℕ}
 use Rattle.trio_ctl.proofs.stored.move_core_pages.Given as goal
 
 abbrev pub invariant-loop-at : goal.invariant-loop-at

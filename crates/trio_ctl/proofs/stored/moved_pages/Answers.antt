@@ -1,5 +1,4 @@
-use Rattle.std.proofs.Common.{◌-◌, ◌++◌, ap, length, ◌∙◌}
-use Rattle.trio_ctl.specs.inner.Pages.{pages_from}
+use Rattle.trio_ctl.proofs.Words.{◌++◌, ◌-◌, ◌∙◌, ap, length, pages_from}
 use Rattle.trio_ctl.proofs.Moving.{moved_is, places}
 use Rattle.trio_ctl.proofs.stored.moved_pages.Goals as goal
 

@@ -1,11 +1,4 @@
-use Rattle.std.proofs.Common.{◌∙◌, ◌++◌, List, ℕ, ap, arith, length}
-use Rattle.std.specs.List.{flat_map}
-use Rattle.std.proofs.lemmas.List.{take_all}
-use Rattle.trio_nodes.specs.declared.entry.RawFile.{RawFile}
-use Rattle.trio_state.specs.Listed.{blocks_listed_of, blocks_of_kind}
-use Rattle.trio_entries.specs.Handed.{handed_in}
-use Rattle.trio_entries.specs.Telling.{whole_case}
-use Rattle.trio_entries.specs.inner.Placed.{blocks_in}
+use Rattle.trio_entries.proofs.Words.{◌++◌, ◌∙◌, List, RawFile, ap, arith, blocks_in, blocks_listed_of, blocks_of_kind, flat_map, handed_in, length, take_all, whole_case, ℕ}
 use Rattle.trio_entries.proofs.Turns.{files_more, length_more, one_within, told_more}
 use Rattle.trio_entries.proofs.blocks.accepted_blocks.Goals as goal
 

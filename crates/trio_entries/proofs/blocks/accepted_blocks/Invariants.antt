@@ -1,12 +1,4 @@
-use Rattle.std.proofs.Common.{◌≡◌, ◌≤◌, List, Option, length, take}
-use Rattle.std.specs.List.{flat_map}
-use Rattle.std.specs.Vec.{vec_capacity, vec_len}
-use Rattle.trio_rights.specs.Row.{Row}
-use Rattle.trio_nodes.specs.declared.entry.RawFile.{RawFile}
-use Rattle.trio_state.specs.Listed.{blocks_listed_of, blocks_of_kind}
-use Rattle.trio_entries.specs.Handed.{handed_in}
-use Rattle.trio_entries.specs.Telling.{whole_case}
-use Rattle.trio_entries.specs.inner.Placed.{blocks_in}
+use Rattle.trio_entries.proofs.Words.{◌≡◌, ◌≤◌, List, Option, RawFile, Row, blocks_in, blocks_listed_of, blocks_of_kind, flat_map, handed_in, length, take, vec_capacity, vec_len, whole_case}
 use Rattle.trio_entries.proofs.blocks.accepted_blocks.Given as goal
 
 abbrev pub invariant-loop-file : goal.invariant-loop-file

@@ -1,10 +1,4 @@
-use Rattle.std.proofs.Common.{◌∙◌, ◌++◌, ◌∷◌, [], ap, cond, sym}
-use Rattle.std.proofs.lemmas.List.{append-nil, map-append}
-use Rattle.trio_nodes.specs.Told.{block_in}
-use Rattle.trio_state.specs.Listed.{block_told}
-use Rattle.trio_entries.specs.Handed.{handed_in}
-use Rattle.trio_entries.specs.Telling.{whole_case}
-use Rattle.trio_entries.specs.inner.Placed.{blocks_in}
+use Rattle.trio_entries.proofs.Words.{◌++◌, ◌∙◌, ◌∷◌, [], ap, append-nil, block_in, block_told, blocks_in, cond, handed_in, map-append, sym, whole_case}
 use Rattle.trio_entries.proofs.blocks.add_block.Goals as goal
 
 pub returns-then-is_changed-clause-told : goal.returns-then-is_changed-clause-told

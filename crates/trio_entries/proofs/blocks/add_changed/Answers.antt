@@ -1,9 +1,4 @@
-use Rattle.std.proofs.Common.{◌∙◌, ◌++◌, ap, arith, sym}
-use Rattle.std.proofs.lemmas.List.{append-nil, drop_all}
-use Rattle.trio_state.specs.Listed.{changed_blocks}
-use Rattle.trio_entries.specs.Handed.{handed_in}
-use Rattle.trio_entries.specs.Telling.{whole_case}
-use Rattle.trio_entries.specs.inner.Placed.{blocks_in, numbers_of}
+use Rattle.trio_entries.proofs.Words.{◌++◌, ◌∙◌, ap, append-nil, arith, blocks_in, changed_blocks, drop_all, handed_in, numbers_of, sym, whole_case}
 use Rattle.trio_entries.proofs.Turns.{turn}
 use Rattle.trio_entries.proofs.blocks.add_changed.Goals as goal
 

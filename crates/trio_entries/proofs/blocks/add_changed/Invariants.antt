@@ -1,10 +1,4 @@
-use Rattle.std.proofs.Common.{◌≡◌, ◌+◌, ◌≤◌, ◌++◌, List, Option, drop}
-use Rattle.std.specs.Vec.{vec_capacity, vec_len}
-use Rattle.trio_rights.specs.Row.{Row}
-use Rattle.trio_state.specs.Listed.{changed_blocks}
-use Rattle.trio_entries.specs.Handed.{handed_in}
-use Rattle.trio_entries.specs.Telling.{whole_case}
-use Rattle.trio_entries.specs.inner.Placed.{blocks_in, numbers_of}
+use Rattle.trio_entries.proofs.Words.{◌++◌, ◌+◌, ◌≡◌, ◌≤◌, List, Option, Row, blocks_in, changed_blocks, drop, handed_in, numbers_of, vec_capacity, vec_len, whole_case}
 use Rattle.trio_entries.proofs.blocks.add_changed.Given as goal
 
 abbrev pub invariant-loop-i : goal.invariant-loop-i

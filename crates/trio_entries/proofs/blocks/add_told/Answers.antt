@@ -1,9 +1,4 @@
-use Rattle.std.proofs.Common.{◌∙◌, ◌++◌, ap, sym}
-use Rattle.trio_rights.specs.declared.kind.Kind.{Kind}
-use Rattle.trio_state.specs.Listed.{blocks_of_kind}
-use Rattle.trio_entries.specs.Handed.{handed_in}
-use Rattle.trio_entries.specs.Telling.{whole_case}
-use Rattle.trio_entries.specs.inner.Placed.{blocks_in, numbers_of}
+use Rattle.trio_entries.proofs.Words.{◌++◌, ◌∙◌, Kind, ap, blocks_in, blocks_of_kind, handed_in, numbers_of, sym, whole_case}
 use Rattle.trio_entries.proofs.blocks.add_told.Goals as goal
 
 pub returns-in-Regular-clause-told : goal.returns-in-Regular-clause-told

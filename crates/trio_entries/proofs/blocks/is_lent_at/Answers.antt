@@ -1,7 +1,4 @@
-use Rattle.std.proofs.Common.{◌∙◌, [], ap, eqb, false, sym}
-use Rattle.std.specs.Prelude.{slice_get}
-use Rattle.std.specs.Option.{option_map, option_map_or}
-use Rattle.trio_lease.specs.Shown.{LentFile}
+use Rattle.trio_entries.proofs.Words.{◌∙◌, LentFile, [], ap, eqb, false, option_map, option_map_or, slice_get, sym}
 use Rattle.trio_entries.proofs.LentLemmas.{block_number_at, block_numbers, lent_blocks_are}
 use Rattle.trio_entries.proofs.blocks.is_lent_at.Goals as goal
 

@@ -1,6 +1,4 @@
-use Rattle.std.proofs.Common.{◌∙◌, ap, sym, []}
-use Rattle.std.specs.Option.{option_map_or}
-use Rattle.trio_lease.specs.Shown.{LentFile}
+use Rattle.trio_entries.proofs.Words.{◌∙◌, LentFile, [], ap, option_map_or, sym}
 use Rattle.trio_entries.proofs.LentLemmas.{block_numbers, lent_blocks_are}
 use Rattle.trio_entries.proofs.blocks.lent_blocks.Goals as goal
 

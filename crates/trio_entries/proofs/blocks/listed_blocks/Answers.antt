@@ -1,6 +1,4 @@
-use Rattle.std.proofs.Common.{◌∙◌, None, Some, [], ap, sym}
-use Rattle.std.specs.Option.{option_map, option_map_or}
-use Rattle.trio_layout.specs.Listing.{ListedFile}
+use Rattle.trio_entries.proofs.Words.{◌∙◌, ListedFile, None, Some, [], ap, option_map, option_map_or, sym}
 use Rattle.trio_entries.proofs.Finding.{map_or_is, place_within, placed}
 use Rattle.trio_entries.proofs.blocks.listed_blocks.Goals as goal
 

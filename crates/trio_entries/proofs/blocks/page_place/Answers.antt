@@ -1,4 +1,4 @@
-use Rattle.std.proofs.Common.{arith}
+use Rattle.trio_entries.proofs.Words.{arith}
 use Rattle.trio_entries.proofs.FlatPlaces.{page_absent, page_placed}
 use Rattle.trio_entries.proofs.blocks.page_place.Goals as goal
 

@@ -1,12 +1,4 @@
-use Rattle.std.proofs.Common.{◌∙◌, ◌++◌, List, ℕ, ap, arith, length}
-use Rattle.std.specs.List.{flat_map}
-use Rattle.std.proofs.lemmas.List.{take_all}
-use Rattle.trio_lease.specs.Views.{bundle_in}
-use Rattle.trio_nodes.specs.declared.entry.RawFile.{RawFile}
-use Rattle.trio_state.specs.Listed.{lent_blocks, blocks_of_kind}
-use Rattle.trio_entries.specs.Handed.{handed_in}
-use Rattle.trio_entries.specs.Telling.{whole_case}
-use Rattle.trio_entries.specs.inner.Placed.{blocks_in}
+use Rattle.trio_entries.proofs.Words.{◌++◌, ◌∙◌, List, RawFile, ap, arith, blocks_in, blocks_of_kind, bundle_in, flat_map, handed_in, length, lent_blocks, take_all, whole_case, ℕ}
 use Rattle.trio_entries.proofs.Turns.{files_more, length_more, one_within, told_more}
 use Rattle.trio_entries.proofs.blocks.refused_blocks.Goals as goal
 

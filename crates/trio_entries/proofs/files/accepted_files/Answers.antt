@@ -1,10 +1,4 @@
-use Rattle.std.proofs.Common.{◌≡◌, ◌∙◌, ◌++◌, [], List, ap, map}
-use Rattle.std.specs.List.{filter_map}
-use Rattle.trio_lists.specs.Lists.{are_new}
-use Rattle.trio_lease.specs.Views.{bundle_in}
-use Rattle.trio_nodes.specs.declared.entry.RawFile.{RawFile}
-use Rattle.trio_state.specs.Listed.{told_entry, told_gone, told_written}
-use Rattle.trio_entries.specs.Telling.{whole_case}
+use Rattle.trio_entries.proofs.Words.{◌++◌, ◌∙◌, ◌≡◌, List, RawFile, [], ap, are_new, bundle_in, filter_map, map, told_entry, told_gone, told_written, whole_case}
 use Rattle.trio_entries.proofs.ToldOnce.{accepted_once}
 use Rattle.trio_entries.proofs.files.accepted_files.Goals as goal
 

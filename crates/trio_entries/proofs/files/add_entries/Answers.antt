@@ -1,15 +1,6 @@
-use Rattle.std.proofs.Common.{◌∙◌, ◌++◌, List, get_or, ap, subst, arith}
-use Rattle.std.specs.List.{filter_map}
-use Rattle.std.proofs.lemmas.List.{get_or_default, take_all}
-use Rattle.trio_lists.specs.Lists.{In}
-use Rattle.trio_entries.specs.Telling.{whole_case}
+use Rattle.trio_entries.proofs.Words.{◌++◌, ◌∙◌, EntryData, In, In-map, List, ListedEntry, ap, arith, entry_seen, filter_map, get_or, get_or_default, subst, take_all, told_entry, whole_case}
 use Rattle.trio_entries.proofs.EntryLemmas.{no_entry}
 use Rattle.trio_entries.proofs.Adding.{added, filter_map-map, get-In}
-use Rattle.trio_lists.proofs.Members.{In-map}
-use Rattle.trio_layout.specs.Listing.{ListedEntry}
-use Rattle.trio_case.specs.Listed.{entry_seen}
-use Rattle.trio_case.specs.declared.listing.ListedEntry.{ListedEntry as EntryData}
-use Rattle.trio_state.specs.Listed.{told_entry}
 use Rattle.trio_entries.proofs.files.add_entries.Goals as goal
 
 pub told_entry-file-requires-clause-readable : goal.told_entry-file-requires-clause-readable

@@ -1,9 +1,4 @@
-use Rattle.std.proofs.Common.{◌≡◌, ◌+◌, ◌≤◌, ◌++◌, take}
-use Rattle.std.specs.List.{filter_map}
-use Rattle.std.specs.Vec.{vec_capacity, vec_len}
-use Rattle.trio_case.specs.Listed.{entry_seen}
-use Rattle.trio_state.specs.Listed.{told_entry}
-use Rattle.trio_entries.specs.Telling.{whole_case}
+use Rattle.trio_entries.proofs.Words.{◌++◌, ◌+◌, ◌≡◌, ◌≤◌, entry_seen, filter_map, take, told_entry, vec_capacity, vec_len, whole_case}
 use Rattle.trio_entries.proofs.files.add_entries.Given as goal
 
 abbrev pub invariant-loop-entry : goal.invariant-loop-entry

@@ -1,6 +1,4 @@
-use Rattle.std.proofs.Common.{◌∙◌, arith, rules}
-use Rattle.trio_state.specs.Listed.{told_gone}
-use Rattle.trio_entries.specs.Telling.{whole_case}
+use Rattle.trio_entries.proofs.Words.{◌∙◌, arith, rules, told_gone, whole_case}
 use Rattle.trio_entries.proofs.Adding.{added}
 use Rattle.trio_entries.proofs.files.add_gone.Goals as goal
 

@@ -1,8 +1,4 @@
-use Rattle.std.proofs.Common.{◌≡◌, ◌+◌, ◌≤◌, ◌++◌, take}
-use Rattle.std.specs.List.{filter_map}
-use Rattle.std.specs.Vec.{vec_capacity, vec_len}
-use Rattle.trio_state.specs.Listed.{told_gone}
-use Rattle.trio_entries.specs.Telling.{whole_case}
+use Rattle.trio_entries.proofs.Words.{◌++◌, ◌+◌, ◌≡◌, ◌≤◌, filter_map, take, told_gone, vec_capacity, vec_len, whole_case}
 use Rattle.trio_entries.proofs.files.add_gone.Given as goal
 
 abbrev pub invariant-loop-ino : goal.invariant-loop-ino

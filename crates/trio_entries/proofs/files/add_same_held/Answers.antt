@@ -1,11 +1,5 @@
-use Rattle.std.proofs.Common.{◌∙◌, ◌++◌, ap, arith}
-use Rattle.std.specs.List.{filter_map}
-use Rattle.std.proofs.lemmas.List.{take_all}
-use Rattle.trio_entries.specs.Telling.{whole_case}
+use Rattle.trio_entries.proofs.Words.{◌++◌, ◌∙◌, Bundled, HoldParts, ap, arith, filter_map, take_all, told_same, whole_case}
 use Rattle.trio_entries.proofs.Adding.{added, filter_map-map}
-use Rattle.trio_lease.specs.Bundles.{Bundled}
-use Rattle.trio_lease.specs.declared.parts.HoldParts.{HoldParts}
-use Rattle.trio_state.specs.Listed.{told_same}
 use Rattle.trio_entries.proofs.files.add_same_held.Goals as goal
 
 pub loop-hold-preserved : goal.loop-hold-preserved

@@ -1,13 +1,5 @@
-use Rattle.std.proofs.Common.{◌∙◌, ◌++◌, map, ap, arith}
-use Rattle.std.specs.List.{filter_map}
-use Rattle.std.proofs.lemmas.List.{take_all}
-use Rattle.trio_entries.specs.Telling.{whole_case}
+use Rattle.trio_entries.proofs.Words.{◌++◌, ◌∙◌, Bundled, LentFile, Written, ap, arith, filter_map, map, take_all, told_same, whole_case, written_in}
 use Rattle.trio_entries.proofs.Adding.{added, filter_map-map}
-use Rattle.trio_lease.specs.Bundles.{Bundled}
-use Rattle.trio_lease.specs.Shown.{LentFile}
-use Rattle.trio_lease.specs.Views.{written_in}
-use Rattle.trio_rights.specs.Bundle.{Written}
-use Rattle.trio_state.specs.Listed.{told_same}
 use Rattle.trio_entries.proofs.files.add_same_written.Goals as goal
 
 pub loop-lease-preserved : goal.loop-lease-preserved

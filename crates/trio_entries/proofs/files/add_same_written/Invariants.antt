@@ -1,8 +1,4 @@
-use Rattle.std.proofs.Common.{◌≡◌, ◌+◌, ◌≤◌, ◌++◌, take}
-use Rattle.std.specs.List.{filter_map}
-use Rattle.std.specs.Vec.{vec_capacity, vec_len}
-use Rattle.trio_state.specs.Listed.{told_same}
-use Rattle.trio_entries.specs.Telling.{whole_case}
+use Rattle.trio_entries.proofs.Words.{◌++◌, ◌+◌, ◌≡◌, ◌≤◌, filter_map, take, told_same, vec_capacity, vec_len, whole_case}
 use Rattle.trio_entries.proofs.files.add_same_written.Given as goal
 
 abbrev pub invariant-loop-lease : goal.invariant-loop-lease

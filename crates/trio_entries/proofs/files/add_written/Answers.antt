@@ -1,13 +1,5 @@
-use Rattle.std.proofs.Common.{◌≡◌, ◌∙◌, ◌++◌, List, sym, ap, subst, arith}
-use Rattle.std.specs.List.{filter_map}
-use Rattle.std.proofs.lemmas.List.{take_all}
-use Rattle.trio_lists.specs.Lists.{In}
-use Rattle.trio_entries.specs.Telling.{whole_case}
+use Rattle.trio_entries.proofs.Words.{◌++◌, ◌∙◌, ◌≡◌, Bundled, In, LentFile, List, ap, arith, filter_map, subst, sym, take_all, told_written, whole_case, written_in}
 use Rattle.trio_entries.proofs.Adding.{added, filter_map-map, get-In}
-use Rattle.trio_lease.specs.Bundles.{Bundled}
-use Rattle.trio_lease.specs.Shown.{LentFile}
-use Rattle.trio_lease.specs.Views.{written_in}
-use Rattle.trio_state.specs.Listed.{told_written}
 use Rattle.trio_entries.proofs.files.add_written.Goals as goal
 
 pub told_written-file-requires-clause-noted : goal.told_written-file-requires-clause-noted

@@ -1,9 +1,4 @@
-use Rattle.std.proofs.Common.{◌≡◌, ◌+◌, ◌≤◌, ◌++◌, take}
-use Rattle.std.specs.List.{filter_map}
-use Rattle.std.specs.Vec.{vec_capacity, vec_len}
-use Rattle.trio_lease.specs.Views.{written_in}
-use Rattle.trio_state.specs.Listed.{told_written}
-use Rattle.trio_entries.specs.Telling.{whole_case}
+use Rattle.trio_entries.proofs.Words.{◌++◌, ◌+◌, ◌≡◌, ◌≤◌, filter_map, take, told_written, vec_capacity, vec_len, whole_case, written_in}
 use Rattle.trio_entries.proofs.files.add_written.Given as goal
 
 abbrev pub invariant-loop-lease : goal.invariant-loop-lease

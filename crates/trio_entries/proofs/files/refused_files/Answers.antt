@@ -1,11 +1,4 @@
-use Rattle.std.proofs.Common.{◌∙◌, [], List, ap, map}
-use Rattle.trio_rights.specs.Bundle.{Written}
-use Rattle.trio_lists.specs.Lists.{are_new}
-use Rattle.trio_lists.specs.Sorting.{sorted_by}
-use Rattle.trio_lease.specs.Views.{bundle_in}
-use Rattle.trio_nodes.specs.declared.entry.RawFile.{RawFile}
-use Rattle.trio_state.specs.Listed.{told_same}
-use Rattle.trio_entries.specs.Telling.{whole_case}
+use Rattle.trio_entries.proofs.Words.{◌∙◌, List, RawFile, Written, [], ap, are_new, bundle_in, map, sorted_by, told_same, whole_case}
 use Rattle.trio_entries.proofs.Adding.{both_told}
 use Rattle.trio_entries.proofs.ToldOnce.{refused_once}
 use Rattle.trio_entries.proofs.files.refused_files.Goals as goal

@@ -1,8 +1,5 @@
-use Rattle.std.proofs.Common.{◌∙◌, [], List, ap, map, rules}
-use Rattle.std.proofs.lemmas.List.Sorted.{IsNonDecreasingBy-from_sort, answers_always}
-use Rattle.trio_lists.specs.Lists.{are_new}
-use Rattle.trio_lists.proofs.Sorting.{sorted_new}
-use Rattle.trio_nodes.specs.declared.entry.RawFile.{RawFile}
+use Rattle.trio_entries.proofs.Words.{◌∙◌, IsNonDecreasingBy-from_sort, List, RawFile, [], ap, are_new, map, rules, sorted_new}
+use Rattle.std.proofs.lemmas.List.Sorted.{answers_always}
 use Rattle.trio_entries.proofs.OneOrder.{one_order}
 use Rattle.trio_entries.proofs.files.sort_files.Goals as goal
 

@@ -1,7 +1,4 @@
-use Rattle.std.proofs.Common.{◌≡◌, ◌+◌, ◌≤◌, ℕ, ◌||◌, take}
-use Rattle.std.specs.Vec.{vec_capacity, vec_len}
-use Rattle.trio_lists.specs.Lists.{is_among}
-use Rattle.trio_entries.specs.inner.Finding.{has_mark}
+use Rattle.trio_entries.proofs.Words.{◌+◌, ◌||◌, ◌≡◌, ◌≤◌, has_mark, is_among, take, vec_capacity, vec_len, ℕ}
 use Rattle.trio_entries.proofs.finder.add_marked.Given as goal
 
 abbrev pub invariant-loop-page : goal.invariant-loop-page

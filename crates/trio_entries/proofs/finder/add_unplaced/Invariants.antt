@@ -1,5 +1,4 @@
-use Rattle.std.proofs.Common.{◌≡◌, ◌++◌, None, replicate}
-use Rattle.std.specs.Vec.{vec_capacity}
+use Rattle.trio_entries.proofs.Words.{◌++◌, ◌≡◌, None, replicate, vec_capacity}
 use Rattle.trio_entries.proofs.finder.add_unplaced.Given as goal
 
 abbrev pub invariant-loop : goal.invariant-loop

@@ -1,8 +1,4 @@
-use Rattle.std.proofs.Common.{◌∙◌, None, ap, sym}
-use Rattle.std.specs.Prelude.{slice_get}
-use Rattle.std.specs.Option.{option_and_then, option_map}
-use Rattle.trio_layout.specs.Listing.{ListedFile}
-use Rattle.trio_tables.specs.Row.{as_row}
+use Rattle.trio_entries.proofs.Words.{◌∙◌, ListedFile, None, ap, as_row, option_and_then, option_map, slice_get, sym}
 use Rattle.trio_case.specs.declared.listing.ListedFile.{ListedFile as FileData}
 use Rattle.trio_entries.proofs.FileLemmas.{row_found}
 use Rattle.trio_entries.proofs.Finding.{placed}

@@ -1,6 +1,4 @@
-use Rattle.std.proofs.Common.{◌∙◌, None, Some, map, sym}
-use Rattle.trio_lease.specs.Shown.{LentFile}
-use Rattle.trio_lease.specs.declared.parts.InoParts.{InoParts}
+use Rattle.trio_entries.proofs.Words.{◌∙◌, InoParts, LentFile, None, Some, map, sym}
 use Rattle.trio_entries.proofs.Finding.{more_placed}
 use Rattle.trio_entries.proofs.finder.lease_on.Goals as goal
 

@@ -1,6 +1,5 @@
-use Rattle.std.proofs.Common.{◌∙◌, length}
+use Rattle.trio_entries.proofs.Words.{◌∙◌, length, own_numbers}
 use Rattle.trio_case.specs.declared.listing.ListedFile.{ListedFile}
-use Rattle.trio_entries.specs.inner.Finding.{own_numbers}
 use Rattle.trio_entries.proofs.Finding.{or_turn, place_more_by, unnoted_length}
 use Rattle.trio_entries.proofs.finder.place_judged.Goals as goal
 

@@ -1,8 +1,6 @@
-use Rattle.std.proofs.Common.{◌≡◌, ℕ, length, map, take}
-use Rattle.trio_lists.specs.Lists.{In}
-use Rattle.trio_case.specs.Order.{place_of}
+use Rattle.trio_entries.proofs.Words.{◌≡◌, In, length, map, own_numbers, place_of, take, ℕ}
 use Rattle.trio_case.specs.declared.listing.ListedFile.{ListedFile}
-use Rattle.trio_entries.specs.inner.Finding.{judged_place, own_numbers}
+use Rattle.trio_entries.specs.inner.Finding.{judged_place}
 use Rattle.trio_entries.proofs.finder.place_judged.Given as goal
 
 abbrev pub invariant-loop-at : goal.invariant-loop-at

@@ -1,8 +1,5 @@
-use Rattle.std.proofs.Common.{◌∙◌, Option, List, ℕ, None, ap, refl, sym}
+use Rattle.trio_entries.proofs.Words.{◌∙◌, List, None, Option, ap, option_and_then, own_numbers, place_of, refl, sym, ℕ}
 use Rattle.std.specs.Prelude.{slice_index_or}
-use Rattle.std.specs.Option.{option_and_then}
-use Rattle.trio_case.specs.Order.{place_of}
-use Rattle.trio_entries.specs.inner.Finding.{own_numbers}
 use Rattle.trio_entries.proofs.Finding.{noted_more, noted_none}
 use Rattle.trio_entries.proofs.finder.place_one.Goals as goal
 

@@ -1,10 +1,5 @@
-use Rattle.std.proofs.Common.{◌≡◌, ◌+◌, ◌∙◌, ◌++◌, None, Option, ℕ, ap, arith, length, map, replicate}
-use Rattle.std.proofs.lemmas.List.{length-append, length-map, length-replicate, replicate-append-replicate}
-use Rattle.trio_lease.specs.Bundles.{Bundled}
-use Rattle.trio_lease.specs.Shown.{LentFile}
-use Rattle.trio_lease.specs.declared.parts.InoParts.{InoParts}
-use Rattle.trio_case.specs.Cases.{CaseShown}
-use Rattle.trio_entries.specs.inner.Finding.{own_numbers}
+use Rattle.trio_entries.proofs.Words.{◌++◌, ◌+◌, ◌∙◌, ◌≡◌, Bundled, CaseShown, InoParts, LentFile, None, Option, ap, arith, length, length-append, length-map, length-replicate, map, own_numbers, replicate, ℕ}
+use Rattle.std.proofs.lemmas.List.{replicate-append-replicate}
 use Rattle.trio_entries.proofs.finder.set_unplaced.Goals as goal
 
 own_count : (k : CaseShown) → length (own_numbers k) ≡ length k.bundle.writes + length k.bundle.inodes

@@ -1,4 +1,4 @@
-use Rattle.std.proofs.lemmas.List.Sorted.{IsNonDecreasingBy-from_sort}
+use Rattle.trio_entries.proofs.Words.{IsNonDecreasingBy-from_sort}
 use Rattle.trio_entries.proofs.Finding.{among_moved}
 use Rattle.trio_entries.proofs.finder.sort_numbers.Goals as goal
 

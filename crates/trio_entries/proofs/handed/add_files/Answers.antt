@@ -1,11 +1,4 @@
-use Rattle.std.proofs.Common.{◌≡◌, ◌∙◌, ◌+◌, ◌++◌, ◌∷◌, [], List, ap, append_assoc, arith, drop, length, map, refl, subst, sym, take}
-use Rattle.std.specs.List.{flat_map}
-use Rattle.std.proofs.lemmas.List.{drop_all, length-append}
-use Rattle.trio_lease.specs.Shown.{LentFile}
-use Rattle.trio_nodes.specs.Handed.{head_of}
-use Rattle.trio_nodes.specs.declared.entry.HandedHead.{HandedHead}
-use Rattle.trio_entries.specs.Drafts.{IsRoom}
-use Rattle.trio_entries.specs.Handed.{file_in, file_pages}
+use Rattle.trio_entries.proofs.Words.{◌++◌, ◌+◌, ◌∙◌, ◌∷◌, ◌≡◌, HandedHead, IsRoom, LentFile, List, [], ap, append_assoc, arith, drop, drop_all, file_in, file_pages, flat_map, head_of, length, length-append, map, refl, subst, sym, take}
 use Rattle.trio_entries.proofs.FlatPlaces.{drop_file, mapped_more}
 use Rattle.trio_entries.proofs.Turns.{told_more}
 use Rattle.trio_entries.proofs.handed.add_files.Goals as goal

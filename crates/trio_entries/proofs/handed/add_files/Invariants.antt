@@ -1,10 +1,4 @@
-use Rattle.std.proofs.Common.{◌≡◌, ℕ, ◌+◌, ◌++◌, length, map, take, drop}
-use Rattle.std.specs.List.{flat_map}
-use Rattle.std.specs.Vec.{vec_capacity}
-use Rattle.trio_lease.specs.Shown.{LentFile}
-use Rattle.trio_nodes.specs.Handed.{head_of}
-use Rattle.trio_entries.specs.Drafts.{IsRoom}
-use Rattle.trio_entries.specs.Handed.{file_in, file_pages}
+use Rattle.trio_entries.proofs.Words.{◌++◌, ◌+◌, ◌≡◌, IsRoom, LentFile, drop, file_in, file_pages, flat_map, head_of, length, map, take, vec_capacity, ℕ}
 use Rattle.trio_entries.proofs.handed.add_files.Given as goal
 
 abbrev pub invariant-loop-lease : goal.invariant-loop-lease

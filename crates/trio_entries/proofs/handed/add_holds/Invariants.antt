@@ -1,6 +1,4 @@
-use Rattle.std.proofs.Common.{◌≡◌, map, take}
-use Rattle.std.specs.Vec.{vec_capacity}
-use Rattle.trio_lease.specs.declared.parts.HoldParts.{HoldParts}
+use Rattle.trio_entries.proofs.Words.{◌≡◌, HoldParts, map, take, vec_capacity}
 use Rattle.trio_entries.proofs.handed.add_holds.Given as goal
 
 abbrev pub invariant-loop-hold : goal.invariant-loop-hold

@@ -1,6 +1,4 @@
-use Rattle.std.proofs.Common.{◌≡◌, map, take}
-use Rattle.std.specs.Vec.{vec_capacity}
-use Rattle.trio_lease.specs.declared.parts.InoParts.{InoParts}
+use Rattle.trio_entries.proofs.Words.{◌≡◌, InoParts, map, take, vec_capacity}
 use Rattle.trio_entries.proofs.handed.add_numbers.Given as goal
 
 abbrev pub invariant-loop-ino : goal.invariant-loop-ino

@@ -1,6 +1,4 @@
-use Rattle.std.proofs.Common.{◌∙◌, ◌++◌, ◌∷◌, [], ap, append_assoc, arith, sym, take}
-use Rattle.std.specs.Vec.{vec_capacity}
-use Rattle.trio_entries.specs.inner.Sources.{numbers_in}
+use Rattle.trio_entries.proofs.Words.{◌++◌, ◌∙◌, ◌∷◌, [], ap, append_assoc, arith, numbers_in, sym, take, vec_capacity}
 use Rattle.trio_entries.proofs.Turns.{at_end, take_one}
 use Rattle.trio_entries.proofs.outline.add_all.Goals as goal
 use Rattle.trio_entries.proofs.outline.add_all.Goals.{in-Some, in_default}

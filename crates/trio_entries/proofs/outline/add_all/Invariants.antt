@@ -1,6 +1,4 @@
-use Rattle.std.proofs.Common.{◌≡◌, ◌++◌, take}
-use Rattle.std.specs.Vec.{vec_capacity}
-use Rattle.trio_entries.specs.inner.Sources.{numbers_in}
+use Rattle.trio_entries.proofs.Words.{◌++◌, ◌≡◌, numbers_in, take, vec_capacity}
 use Rattle.trio_entries.proofs.outline.add_all.Given as goal
 
 -- the numbers so far

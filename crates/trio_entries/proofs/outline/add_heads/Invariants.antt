@@ -1,7 +1,4 @@
-use Rattle.std.proofs.Common.{◌≡◌, map, take}
-use Rattle.std.specs.Vec.{vec_capacity}
-use Rattle.trio_lease.specs.Shown.{LentFile}
-use Rattle.trio_entries.specs.inner.Outlined.{head_in}
+use Rattle.trio_entries.proofs.Words.{◌≡◌, LentFile, head_in, map, take, vec_capacity}
 use Rattle.trio_entries.proofs.outline.add_heads.Given as goal
 
 abbrev pub invariant-loop-lease : goal.invariant-loop-lease

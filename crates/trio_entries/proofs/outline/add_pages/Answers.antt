@@ -1,11 +1,4 @@
-use Rattle.std.proofs.Common.{◌≡◌, ◌∙◌, ◌++◌, ◌<◌, ◌≤◌, List, ap, append_assoc, arith, get_or, length, map, sym, take}
-use Rattle.std.specs.List.{flat_map}
-use Rattle.std.proofs.lemmas.List.{length-append, length-map, take_all}
-use Rattle.trio_lease.specs.Shown.{LentFile}
-use Rattle.trio_lease.specs.declared.parts.FreshParts.{FreshParts}
-use Rattle.trio_lease.specs.declared.parts.LentPage.{LentPage}
-use Rattle.trio_case.proofs.Making.{bundle_length, bundle_numbers}
-use Rattle.trio_entries.specs.inner.Sources.{file_numbers}
+use Rattle.trio_entries.proofs.Words.{◌++◌, ◌<◌, ◌∙◌, ◌≡◌, ◌≤◌, FreshParts, LentFile, LentPage, List, ap, append_assoc, arith, bundle_length, bundle_numbers, file_numbers, flat_map, get_or, length, length-append, length-map, map, sym, take, take_all}
 use Rattle.trio_entries.proofs.Turns.{files_more, told_more}
 use Rattle.trio_entries.proofs.outline.add_pages.Goals as goal
 

@@ -1,7 +1,4 @@
-use Rattle.std.proofs.Common.{◌≡◌, take}
-use Rattle.std.specs.List.{flat_map}
-use Rattle.std.specs.Vec.{vec_capacity}
-use Rattle.trio_entries.specs.inner.Sources.{file_numbers}
+use Rattle.trio_entries.proofs.Words.{◌≡◌, file_numbers, flat_map, take, vec_capacity}
 use Rattle.trio_entries.proofs.outline.add_pages.Given as goal
 
 -- the numbers of the pages of the leases so far

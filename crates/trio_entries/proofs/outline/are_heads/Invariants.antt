@@ -1,6 +1,4 @@
-use Rattle.std.proofs.Common.{◌≡◌, length, map, take}
-use Rattle.trio_lease.specs.Shown.{LentFile}
-use Rattle.trio_entries.specs.inner.Outlined.{head_in}
+use Rattle.trio_entries.proofs.Words.{◌≡◌, LentFile, head_in, length, map, take}
 use Rattle.trio_entries.proofs.outline.are_heads.Given as goal
 
 -- the same so far

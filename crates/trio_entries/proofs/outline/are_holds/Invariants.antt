@@ -1,5 +1,4 @@
-use Rattle.std.proofs.Common.{◌≡◌, length, map, take}
-use Rattle.trio_lease.specs.declared.parts.HoldParts.{HoldParts}
+use Rattle.trio_entries.proofs.Words.{◌≡◌, HoldParts, length, map, take}
 use Rattle.trio_entries.proofs.outline.are_holds.Given as goal
 
 -- the same so far

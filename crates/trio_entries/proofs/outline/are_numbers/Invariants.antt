@@ -1,5 +1,4 @@
-use Rattle.std.proofs.Common.{◌≡◌, length, map, take}
-use Rattle.trio_lease.specs.declared.parts.InoParts.{InoParts}
+use Rattle.trio_entries.proofs.Words.{◌≡◌, InoParts, length, map, take}
 use Rattle.trio_entries.proofs.outline.are_numbers.Given as goal
 
 -- the same so far

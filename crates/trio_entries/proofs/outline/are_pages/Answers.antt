@@ -1,7 +1,4 @@
-use Rattle.std.proofs.Common.{◌≡◌, ◌↔◌, ◌∙◌, ◌<◌, ◌≤◌, true, List, ap, arith, get_or, length, map, subst}
-use Rattle.std.proofs.lemmas.Bool.{false≢true}
-use Rattle.trio_lease.specs.Shown.{LentFile}
-use Rattle.trio_lease.specs.declared.parts.FreshParts.{FreshParts}
+use Rattle.trio_entries.proofs.Words.{◌<◌, ◌↔◌, ◌∙◌, ◌≡◌, ◌≤◌, FreshParts, LentFile, List, ap, arith, false≢true, get_or, length, map, subst, true}
 use Rattle.trio_entries.proofs.Outlined.{all_behind, not_behind}
 use Rattle.trio_entries.proofs.outline.are_pages.Goals as goal
 

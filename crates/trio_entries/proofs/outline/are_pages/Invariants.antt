@@ -1,6 +1,4 @@
-use Rattle.std.proofs.Common.{◌≡◌, ◌++◌, take}
-use Rattle.std.specs.List.{flat_map}
-use Rattle.trio_entries.specs.inner.Sources.{file_numbers}
+use Rattle.trio_entries.proofs.Words.{◌++◌, ◌≡◌, file_numbers, flat_map, take}
 use Rattle.trio_entries.proofs.outline.are_pages.Given as goal
 
 -- the numbers begin with those of the leases so far

@@ -1,5 +1,4 @@
-use Rattle.std.proofs.Common.{◌≡◌, length, take}
-use Rattle.trio_entries.specs.inner.Sources.{numbers_in}
+use Rattle.trio_entries.proofs.Words.{◌≡◌, length, numbers_in, take}
 use Rattle.trio_entries.proofs.outline.is_source.Given as goal
 
 -- the same so far

@@ -1,18 +1,5 @@
-use Rattle.std.proofs.Common.{◌∙◌, ◌++◌, List, ℕ, ap, arith, length, map, subst, sym}
-use Rattle.std.specs.List.{flat_map}
-use Rattle.trio_lists.specs.Lists.{In}
-use Rattle.trio_lease.specs.Bundles.{Bundled}
-use Rattle.trio_lease.specs.declared.parts.InoParts.{InoParts}
-use Rattle.trio_layout.specs.Listing.{Listing, ListedFile}
-use Rattle.trio_case.proofs.CaseRows.{writes_of}
-use Rattle.trio_case.specs.Memory.{size_of}
-use Rattle.trio_nodes.specs.Told.{block_in, ToldBundle}
-use Rattle.trio_nodes.specs.Handed.{Handed}
-use Rattle.trio_nodes.specs.declared.entry.RawFile.{RawFile}
-use Rattle.trio_state.specs.Listed.{accepted_blocks, blocks_listed_of}
-use Rattle.trio_entries.specs.Drafts.{HasHandedPlaces}
-use Rattle.trio_entries.specs.Handed.{handed_in}
-use Rattle.trio_entries.specs.Telling.{whole_case}
+use Rattle.trio_entries.proofs.Words.{◌++◌, ◌∙◌, Bundled, Handed, HasHandedPlaces, In, InoParts, List, ListedFile, Listing, RawFile, ToldBundle, ap, arith, block_in, blocks_listed_of, flat_map, handed_in, length, map, size_of, subst, sym, whole_case, writes_of, ℕ}
+use Rattle.trio_state.specs.Listed.{accepted_blocks}
 use Rattle.trio_entries.specs.inner.Finding.{IsMarkedBy}
 use Rattle.trio_entries.proofs.Few.{accepted_few, listed_own}
 use Rattle.trio_entries.proofs.Judged.{told_apart, told_by, written_noted}

@@ -1,6 +1,4 @@
-use Rattle.std.proofs.Common.{arith}
-use Rattle.trio_rights.specs.Bundle.{bundle_pages}
-use Rattle.trio_lease.specs.Views.{bundle_in}
+use Rattle.trio_entries.proofs.Words.{arith, bundle_in, bundle_pages}
 use Rattle.trio_case.proofs.Making.{few_pages}
 use Rattle.trio_entries.proofs.telling.few_pages.Goals as goal
 

@@ -1,15 +1,5 @@
-use Rattle.std.proofs.Common.{◌∙◌, List, ap, arith, length, map, subst, sym}
-use Rattle.std.specs.List.{flat_map}
-use Rattle.trio_lease.specs.Bundles.{Bundled}
-use Rattle.trio_lease.specs.Views.{bundle_in}
-use Rattle.trio_case.specs.Memory.{size_of}
-use Rattle.trio_nodes.specs.Told.{block_in, ToldBundle}
-use Rattle.trio_nodes.specs.Handed.{Handed}
-use Rattle.trio_nodes.specs.declared.entry.RawFile.{RawFile}
-use Rattle.trio_state.specs.Listed.{lent_blocks, refused_blocks}
-use Rattle.trio_entries.specs.Drafts.{HasHandedPlaces}
-use Rattle.trio_entries.specs.Handed.{handed_in}
-use Rattle.trio_entries.specs.Telling.{whole_case}
+use Rattle.trio_entries.proofs.Words.{◌∙◌, Bundled, Handed, HasHandedPlaces, List, RawFile, ToldBundle, ap, arith, block_in, bundle_in, flat_map, handed_in, length, lent_blocks, map, size_of, subst, sym, whole_case}
+use Rattle.trio_state.specs.Listed.{refused_blocks}
 use Rattle.trio_entries.proofs.Few.{refused_few}
 use Rattle.trio_entries.proofs.telling.refused.Goals as goal
 

@@ -1,7 +1,4 @@
-use Rattle.std.proofs.Common.{◌∙◌, ℕ, List, ap, sym}
-use Rattle.std.specs.Option.{option_map}
-use Rattle.trio_lease.specs.Shown.{LentFile}
-use Rattle.trio_state.specs.Listed.{size_in}
+use Rattle.trio_entries.proofs.Words.{◌∙◌, LentFile, List, ap, option_map, size_in, sym, ℕ}
 use Rattle.trio_entries.proofs.FileLemmas.{written_size_is}
 use Rattle.trio_entries.proofs.told.entry_size.Goals as goal
 

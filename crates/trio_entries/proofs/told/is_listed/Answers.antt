@@ -1,5 +1,4 @@
-use Rattle.std.proofs.Common.{ap, ◌∙◌}
-use Rattle.std.specs.Prelude.{is_some}
+use Rattle.trio_entries.proofs.Words.{◌∙◌, ap, is_some}
 use Rattle.trio_entries.proofs.FileLemmas.{listed_by_dir}
 use Rattle.trio_entries.proofs.told.is_listed.Goals as goal
 

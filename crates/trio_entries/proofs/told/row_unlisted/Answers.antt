@@ -1,5 +1,4 @@
-use Rattle.std.proofs.Common.{◌∙◌, None, ap, cond, sym}
-use Rattle.trio_rights.specs.Row.{row_in}
+use Rattle.trio_entries.proofs.Words.{◌∙◌, None, ap, cond, row_in, sym}
 use Rattle.trio_entries.proofs.FileLemmas.{after_unlisted}
 use Rattle.trio_entries.proofs.told.row_unlisted.Goals as goal
 

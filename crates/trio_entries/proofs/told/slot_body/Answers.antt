@@ -1,4 +1,4 @@
-use Rattle.std.proofs.Common.{◌-◌, ◌∙◌, ap, drop, sym, take}
+use Rattle.trio_entries.proofs.Words.{◌-◌, ◌∙◌, ap, drop, sym, take}
 use Rattle.std.proofs.lemmas.List.{take_rest}
 use Rattle.trio_entries.proofs.told.slot_body.Goals as goal
 

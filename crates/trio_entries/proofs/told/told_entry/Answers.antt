@@ -1,13 +1,5 @@
-use Rattle.std.proofs.Common.{◌∙◌, ℕ, List, Some, ap, cond, drop, sym}
+use Rattle.trio_entries.proofs.Words.{◌∙◌, List, Some, ap, as_row, bundle_in, case_in, cond, drop, entry_seen, is_among, noted_size, size_in, slot_of, sym, whole_case, written_size, ℕ}
 use Rattle.std.specs.Prelude.{unwrap_or}
-use Rattle.trio_lists.specs.Lists.{is_among}
-use Rattle.trio_lease.specs.Views.{bundle_in}
-use Rattle.trio_layout.specs.Slot.{slot_of}
-use Rattle.trio_tables.specs.Row.{as_row}
-use Rattle.trio_case.specs.Cases.{case_in}
-use Rattle.trio_case.specs.Listed.{entry_seen}
-use Rattle.trio_state.specs.Listed.{noted_size, size_in, written_size}
-use Rattle.trio_entries.specs.Telling.{whole_case}
 use Rattle.trio_entries.proofs.EntryLemmas.{name_within, part_named, tells_none, tells_row, untold_by_slot}
 use Rattle.trio_entries.proofs.told.told_entry.Goals as goal
 

@@ -1,5 +1,4 @@
-use Rattle.std.proofs.Common.{◌≡◌}
-use Rattle.trio_gen.specs.Workload.{directories_of}
+use Rattle.trio_gen.proofs.Words.{◌≡◌, directories_of}
 use Rattle.trio_gen.proofs.lines.directories_of.Given as goal
 
 abbrev pub invariant-loop-k : goal.invariant-loop-k

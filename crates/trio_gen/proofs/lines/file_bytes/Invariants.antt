@@ -1,4 +1,4 @@
-use Rattle.std.proofs.Common.{◌≡◌, ◌+◌, ◌%◌}
+use Rattle.trio_gen.proofs.Words.{◌%◌, ◌+◌, ◌≡◌}
 use Rattle.trio_lists.specs.Lists.{tabulated}
 use Rattle.trio_gen.proofs.lines.file_bytes.Given as goal
 

@@ -1,5 +1,4 @@
-use Rattle.std.proofs.Common.{◌≡◌}
-use Rattle.trio_gen.specs.Workload.{library_lines}
+use Rattle.trio_gen.proofs.Words.{◌≡◌, library_lines}
 use Rattle.trio_gen.proofs.lines.library_lines.Given as goal
 
 abbrev pub invariant-loop-j : goal.invariant-loop-j

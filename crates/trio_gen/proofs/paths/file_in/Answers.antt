@@ -1,5 +1,4 @@
-use Rattle.std.proofs.Common.{arith, ◌∙◌}
-use Rattle.trio_gen.specs.Workload.{file_in}
+use Rattle.trio_gen.proofs.Words.{◌∙◌, arith, file_in}
 use Rattle.trio_gen.proofs.PathFacts.{IsPath-file_in}
 use Rattle.trio_gen.proofs.paths.file_in.Goals as goal
 

@@ -1,5 +1,4 @@
-use Rattle.std.proofs.Common.{arith, ◌∙◌}
-use Rattle.trio_gen.specs.Workload.{home}
+use Rattle.trio_gen.proofs.Words.{◌∙◌, arith, home}
 use Rattle.trio_gen.proofs.PathFacts.{IsPath-home}
 use Rattle.trio_gen.proofs.paths.home.Goals as goal
 

@@ -1,5 +1,4 @@
-use Rattle.std.proofs.Common.{arith, ◌∙◌}
-use Rattle.trio_gen.specs.Workload.{part_in}
+use Rattle.trio_gen.proofs.Words.{◌∙◌, arith, part_in}
 use Rattle.trio_gen.proofs.PathFacts.{IsPath-part_in}
 use Rattle.trio_gen.proofs.paths.part_in.Goals as goal
 

@@ -1,5 +1,5 @@
-use Rattle.std.proofs.Common.{◌+◌, arith, ap, length, subst, sym}
-use Rattle.trio_script.specs.Within.{AreWithin}
+use Rattle.trio_gen.proofs.Words.{◌+◌, AreWithin, ap, arith, length, sym}
+use Rattle.std.proofs.Common.{subst}
 use Rattle.trio_gen.proofs.LineFacts.{library_few}
 use Rattle.trio_gen.proofs.Scripts.{files_are_within, files_made, library_put, next_put}
 use Rattle.trio_gen.proofs.script.files_script.Goals as goal

@@ -1,5 +1,4 @@
-use Rattle.std.proofs.Common.{◌≡◌, ◌≤◌, ◌+◌, ◌*◌}
-use Rattle.trio_gen.specs.Workload.{libraries_at, libraries_lines, line_behind}
+use Rattle.trio_gen.proofs.Words.{◌*◌, ◌+◌, ◌≡◌, ◌≤◌, libraries_at, libraries_lines, line_behind}
 use Rattle.trio_gen.proofs.script.files_script.Given as goal
 
 abbrev pub invariant-loop-k : goal.invariant-loop-k

@@ -1,6 +1,5 @@
-use Rattle.std.proofs.Common.{◌≡◌, ◌+◌, ◌++◌, length}
+use Rattle.trio_gen.proofs.Words.{◌++◌, ◌+◌, ◌≡◌, length, numbered}
 use Rattle.std.specs.Vec.Iter.{into_iter_items}
-use Rattle.trio_gen.specs.Workload.{numbered}
 use Rattle.trio_gen.proofs.script.numbered.Given as goal
 
 abbrev pub invariant-loop-line : goal.invariant-loop-line

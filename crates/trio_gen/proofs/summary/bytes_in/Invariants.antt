@@ -1,6 +1,4 @@
-use Rattle.std.proofs.Common.{◌≡◌, ◌≤◌, ◌*◌, ◌^◌, take}
-use Rattle.std.specs.List.{sum_by}
-use Rattle.trio_layout.specs.Tree.{TreeLine}
+use Rattle.trio_gen.proofs.Words.{◌*◌, ◌^◌, ◌≡◌, ◌≤◌, TreeLine, sum_by, take}
 use Rattle.trio_gen.specs.Summary.{size_of}
 use Rattle.trio_gen.proofs.summary.bytes_in.Given as goal
 

@@ -1,7 +1,4 @@
-use Rattle.std.proofs.Common.{arith, ap, sym, ◌∙◌}
-use Rattle.trio_script.specs.declared.honest.HonestLine.{HonestLine}
-use Rattle.trio_script.specs.declared.ScriptLine.{ScriptLine}
-use Rattle.trio_gen.specs.Summary.{is_call}
+use Rattle.trio_gen.proofs.Words.{◌∙◌, HonestLine, ScriptLine, ap, arith, is_call, sym}
 use Rattle.trio_gen.proofs.Summaries.{answers_end, answers_put}
 use Rattle.trio_gen.proofs.summary.push_honest.Goals as goal
 

@@ -1,5 +1,4 @@
-use Rattle.std.proofs.Common.{◌≡◌, ◌++◌, map, take}
-use Rattle.trio_gen.specs.Summary.{answers_where, is_call}
+use Rattle.trio_gen.proofs.Words.{◌++◌, ◌≡◌, answers_where, is_call, map, take}
 use Rattle.trio_gen.proofs.summary.push_honest.Given as goal
 
 abbrev pub invariant-loop-at : goal.invariant-loop-at

@@ -1,4 +1,4 @@
-use Rattle.std.proofs.Common.{◌∙◌}
+use Rattle.trio_gen.proofs.Words.{◌∙◌}
 use Rattle.trio_gen.proofs.Summaries.{calls_put}
 use Rattle.trio_gen.proofs.summary.put_calls.Goals as goal
 

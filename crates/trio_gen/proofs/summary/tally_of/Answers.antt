@@ -1,4 +1,4 @@
-use Rattle.std.proofs.Common.{refl}
+use Rattle.trio_gen.proofs.Words.{refl}
 use Rattle.trio_gen.proofs.Summaries.{tally_is}
 use Rattle.trio_gen.proofs.summary.tally_of.Goals as goal
 

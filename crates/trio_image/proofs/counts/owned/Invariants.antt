@@ -1,5 +1,4 @@
-use Rattle.std.proofs.Common.{◌≡◌, ◌≤◌, take}
-use Rattle.trio_image.specs.Counts.{owned_count}
+use Rattle.trio_image.proofs.Words.{◌≡◌, ◌≤◌, owned_count, take}
 use Rattle.trio_image.proofs.counts.owned.Given as goal
 
 abbrev pub invariant-loop-no : goal.invariant-loop-no

@@ -1,6 +1,4 @@
-use Rattle.std.proofs.Common.{◌≡◌, ◌++◌}
-use Rattle.trio_tables.specs.Stored.{owner_bytes, padded_to_pages}
-use Rattle.trio_image.specs.Front.{table_pages}
+use Rattle.trio_image.proofs.Words.{◌++◌, ◌≡◌, owner_bytes, padded_to_pages, table_pages}
 use Rattle.trio_image.proofs.front.add_owner_pages.Given as goal
 
 abbrev pub invariant-loop-at : goal.invariant-loop-at

@@ -1,6 +1,4 @@
-use Rattle.std.proofs.Common.{◌≡◌, ◌++◌}
-use Rattle.trio_tables.specs.Stored.{padded_to_pages, shadow_bytes}
-use Rattle.trio_image.specs.Front.{table_pages}
+use Rattle.trio_image.proofs.Words.{◌++◌, ◌≡◌, padded_to_pages, shadow_bytes, table_pages}
 use Rattle.trio_image.proofs.front.add_shadow_pages.Given as goal
 
 abbrev pub invariant-loop-at : goal.invariant-loop-at

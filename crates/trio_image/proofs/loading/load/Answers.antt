@@ -1,8 +1,5 @@
-use Rattle.std.proofs.Common.{ap, rules, sym, subst, ◌≤◌, length}
-use Rattle.std.proofs.lemmas.Result.{err_from_is_err_and, IfErr-weaker}
-use Rattle.trio_image.specs.Fault.{IsPagesFault}
-use Rattle.trio_image.specs.Image.{IsWholeImage}
-use Rattle.trio_image.specs.Load.{LoadFails}
+use Rattle.trio_image.proofs.Words.{◌≤◌, IsPagesFault, IsWholeImage, LoadFails, ap, err_from_is_err_and, length, rules, subst, sym}
+use Rattle.std.proofs.lemmas.Result.{IfErr-weaker}
 use Rattle.trio_image.proofs.Loads.{file_count, file_whole, first_page_refused, loaded_if, pages_refused}
 use Rattle.trio_image.proofs.loading.load.Goals as goal
 

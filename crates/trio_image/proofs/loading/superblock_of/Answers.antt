@@ -1,4 +1,4 @@
-use Rattle.std.proofs.Common.{rules, sym, inr}
+use Rattle.trio_image.proofs.Words.{inr, rules, sym}
 use Rattle.trio_image.proofs.Images.{bad_first, first_superblock}
 use Rattle.trio_image.proofs.loading.superblock_of.Goals as goal
 

@@ -1,5 +1,4 @@
-use Rattle.std.proofs.Common.{◌≡◌, ◌++◌}
-use Rattle.trio_image.specs.inner.NewTables.{zero_pages}
+use Rattle.trio_image.proofs.Words.{◌++◌, ◌≡◌, zero_pages}
 use Rattle.trio_image.proofs.making.add_zero_pages.Given as goal
 
 abbrev pub invariant-loop-i : goal.invariant-loop-i

@@ -1,9 +1,5 @@
-use Rattle.std.proofs.Common.{◌≡◌, arith, ap, subst, sym, ◌∙◌}
+use Rattle.trio_image.proofs.Words.{◌∙◌, ◌≡◌, ImagePages, IsMade, IsVerified, TablesAre, ap, arith, counts_of, image_in, new_counts, subst, sym}
 use Rattle.trio_page.specs.Home.{Pages}
-use Rattle.trio_survey.specs.Stored.{image_in}
-use Rattle.trio_image.specs.Counts.{counts_of}
-use Rattle.trio_image.specs.Image.{ImagePages, IsVerified, TablesAre}
-use Rattle.trio_image.specs.Made.{new_counts, IsMade}
 use Rattle.trio_image.proofs.Made.{is_new}
 use Rattle.trio_image.proofs.making.empty_image.Goals as goal
 

@@ -1,4 +1,4 @@
-use Rattle.std.proofs.Common.{◌∙◌}
+use Rattle.trio_image.proofs.Words.{◌∙◌}
 use Rattle.trio_survey.specs.Seen.{chain_seen}
 use Rattle.trio_image.proofs.NodeParts.{content-fault, content-read}
 use Rattle.trio_image.proofs.nodes.body_content.Goals as goal

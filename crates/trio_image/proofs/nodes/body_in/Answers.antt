@@ -1,4 +1,4 @@
-use Rattle.std.proofs.Common.{◌-◌, ap, sym, ◌∙◌, take, drop}
+use Rattle.trio_image.proofs.Words.{◌-◌, ◌∙◌, ap, drop, sym, take}
 use Rattle.std.proofs.lemmas.List.{take_rest}
 use Rattle.trio_image.proofs.nodes.body_in.Goals as goal
 

@@ -1,6 +1,5 @@
-use Rattle.std.proofs.Common.{◌∙◌, ap, sym}
+use Rattle.trio_image.proofs.Words.{◌∙◌, CoreRange, ap, sym}
 use Rattle.trio_rights.specs.declared.kind.Kind.TheVariants.{Regular}
-use Rattle.trio_layout.specs.declared.range.CoreRange.{CoreRange}
 use Rattle.trio_layout.specs.Body.{body_of}
 use Rattle.trio_image.proofs.NodeParts.{body_of-nothing}
 use Rattle.trio_image.proofs.nodes.body_read.Goals as goal

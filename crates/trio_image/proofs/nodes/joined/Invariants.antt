@@ -1,6 +1,4 @@
-use Rattle.std.proofs.Common.{◌≡◌, ◌++◌, drop}
-use Rattle.trio_survey.specs.Seen.{core_with}
-use Rattle.trio_state.specs.ImageNodes.{joined_pages}
+use Rattle.trio_image.proofs.Words.{◌++◌, ◌≡◌, core_with, drop, joined_pages}
 use Rattle.trio_image.proofs.nodes.joined.Given as goal
 
 abbrev pub invariant-loop-no : goal.invariant-loop-no

@@ -1,4 +1,4 @@
-use Rattle.std.proofs.Common.{◌∙◌}
+use Rattle.trio_image.proofs.Words.{◌∙◌}
 use Rattle.trio_image.proofs.NodeParts.{name-nothing}
 use Rattle.trio_image.proofs.nodes.name_in.Goals as goal
 

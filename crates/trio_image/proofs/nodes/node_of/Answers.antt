@@ -1,8 +1,4 @@
-use Rattle.std.proofs.Common.{◌∙◌, ap}
-use Rattle.trio_tables.specs.Row.{as_row}
-use Rattle.trio_layout.specs.Slot.{slot_of}
-use Rattle.trio_survey.specs.Stored.{core_in}
-use Rattle.trio_state.specs.ImageNodes.{content_of, name_said}
+use Rattle.trio_image.proofs.Words.{◌∙◌, ap, as_row, content_of, core_in, name_said, slot_of}
 use Rattle.trio_image.proofs.NodeParts.{body-at_row, node-parts}
 use Rattle.trio_image.proofs.nodes.node_of.Goals as goal
 

@@ -1,9 +1,4 @@
-use Rattle.std.proofs.Common.{◌≡◌}
-use Rattle.std.specs.Option.{option_map}
-use Rattle.trio_lists.specs.Lists.{tabulated}
-use Rattle.trio_rights.specs.Row.{row_in}
-use Rattle.trio_survey.specs.Stored.{core_in}
-use Rattle.trio_state.specs.ImageNodes.{node_by_row}
+use Rattle.trio_image.proofs.Words.{◌≡◌, core_in, node_by_row, option_map, row_in, tabulated}
 use Rattle.trio_image.proofs.nodes.nodes_in.Given as goal
 
 abbrev pub invariant-loop-ino : goal.invariant-loop-ino

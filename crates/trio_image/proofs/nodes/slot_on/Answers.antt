@@ -1,4 +1,4 @@
-use Rattle.std.proofs.Common.{sym, arith}
+use Rattle.trio_image.proofs.Words.{arith, sym}
 use Rattle.trio_image.proofs.NodeParts.{slot_bytes-past}
 use Rattle.trio_image.proofs.nodes.slot_on.Goals as goal
 

@@ -1,9 +1,4 @@
-use Rattle.std.proofs.Common.{◌∙◌, ap}
-use Rattle.trio_tables.specs.Row.{as_row}
-use Rattle.trio_layout.specs.Body.{body_at}
-use Rattle.trio_layout.specs.Slot.{slot_of}
-use Rattle.trio_survey.specs.Stored.{core_in}
-use Rattle.trio_state.specs.ImageNodes.{name_said}
+use Rattle.trio_image.proofs.Words.{◌∙◌, ap, as_row, body_at, core_in, name_said, slot_of}
 use Rattle.trio_image.proofs.NodeParts.{body-at_row}
 use Rattle.trio_image.proofs.NoteParts.{note-parts}
 use Rattle.trio_image.proofs.notes.note_of.Goals as goal

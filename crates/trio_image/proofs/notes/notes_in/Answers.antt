@@ -1,4 +1,4 @@
-use Rattle.std.proofs.Common.{◌∙◌}
+use Rattle.trio_image.proofs.Words.{◌∙◌}
 use Rattle.trio_image.proofs.NoteParts.{tabulated-pushed}
 use Rattle.trio_image.proofs.notes.notes_in.Goals as goal
 

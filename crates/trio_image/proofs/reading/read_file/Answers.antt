@@ -1,5 +1,4 @@
-use Rattle.std.proofs.Common.{List, Option, ℕ, ◌*◌, ap, arith, refl, rules, subst}
-use Rattle.trio_image.specs.inner.Reading.{IsPartOf}
+use Rattle.trio_image.proofs.Words.{◌*◌, IsPartOf, List, Option, ap, arith, refl, rules, subst, ℕ}
 use Rattle.trio_image.proofs.FileParts.{file_end, file_turn}
 use Rattle.trio_image.proofs.reading.read_file.Goals as goal
 

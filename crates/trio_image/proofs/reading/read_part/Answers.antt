@@ -1,5 +1,4 @@
-use Rattle.std.proofs.Common.{List, Option, ℕ, ap, arith, refl, rules}
-use Rattle.trio_io.proofs.Loading.{OnlyReads-trans}
+use Rattle.trio_image.proofs.Words.{List, OnlyReads-trans, Option, ap, arith, refl, rules, ℕ}
 use Rattle.trio_image.proofs.FileParts.{part_begin, part_full, part_turn, put_whole}
 use Rattle.trio_image.proofs.reading.read_part.Goals as goal
 

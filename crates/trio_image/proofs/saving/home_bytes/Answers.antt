@@ -1,4 +1,4 @@
-use Rattle.std.proofs.Common.{rules, ap, drop, ◌+◌, ◌∙◌}
+use Rattle.trio_image.proofs.Words.{◌+◌, ◌∙◌, ap, drop, rules}
 use Rattle.trio_image.proofs.Pages.{taken_bytes, taken_rest}
 use Rattle.trio_image.proofs.saving.home_bytes.Goals as goal
 use Rattle.trio_image.proofs.saving.home_bytes.Goals.{in-Some+in_ok-extend_from_slice, in_default}

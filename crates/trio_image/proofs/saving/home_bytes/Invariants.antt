@@ -1,5 +1,4 @@
-use Rattle.std.proofs.Common.{◌≡◌, take, drop, length}
-use Rattle.trio_survey.specs.Stored.{bytes_in}
+use Rattle.trio_image.proofs.Words.{◌≡◌, bytes_in, drop, length, take}
 use Rattle.trio_image.proofs.saving.home_bytes.Given as goal
 
 abbrev pub invariant-loop-i : goal.invariant-loop-i

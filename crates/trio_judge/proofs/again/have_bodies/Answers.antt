@@ -1,10 +1,5 @@
-use Rattle.std.proofs.Common.{rules, ◌≡◌, ◌<◌, true, Bool, length, get_or, map, sym, ap, ◌∙◌}
-use Rattle.std.specs.List.{list_all}
+use Rattle.trio_judge.proofs.Words.{◌<◌, ◌∙◌, ◌≡◌, Bool, Listed, ap, entries_kept, get_or, has_body, length, list_all, listed_seen, map, rules, sym, true}
 use Rattle.std.proofs.lemmas.List.Folds.{list_all-map}
-use Rattle.trio_layout.specs.Entries.{Listed}
-use Rattle.trio_case.specs.Reading.{listed_seen}
-use Rattle.trio_case.specs.Rooms.{entries_kept}
-use Rattle.trio_judge.specs.inner.Again.{has_body}
 use Rattle.trio_judge.proofs.FoundAgain.{bodies_more}
 use Rattle.trio_judge.proofs.again.have_bodies.Goals as goal
 

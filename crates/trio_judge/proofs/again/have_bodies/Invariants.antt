@@ -1,7 +1,4 @@
-use Rattle.std.proofs.Common.{◌≡◌, true, take}
-use Rattle.std.specs.List.{flat_map, list_all}
-use Rattle.trio_case.specs.Rooms.{entries_kept}
-use Rattle.trio_judge.specs.inner.Again.{has_body}
+use Rattle.trio_judge.proofs.Words.{◌≡◌, entries_kept, flat_map, has_body, list_all, take, true}
 use Rattle.trio_judge.proofs.again.have_bodies.Given as goal
 
 abbrev pub invariant-loop-block : goal.invariant-loop-block

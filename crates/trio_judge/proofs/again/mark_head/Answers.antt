@@ -1,13 +1,5 @@
-use Rattle.std.proofs.Common.{rules, ◌≡◌, ◌<◌, ◌^◌, true, Ok, Some, IsTrue, ap, ◌∙◌, arith}
-use Rattle.std.specs.List.{list_all}
-use Rattle.trio_rights.specs.declared.kind.Kind.TheVariants.{Directory}
-use Rattle.trio_layout.specs.Body.{block_count, body_of}
-use Rattle.trio_layout.specs.Case.{file_in}
-use Rattle.trio_layout.specs.Survey.{FileRead}
-use Rattle.trio_case.specs.Cases.{case_in}
-use Rattle.trio_case.specs.Rooms.{entries_in_room, file_in_room}
-use Rattle.trio_judge.specs.inner.Again.{has_body}
-use Rattle.trio_judge.specs.inner.Walk.{file_met}
+use Rattle.trio_judge.proofs.Words.{◌<◌, ◌^◌, ◌∙◌, ◌≡◌, Directory, FileRead, Ok, Some, ap, arith, block_count, body_of, case_in, entries_in_room, file_in, file_in_room, file_met, has_body, list_all, rules, true}
+use Rattle.std.proofs.Common.{IsTrue}
 use Rattle.trio_judge.proofs.FoundAgain.{found_head, found_of, heads_more}
 use Rattle.trio_judge.proofs.again.mark_head.Goals as goal
 

@@ -1,9 +1,5 @@
-use Rattle.std.proofs.Common.{◌≡◌, ◌<◌, true, length, sym, arith}
-use Rattle.trio_rights.specs.Bundle.{bundle_pages}
-use Rattle.trio_lists.specs.Lists.{is_among}
-use Rattle.trio_lease.specs.Views.{bundle_in}
+use Rattle.trio_judge.proofs.Words.{◌<◌, ◌≡◌, arith, bundle_in, bundle_pages, is_among, length, mark_more, sym, true}
 use Rattle.trio_case.specs.Order.{in_order}
-use Rattle.trio_case.proofs.Ordered.{mark_more}
 use Rattle.trio_judge.proofs.pages.mark.Goals as goal
 
 pub returns-clause-marked : goal.returns-clause-marked

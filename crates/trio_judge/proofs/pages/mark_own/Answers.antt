@@ -1,10 +1,5 @@
-use Rattle.std.proofs.Common.{not, get_or, sym, ◌∙◌, refl, arith}
-use Rattle.std.proofs.lemmas.List.{take_all}
-use Rattle.std.proofs.lemmas.Bool.{and_parts, not-true}
-use Rattle.trio_rights.specs.Bundle.{bundle_pages}
-use Rattle.trio_lists.specs.Lists.{is_among}
-use Rattle.trio_lease.specs.Views.{bundle_in}
-use Rattle.trio_case.specs.Order.{is_marked}
+use Rattle.trio_judge.proofs.Words.{◌∙◌, and_parts, arith, bundle_in, bundle_pages, get_or, is_among, is_marked, not, refl, sym, take_all}
+use Rattle.std.proofs.lemmas.Bool.{not-true}
 use Rattle.trio_judge.proofs.Owned.{foreign_here, own_more, own_none, unmarked}
 use Rattle.trio_judge.proofs.pages.mark_own.Goals as goal
 

@@ -1,8 +1,4 @@
-use Rattle.std.proofs.Common.{◌≡◌, ℕ, List, take, vec_len}
-use Rattle.trio_rights.specs.Bundle.{bundle_pages}
-use Rattle.trio_lease.specs.Views.{bundle_in}
-use Rattle.trio_case.specs.Order.{AreMarked}
-use Rattle.trio_judge.specs.inner.Walk.{AreOwn}
+use Rattle.trio_judge.proofs.Words.{◌≡◌, AreMarked, AreOwn, List, bundle_in, bundle_pages, take, vec_len, ℕ}
 use Rattle.trio_judge.proofs.pages.mark_own.Given as goal
 
 abbrev pub invariant-loop-page : goal.invariant-loop-page

@@ -1,5 +1,4 @@
-use Rattle.std.proofs.Common.{◌≡◌, ◌+◌, ◌≤◌, ◌++◌, replicate, vec_len}
-use Rattle.std.specs.Prelude.{vec_capacity}
+use Rattle.trio_judge.proofs.Words.{◌++◌, ◌+◌, ◌≡◌, ◌≤◌, replicate, vec_capacity, vec_len}
 use Rattle.trio_judge.proofs.start.add_marks.Given as goal
 
 abbrev pub invariant-loop : goal.invariant-loop

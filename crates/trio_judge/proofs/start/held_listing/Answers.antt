@@ -1,6 +1,4 @@
-use Rattle.std.proofs.Common.{◌≡◌, ◌∙◌, length, ap, arith}
-use Rattle.std.proofs.lemmas.List.{length-map, length-take-le}
-use Rattle.trio_lease.specs.Views.{bundle_in}
+use Rattle.trio_judge.proofs.Words.{◌∙◌, ◌≡◌, ap, arith, bundle_in, length, length-map, length-take-le}
 use Rattle.trio_lease.specs.declared.parts.HoldParts.{HoldParts}
 use Rattle.trio_case.proofs.Ordered.{order_length}
 use Rattle.trio_judge.proofs.start.held_listing.Goals as goal

@@ -1,4 +1,4 @@
-use Rattle.std.proofs.Common.{◌≡◌, [], take}
+use Rattle.trio_judge.proofs.Words.{◌≡◌, [], take}
 use Rattle.trio_judge.proofs.start.held_listing.Given as goal
 
 abbrev pub invariant-loop-ino : goal.invariant-loop-ino

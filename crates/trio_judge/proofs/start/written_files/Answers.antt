@@ -1,14 +1,5 @@
-use Rattle.std.proofs.Common.{rules, ◌≡◌, ◌∙◌, [], true, map, ap, arith}
-use Rattle.std.proofs.lemmas.List.{take_all}
+use Rattle.trio_judge.proofs.Words.{◌∙◌, ◌≡◌, Bundled, JudgedFile, LentFile, [], ap, are_new, arith, case_in, file_met, map, rules, take_all, true, written_in, written_met}
 use Rattle.std.proofs.lemmas.List.Sorted.{IsNonDecreasingBy-from_sort, answers_always}
-use Rattle.trio_lists.specs.Lists.{are_new}
-use Rattle.trio_lease.specs.Bundles.{Bundled}
-use Rattle.trio_lease.specs.Shown.{LentFile}
-use Rattle.trio_lease.specs.Views.{written_in}
-use Rattle.trio_layout.specs.JudgedFiles.{written_met}
-use Rattle.trio_case.specs.Cases.{case_in}
-use Rattle.trio_judge.specs.declared.walk.JudgedFile.{JudgedFile}
-use Rattle.trio_judge.specs.inner.Walk.{file_met}
 use Rattle.trio_judge.proofs.Starting.{files_sorted, made_numbers, mets_of, written_once}
 use Rattle.trio_case.proofs.Unstable.{sorted_distinct}
 use Rattle.trio_judge.proofs.start.written_files.Goals as goal

@@ -1,9 +1,4 @@
-use Rattle.std.proofs.Common.{◌≡◌, ◌≤◌, length, map, take, vec_len}
-use Rattle.std.specs.Prelude.{vec_capacity}
-use Rattle.trio_lease.specs.Views.{written_in}
-use Rattle.trio_layout.specs.JudgedFiles.{written_met}
-use Rattle.trio_case.specs.Cases.{case_in}
-use Rattle.trio_judge.specs.inner.Walk.{file_met, own_numbers}
+use Rattle.trio_judge.proofs.Words.{◌≡◌, ◌≤◌, case_in, file_met, length, map, own_numbers, take, vec_capacity, vec_len, written_in, written_met}
 use Rattle.trio_judge.proofs.start.written_files.Given as goal
 
 abbrev pub invariant-loop-lease : goal.invariant-loop-lease

@@ -1,5 +1,4 @@
-use Rattle.std.proofs.Common.{◌≡◌, None, inl, inr, refl}
-use Rattle.trio_case.specs.Cases.{case_in}
+use Rattle.trio_judge.proofs.Words.{◌≡◌, None, case_in, inl, inr, refl}
 use Rattle.trio_judge.proofs.Ending.{few_listed, grammar_met, listing_is, owning_fails, owning_false, owning_met, rights_fail, rights_false, rights_met, second_unmet, third_unmet, three_met}
 use Rattle.trio_judge.proofs.Noting.{none_is}
 use Rattle.trio_judge.proofs.verdict.conclude.Goals as goal

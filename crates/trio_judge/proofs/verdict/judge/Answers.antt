@@ -1,9 +1,4 @@
-use Rattle.std.proofs.Common.{◌≤◌, inl, refl, sym, subst, length, arith}
-use Rattle.std.proofs.lemmas.List.{length-map}
-use Rattle.trio_layout.specs.Survey.{numbers}
-use Rattle.trio_case.specs.Cases.{case_in}
-use Rattle.trio_judge.specs.inner.Again.{AreFoundHeads}
-use Rattle.trio_judge.specs.inner.Walk.{file_met, files_of}
+use Rattle.trio_judge.proofs.Words.{◌≤◌, AreFoundHeads, arith, case_in, file_met, files_of, inl, length, length-map, numbers, refl, subst, sym}
 use Rattle.trio_judge.proofs.Ending.{all_passed, first_unmet, grammar_false, has_ended}
 use Rattle.trio_judge.proofs.FoundAgain.{no_heads}
 use Rattle.trio_judge.proofs.Visiting.{short}

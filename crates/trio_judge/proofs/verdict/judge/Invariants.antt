@@ -1,11 +1,5 @@
-use Rattle.std.proofs.Common.{◌+◌, ◌-◌, ◌*◌, ◌≤◌, length}
-use Rattle.trio_rights.specs.Bundle.{bundle_pages}
-use Rattle.trio_lease.specs.Views.{bundle_in}
-use Rattle.trio_layout.specs.Survey.{numbers}
-use Rattle.trio_case.specs.Cases.{case_in}
+use Rattle.trio_judge.proofs.Words.{◌*◌, ◌+◌, ◌-◌, ◌≤◌, AreFoundHeads, IsPassed, IsQueued, IsReady, bundle_in, bundle_pages, case_in, files_of, length, numbers}
 use Rattle.trio_case.specs.Rooms.{looks_left, Keeps}
-use Rattle.trio_judge.specs.inner.Again.{AreFoundHeads}
-use Rattle.trio_judge.specs.inner.Walk.{IsPassed, IsQueued, IsReady, files_of}
 use Rattle.trio_judge.proofs.verdict.judge.Given as goal
 
 abbrev pub invariant-loop-at : goal.invariant-loop-at

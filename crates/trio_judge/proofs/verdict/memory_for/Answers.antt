@@ -1,4 +1,4 @@
-use Rattle.std.proofs.Common.{◌≡◌, ap, ◌∙◌, arith}
+use Rattle.trio_judge.proofs.Words.{◌∙◌, ◌≡◌, ap, arith}
 use Rattle.trio_layout.specs.Range.{core_count}
 use Rattle.trio_case.specs.declared.size.BundleSize.{BundleSize}
 use Rattle.trio_judge.proofs.verdict.memory_for.Goals as goal

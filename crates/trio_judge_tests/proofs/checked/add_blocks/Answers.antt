@@ -1,6 +1,4 @@
-use Rattle.std.proofs.Common.{ap}
-use Rattle.trio_lease.specs.declared.parts.LentPage.{LentPage}
-use Rattle.trio_case.proofs.Making.{there_of}
+use Rattle.trio_judge_tests.proofs.Words.{LentPage, ap, there_of}
 use Rattle.trio_judge_tests.proofs.Numbers.{one_more}
 use Rattle.trio_judge_tests.proofs.checked.add_blocks.Goals as goal
 

@@ -1,4 +1,4 @@
-use Rattle.std.proofs.Common.{◌≡◌, ◌++◌, map, take}
+use Rattle.trio_judge_tests.proofs.Words.{◌++◌, ◌≡◌, map, take}
 use Rattle.trio_judge_tests.proofs.checked.add_blocks.Given as goal
 
 abbrev pub invariant-loop-at : goal.invariant-loop-at

@@ -1,4 +1,5 @@
-use Rattle.std.proofs.Common.{◌≡◌, [], take, drop}
+use Rattle.trio_judge_tests.proofs.Words.{◌≡◌, [], take}
+use Rattle.std.proofs.Common.{drop}
 use Rattle.trio_lists.specs.Lists.{are_new}
 use Rattle.trio_judge_tests.proofs.checked.are_once.Given as goal
 

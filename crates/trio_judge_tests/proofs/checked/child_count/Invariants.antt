@@ -1,6 +1,5 @@
-use Rattle.std.proofs.Common.{◌≡◌, ◌≤◌, take}
+use Rattle.trio_judge_tests.proofs.Words.{◌≡◌, ◌≤◌, is_child, take}
 use Rattle.std.specs.List.{count_by}
-use Rattle.trio_case.specs.Cases.{is_child}
 use Rattle.trio_judge_tests.proofs.checked.child_count.Given as goal
 
 abbrev pub invariant-loop-ino : goal.invariant-loop-ino

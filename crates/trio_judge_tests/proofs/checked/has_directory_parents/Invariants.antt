@@ -1,6 +1,4 @@
-use Rattle.std.proofs.Common.{◌≡◌, ◌<◌, ℕ, false, Some}
-use Rattle.trio_rights.specs.Row.{Row, row_in}
-use Rattle.trio_rights.specs.declared.kind.Kind.TheVariants.{Regular}
+use Rattle.trio_judge_tests.proofs.Words.{◌<◌, ◌≡◌, Regular, Row, Some, false, row_in, ℕ}
 use Rattle.trio_layout.specs.Allowed.{has_kind}
 use Rattle.trio_judge_tests.proofs.checked.has_directory_parents.Given as goal
 

@@ -1,7 +1,4 @@
-use Rattle.std.proofs.Common.{ap, eqb, ◌∙◌}
-use Rattle.std.specs.List.{list_any}
-use Rattle.trio_lease.specs.Shown.{LentFile}
-use Rattle.trio_case.specs.Cases.{is_child}
+use Rattle.trio_judge_tests.proofs.Words.{◌∙◌, LentFile, ap, eqb, is_child, list_any}
 use Rattle.trio_judge_tests.proofs.Children.{written_any}
 use Rattle.trio_judge_tests.proofs.checked.is_child.Goals as goal
 

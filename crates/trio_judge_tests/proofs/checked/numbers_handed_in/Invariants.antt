@@ -1,4 +1,4 @@
-use Rattle.std.proofs.Common.{◌≡◌, map, take}
+use Rattle.trio_judge_tests.proofs.Words.{◌≡◌, map, take}
 use Rattle.trio_judge_tests.proofs.checked.numbers_handed_in.Given as goal
 
 abbrev pub invariant-loop-ino : goal.invariant-loop-ino

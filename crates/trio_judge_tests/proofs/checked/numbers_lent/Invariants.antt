@@ -1,4 +1,4 @@
-use Rattle.std.proofs.Common.{◌≡◌, ◌++◌, map, take}
+use Rattle.trio_judge_tests.proofs.Words.{◌++◌, ◌≡◌, map, take}
 use Rattle.trio_judge_tests.proofs.checked.numbers_lent.Given as goal
 
 abbrev pub invariant-loop-file : goal.invariant-loop-file

@@ -1,7 +1,4 @@
-use Rattle.std.proofs.Common.{◌∙◌, ◌++◌, map, sym, ap, arith}
-use Rattle.std.specs.List.{flat_map}
-use Rattle.std.proofs.lemmas.List.{take_all}
-use Rattle.trio_lease.specs.declared.parts.FreshParts.{FreshParts}
+use Rattle.trio_judge_tests.proofs.Words.{◌++◌, ◌∙◌, FreshParts, ap, arith, flat_map, map, sym, take_all}
 use Rattle.trio_case.proofs.Making.{bundle_numbers, file_numbers}
 use Rattle.trio_judge_tests.proofs.checked.page_numbers.Goals as goal
 

@@ -1,5 +1,4 @@
-use Rattle.std.proofs.Common.{◌≡◌, ◌++◌, map, take}
-use Rattle.std.specs.List.{flat_map}
+use Rattle.trio_judge_tests.proofs.Words.{◌++◌, ◌≡◌, flat_map, map, take}
 use Rattle.trio_judge_tests.proofs.checked.page_numbers.Given as goal
 
 abbrev pub invariant-loop-file : goal.invariant-loop-file

@@ -1,8 +1,7 @@
-use Rattle.std.proofs.Common.{◌≡◌, ◌∙◌, eqb, false, Some, sym, ap, arith}
+use Rattle.trio_judge_tests.proofs.Words.{◌∙◌, ◌≡◌, Some, ap, arith, as_row, eqb, false, row_in, sym}
 use Rattle.std.specs.Option.{option_map}
 use Rattle.std.proofs.lemmas.Bool.Decides.{nat_tests}
-use Rattle.trio_rights.specs.Row.{row_in, is_child}
-use Rattle.trio_tables.specs.Row.{as_row}
+use Rattle.trio_rights.specs.Row.{is_child}
 use Rattle.trio_judge_tests.proofs.Listed.{other_number}
 use Rattle.trio_judge_tests.proofs.leaves.is_listed_by_directory.Goals as goal
 

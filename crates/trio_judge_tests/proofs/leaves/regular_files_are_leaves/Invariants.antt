@@ -1,5 +1,4 @@
-use Rattle.std.proofs.Common.{◌<◌, ℕ}
-use Rattle.trio_rights.specs.Row.{row_in}
+use Rattle.trio_judge_tests.proofs.Words.{◌<◌, row_in, ℕ}
 use Rattle.trio_judge_tests.specs.Leaves.{HasNoFile}
 use Rattle.trio_judge_tests.proofs.leaves.regular_files_are_leaves.Given as goal
 

@@ -1,7 +1,4 @@
-use Rattle.std.proofs.Common.{◌≡◌, ◌≢◌, ◌<◌, Some, arith}
-use Rattle.std.specs.Prelude.{IsTrue}
-use Rattle.trio_rights.specs.Row.{Row, row_in}
-use Rattle.trio_layout.specs.Range.{is_core}
+use Rattle.trio_judge_tests.proofs.Words.{◌<◌, ◌≡◌, ◌≢◌, IsTrue, Row, Some, arith, is_core, row_in}
 use Rattle.trio_proposal.proofs.Keeping.{live_below}
 use Rattle.trio_judge_tests.proofs.Fits.{one_more_below}
 use Rattle.trio_judge_tests.proofs.whole.are_placed.Goals as goal

@@ -1,7 +1,4 @@
-use Rattle.std.proofs.Common.{◌≡◌, ◌≢◌, ◌<◌, ℕ, Some}
-use Rattle.std.specs.Prelude.{IsTrue}
-use Rattle.trio_rights.specs.Row.{Row, row_in}
-use Rattle.trio_layout.specs.Range.{is_core}
+use Rattle.trio_judge_tests.proofs.Words.{◌<◌, ◌≡◌, ◌≢◌, IsTrue, Row, Some, is_core, row_in, ℕ}
 use Rattle.trio_judge_tests.proofs.whole.are_placed.Given as goal
 
 abbrev pub invariant-loop-ino : goal.invariant-loop-ino

@@ -1,6 +1,4 @@
-use Rattle.std.proofs.Common.{◌≡◌, ◌<◌, ℕ, None}
-use Rattle.std.specs.Prelude.{slice_index_or}
-use Rattle.trio_judge_tests.specs.Whole.{IsWhole}
+use Rattle.trio_judge_tests.proofs.Words.{◌<◌, ◌≡◌, IsWhole, None, slice_index_or, ℕ}
 use Rattle.trio_judge_tests.proofs.whole.are_whole.Given as goal
 
 abbrev pub invariant-loop-no : goal.invariant-loop-no

@@ -1,9 +1,4 @@
-use Rattle.std.proofs.Common.{List, map, sym, ◌∙◌}
-use Rattle.trio_rights.specs.Sheets.{Sheet}
-use Rattle.trio_lease.specs.declared.parts.LentPage.{LentPage}
-use Rattle.trio_lease.specs.Views.{lent_sheet}
-use Rattle.trio_proposal.proofs.Puts.{lent_there}
-use Rattle.trio_judge_tests.specs.Whole.{sheet_fits}
+use Rattle.trio_judge_tests.proofs.Words.{◌∙◌, LentPage, List, Sheet, lent_sheet, lent_there, map, sheet_fits, sym}
 use Rattle.trio_judge_tests.proofs.Fits.{one_passes}
 use Rattle.trio_judge_tests.proofs.whole.blocks_fit.Goals as goal
 

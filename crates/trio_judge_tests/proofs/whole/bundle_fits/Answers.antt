@@ -1,8 +1,4 @@
-use Rattle.std.proofs.Common.{◌≡◌, true, sym, ap, subst, ◌∙◌, arith}
-use Rattle.std.specs.List.{list_all}
-use Rattle.std.proofs.lemmas.List.{take_all}
-use Rattle.trio_lease.specs.Views.{fresh_sheet}
-use Rattle.trio_judge_tests.specs.Whole.{file_fits, sheet_fits}
+use Rattle.trio_judge_tests.proofs.Words.{◌∙◌, ◌≡◌, ap, arith, file_fits, fresh_sheet, list_all, sheet_fits, subst, sym, take_all, true}
 use Rattle.trio_judge_tests.proofs.Fits.{all_fit}
 use Rattle.trio_judge_tests.proofs.whole.bundle_fits.Goals as goal
 

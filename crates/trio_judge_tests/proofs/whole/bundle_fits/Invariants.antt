@@ -1,6 +1,4 @@
-use Rattle.std.proofs.Common.{◌≡◌, true, take}
-use Rattle.std.specs.List.{list_all}
-use Rattle.trio_judge_tests.specs.Whole.{file_fits}
+use Rattle.trio_judge_tests.proofs.Words.{◌≡◌, file_fits, list_all, take, true}
 use Rattle.trio_judge_tests.proofs.whole.bundle_fits.Given as goal
 
 abbrev pub invariant-loop-file : goal.invariant-loop-file

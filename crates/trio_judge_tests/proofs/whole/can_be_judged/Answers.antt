@@ -1,10 +1,6 @@
-use Rattle.std.proofs.Common.{◌≡◌, [], length, map, true, sym, ap, subst, ◌∙◌, arith}
-use Rattle.std.proofs.lemmas.Bool.{eqb-true}
+use Rattle.trio_judge_tests.proofs.Words.{◌∙◌, ◌≡◌, CanBeJudged, [], ap, arith, bundle_in, eqb-true, image_of, length, map, sheet_fits, subst, sym, true}
 use Rattle.std.proofs.lemmas.List.{nil_from_length}
-use Rattle.trio_lease.specs.Views.{bundle_in}
 use Rattle.trio_lease.specs.declared.parts.HoldParts.{HoldParts}
-use Rattle.trio_proposal.specs.Judgement.{CanBeJudged, image_of}
-use Rattle.trio_judge_tests.specs.Whole.{sheet_fits}
 use Rattle.trio_judge_tests.proofs.Fits.{can_be_judged}
 use Rattle.trio_judge_tests.proofs.whole.can_be_judged.Goals as goal
 

@@ -1,7 +1,4 @@
-use Rattle.std.proofs.Common.{◌≡◌, true, map, take}
-use Rattle.std.specs.List.{list_all}
-use Rattle.trio_lease.specs.Views.{lent_sheet}
-use Rattle.trio_judge_tests.specs.Whole.{sheet_fits}
+use Rattle.trio_judge_tests.proofs.Words.{◌≡◌, lent_sheet, list_all, map, sheet_fits, take, true}
 use Rattle.trio_judge_tests.proofs.whole.index_fits.Given as goal
 
 abbrev pub invariant-loop-at : goal.invariant-loop-at

@@ -1,6 +1,6 @@
-use Rattle.std.proofs.Common.{◌≡◌, ◌∙◌, Bool, true, false, cond, Option, Some, None, IsTrue, rules, ap, sym, refl}
-use Rattle.std.proofs.lemmas.Bool.{false≢true}
-use Rattle.trio_layout.specs.Index.{Index, index_at, index_of, link_fits, IsIndexPage}
+use Rattle.trio_layout.proofs.Words.{◌∙◌, ◌≡◌, Bool, Index, IsIndexPage, IsTrue, None, Option, Some, ap, cond, false, false≢true, index_at, link_fits, refl, sym, true}
+use Rattle.std.proofs.Common.{rules}
+use Rattle.trio_layout.specs.Index.{index_of}
 use Rattle.trio_layout.proofs.IndexPages.{found, only, narrow, index_value, no_index_value}
 use Rattle.trio_layout.proofs.index.is_index_page.Goals as goal
 

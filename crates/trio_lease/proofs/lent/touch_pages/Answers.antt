@@ -1,6 +1,4 @@
-use Rattle.std.proofs.Common.{arith}
-use Rattle.std.proofs.lemmas.List.Edits.{map_over_more}
-use Rattle.trio_lease.specs.Shown.{as_touched}
+use Rattle.trio_lease.proofs.Words.{arith, as_touched, map_over_more}
 use Rattle.trio_lease.proofs.lent.touch_pages.Goals as goal
 
 pub loop-lent-preserved : goal.loop-lent-preserved

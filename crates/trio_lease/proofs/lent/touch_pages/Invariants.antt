@@ -1,5 +1,4 @@
-use Rattle.std.proofs.Common.{◌≡◌, ◌++◌, map, take, drop}
-use Rattle.trio_lease.specs.Shown.{as_touched}
+use Rattle.trio_lease.proofs.Words.{◌++◌, ◌≡◌, as_touched, drop, map, take}
 use Rattle.trio_lease.proofs.lent.touch_pages.Given as goal
 
 -- the pages so far are marked, and the others as they were

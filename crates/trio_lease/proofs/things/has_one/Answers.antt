@@ -1,5 +1,4 @@
-use Rattle.std.proofs.Common.{ap, ◌∙◌}
-use Rattle.std.specs.Prelude.{is_some}
+use Rattle.trio_lease.proofs.Words.{◌∙◌, ap, is_some}
 use Rattle.trio_lease.proofs.Numbered.{copied_some, found_among}
 use Rattle.trio_lease.proofs.things.has_one.Goals as goal
 

@@ -1,6 +1,4 @@
-use Rattle.std.proofs.Common.{arith}
-use Rattle.std.proofs.lemmas.List.Edits.{map_over_more}
-use Rattle.trio_lease.specs.Shown.{all_touched}
+use Rattle.trio_lease.proofs.Words.{all_touched, arith, map_over_more}
 use Rattle.trio_lease.proofs.write.touch_writes.Goals as goal
 
 pub loop-lease-preserved : goal.loop-lease-preserved

@@ -1,5 +1,4 @@
-use Rattle.std.proofs.Common.{◌≡◌, ◌++◌, map, take, drop}
-use Rattle.trio_lease.specs.Shown.{all_touched}
+use Rattle.trio_lease.proofs.Words.{◌++◌, ◌≡◌, all_touched, drop, map, take}
 use Rattle.trio_lease.proofs.write.touch_writes.Given as goal
 
 -- the leases so far have touched blocks, and the others are as they were

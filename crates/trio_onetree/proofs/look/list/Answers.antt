@@ -1,5 +1,4 @@
-use Rattle.std.proofs.Common.{sym, ap, take, drop, ◌∙◌, ℕ, List}
-use Rattle.trio_rights.specs.declared.kind.Kind.{Kind}
+use Rattle.trio_onetree.proofs.Words.{◌∙◌, Kind, List, ap, drop, sym, take, ℕ}
 use Rattle.trio_onetree.proofs.Listing.{list_does}
 use Rattle.trio_onetree.proofs.look.list.Goals as goal
 

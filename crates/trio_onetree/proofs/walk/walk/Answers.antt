@@ -1,11 +1,4 @@
-use Rattle.std.proofs.Common.{◌≡◌, ℕ, List, take, get_or, Ok, Err, sym, ap, ◌∙◌, arith}
-use Rattle.std.specs.Option.{ok_or}
-use Rattle.std.proofs.lemmas.Result.{err_from_is_err_and}
-use Rattle.trio_rights.specs.declared.rights.Need.{Need}
-use Rattle.trio_nodes.specs.Nodes.{find_named}
-use Rattle.trio_nodes.specs.Walk.{enter, need_at}
-use Rattle.trio_nodes.specs.declared.call.Reply.TheVariants.{NotFound}
-use Rattle.trio_onetree.specs.inner.Paths.{paths_of}
+use Rattle.trio_onetree.proofs.Words.{◌∙◌, ◌≡◌, Err, List, Need, NotFound, Ok, ap, arith, enter, err_from_is_err_and, find_named, get_or, need_at, ok_or, paths_of, sym, take, ℕ}
 use Rattle.trio_onetree.proofs.WalkFacts.{walk_on, walk_lost}
 use Rattle.trio_onetree.proofs.walk.walk.Goals as goal
 

@@ -1,6 +1,4 @@
-use Rattle.std.proofs.Common.{◌≡◌, take, drop}
-use Rattle.trio_nodes.specs.Walk.{walk, walk_from}
-use Rattle.trio_onetree.specs.inner.Paths.{paths_of}
+use Rattle.trio_onetree.proofs.Words.{◌≡◌, drop, paths_of, take, walk, walk_from}
 use Rattle.trio_onetree.proofs.walk.walk.Given as goal
 
 abbrev pub invariant-loop-i : goal.invariant-loop-i

@@ -1,6 +1,4 @@
-use Rattle.std.proofs.Common.{◌≡◌, ◌==◌, ◌+◌, ◌&&◌, Bool, ap, arith, drop, false, map, not, sym, take, true, ◌∙◌}
-use Rattle.std.specs.List.{list_any}
-use Rattle.trio_lists.specs.Lists.{are_new}
+use Rattle.trio_open.proofs.Words.{◌&&◌, ◌+◌, ◌==◌, ◌∙◌, ◌≡◌, Bool, ap, are_new, arith, drop, false, list_any, map, not, sym, take, true}
 use Rattle.trio_open.proofs.Given.{once_at}
 use Rattle.trio_open.proofs.belongs.are_once.Goals as goal
 

@@ -1,5 +1,4 @@
-use Rattle.std.proofs.Common.{◌≡◌, [], drop, map, take}
-use Rattle.trio_lists.specs.Lists.{are_new}
+use Rattle.trio_open.proofs.Words.{◌≡◌, [], are_new, drop, map, take}
 use Rattle.trio_open.proofs.belongs.are_once.Given as goal
 
 -- what is left is new after what came before exactly where all stand once

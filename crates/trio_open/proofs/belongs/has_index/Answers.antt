@@ -1,8 +1,4 @@
-use Rattle.std.proofs.Common.{◌≡◌, ◌&&◌, ◌+◌, Bool, Option, ap, arith, drop, false, get_or, rules, sym, true, ◌∙◌}
-use Rattle.std.specs.Option.{option_copied, option_map}
-use Rattle.trio_page.specs.declared.page.PageNo.{PageNo}
-use Rattle.trio_lease.specs.Shown.{no_at}
-use Rattle.trio_open.specs.inner.Given.{are_numbered, is_numbered}
+use Rattle.trio_open.proofs.Words.{◌&&◌, ◌+◌, ◌∙◌, ◌≡◌, Bool, Option, PageNo, ap, are_numbered, arith, drop, false, get_or, is_numbered, no_at, option_copied, option_map, rules, sym, true}
 use Rattle.trio_open.proofs.Given.{numbered_apart, numbered_at}
 use Rattle.trio_open.proofs.belongs.has_index.Goals as goal
 

@@ -1,5 +1,4 @@
-use Rattle.std.proofs.Common.{◌≡◌, drop, length}
-use Rattle.trio_open.specs.inner.Given.{are_numbered}
+use Rattle.trio_open.proofs.Words.{◌≡◌, are_numbered, drop, length}
 use Rattle.trio_open.proofs.belongs.has_index.Given as goal
 
 -- what is left has its numbers exactly where all have

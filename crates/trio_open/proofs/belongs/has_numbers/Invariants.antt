@@ -1,4 +1,4 @@
-use Rattle.std.proofs.Common.{◌≡◌, length, map, take}
+use Rattle.trio_open.proofs.Words.{◌≡◌, length, map, take}
 use Rattle.trio_open.proofs.belongs.has_numbers.Given as goal
 
 -- the same so far

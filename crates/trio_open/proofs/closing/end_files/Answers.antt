@@ -1,10 +1,6 @@
-use Rattle.std.proofs.Common.{◌≡◌, Bool, ap, map, rules, sym, ◌∙◌}
+use Rattle.trio_open.proofs.Words.{◌∙◌, ◌≡◌, Bool, Opened, ap, bundle_in, filter, is_in_bundle, keyed, map, rules, sym}
 use Rattle.std.specs.Prelude.{not}
-use Rattle.std.specs.List.{filter}
-use Rattle.trio_lease.specs.Views.{bundle_in}
 use Rattle.std.proofs.lemmas.Fn.{filter_same}
-use Rattle.trio_open.specs.Open.{Opened, keyed}
-use Rattle.trio_state.specs.Bundles.{is_in_bundle}
 use Rattle.trio_open.proofs.closing.end_files.Goals as goal
 
 pub returns-clause-files : goal.returns-clause-files

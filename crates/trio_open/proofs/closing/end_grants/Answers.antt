@@ -1,6 +1,4 @@
-use Rattle.std.proofs.Common.{arith, sym, subst, ◌∙◌, List, take, drop, ◌+◌, ap}
-use Rattle.trio_grants.specs.Grants.{HasKey, Keyed, without}
-use Rattle.trio_lease.specs.Views.{bundle_in}
+use Rattle.trio_open.proofs.Words.{◌+◌, ◌∙◌, HasKey, Keyed, List, ap, arith, bundle_in, drop, subst, sym, take, without}
 use Rattle.trio_open.proofs.ClosingFacts.{Going, next_ended, next_kept, next_key}
 use Rattle.trio_open.proofs.closing.end_grants.Goals.{then-ends, else-ends}
 use Rattle.trio_open.proofs.closing.end_grants.Goals as goal

@@ -1,5 +1,4 @@
-use Rattle.std.proofs.Common.{take, drop}
-use Rattle.trio_lease.specs.Views.{bundle_in}
+use Rattle.trio_open.proofs.Words.{bundle_in, drop, take}
 use Rattle.trio_open.proofs.ClosingFacts.{Going}
 use Rattle.trio_open.proofs.closing.end_grants.Given as goal
 

@@ -1,5 +1,4 @@
-use Rattle.std.proofs.Common.{take}
-use Rattle.trio_open.specs.Belonging.{AreWhole}
+use Rattle.trio_open.proofs.Words.{AreWhole, take}
 use Rattle.trio_open.proofs.full.are_blocks_full.Given as goal
 
 -- those so far

@@ -1,6 +1,4 @@
-use Rattle.std.proofs.Common.{arith}
-use Rattle.trio_lease.specs.Shown.{LentFile}
-use Rattle.trio_open.specs.Belonging.{AreWhole}
+use Rattle.trio_open.proofs.Words.{AreWhole, LentFile, arith}
 use Rattle.trio_open.proofs.Fullness.{each_all, each_item}
 use Rattle.trio_open.proofs.full.are_leases_full.Goals as goal
 

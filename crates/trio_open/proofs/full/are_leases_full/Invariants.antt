@@ -1,7 +1,4 @@
-use Rattle.std.proofs.Common.{take}
-use Rattle.trio_lists.specs.Lists.{In}
-use Rattle.trio_lease.specs.Shown.{LentFile}
-use Rattle.trio_open.specs.Belonging.{AreWhole}
+use Rattle.trio_open.proofs.Words.{AreWhole, In, LentFile, take}
 use Rattle.trio_open.proofs.full.are_leases_full.Given as goal
 
 -- those so far

@@ -1,5 +1,4 @@
-use Rattle.std.proofs.Common.{◌≡◌, length, arith}
-use Rattle.trio_lease.specs.declared.parts.FreshParts.{FreshParts}
+use Rattle.trio_open.proofs.Words.{◌≡◌, FreshParts, arith, length}
 use Rattle.trio_open.proofs.Fullness.{each_item}
 use Rattle.trio_open.proofs.full.are_pages_full.Goals as goal
 

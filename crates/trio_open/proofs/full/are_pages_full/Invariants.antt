@@ -1,6 +1,4 @@
-use Rattle.std.proofs.Common.{◌≡◌, length, take}
-use Rattle.trio_lists.specs.Lists.{In}
-use Rattle.trio_lease.specs.declared.parts.FreshParts.{FreshParts}
+use Rattle.trio_open.proofs.Words.{◌≡◌, FreshParts, In, length, take}
 use Rattle.trio_open.proofs.full.are_pages_full.Given as goal
 
 -- those so far

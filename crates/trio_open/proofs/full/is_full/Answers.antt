@@ -1,5 +1,4 @@
-use Rattle.std.proofs.Common.{subst, sym}
-use Rattle.trio_lists.specs.Lists.{In}
+use Rattle.trio_open.proofs.Words.{In, subst, sym}
 use Rattle.trio_open.proofs.Fullness.{full}
 use Rattle.trio_open.proofs.full.is_full.Goals as goal
 

@@ -1,5 +1,4 @@
-use Rattle.std.proofs.Common.{◌≡◌, length}
-use Rattle.trio_lease.specs.declared.parts.LentPage.{LentPage}
+use Rattle.trio_open.proofs.Words.{◌≡◌, LentPage, length}
 use Rattle.trio_open.proofs.Fullness.{each_next, whole_at}
 use Rattle.trio_open.proofs.full.is_index_full.Goals as goal
 

@@ -1,5 +1,4 @@
-use Rattle.std.proofs.Common.{refl, sym}
-use Rattle.trio_checkpoint.specs.Covered.{core_of}
+use Rattle.trio_open.proofs.Words.{core_of, refl, sym}
 use Rattle.trio_open.proofs.LendLemmas.{index_there, covered_there, index_once, blocks_once, blocks_there, blocks_same, both_gone, opened_is, checkpoint_is, checkpoint_covers, lease_is, same_chain}
 use Rattle.trio_open.proofs.lend.lend.Goals as goal
 

@@ -1,5 +1,4 @@
-use Rattle.std.proofs.Common.{arith, rules, get_or}
-use Rattle.std.proofs.lemmas.List.{get_or_default}
+use Rattle.trio_open.proofs.Words.{arith, get_or, get_or_default, rules}
 use Rattle.trio_open.proofs.LendLemmas.{next_there, next_lent, next_gone}
 use Rattle.trio_open.proofs.lend.take_pages.Goals as goal
 

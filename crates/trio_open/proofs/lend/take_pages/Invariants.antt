@@ -1,9 +1,4 @@
-use Rattle.std.proofs.Common.{◌≡◌, ◌≤◌, map, take, length}
-use Rattle.std.specs.Prelude.{vec_capacity}
-use Rattle.trio_layout.specs.Pages.{sheets_of}
-use Rattle.trio_rights.specs.Sheets.{without_pages}
-use Rattle.trio_checkpoint.specs.Covered.{core_of}
-use Rattle.trio_open.specs.Open.{untouched}
+use Rattle.trio_open.proofs.Words.{◌≡◌, ◌≤◌, core_of, length, map, sheets_of, take, untouched, vec_capacity, without_pages}
 use Rattle.trio_open.proofs.lend.take_pages.Given as goal
 
 abbrev pub invariant-loop-number : goal.invariant-loop-number

@@ -1,5 +1,4 @@
-use Rattle.std.proofs.Common.{◌≡◌, ◌≤◌, length, take}
-use Rattle.std.specs.Prelude.{vec_capacity}
+use Rattle.trio_open.proofs.Words.{◌≡◌, ◌≤◌, length, take, vec_capacity}
 use Rattle.trio_allot.specs.Out.{inode_numbers}
 use Rattle.trio_open.proofs.numbers.add_inodes.Given as goal
 

@@ -1,4 +1,4 @@
-use Rattle.std.proofs.Common.{◌∙◌}
+use Rattle.trio_open.proofs.Words.{◌∙◌}
 use Rattle.trio_open.proofs.PartedHolds.{written_any}
 use Rattle.trio_open.proofs.parted.is_written.Goals as goal
 

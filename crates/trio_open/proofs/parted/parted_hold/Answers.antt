@@ -1,7 +1,4 @@
-use Rattle.std.proofs.Common.{◌+◌, ap, arith, drop, sym, ◌∙◌}
-use Rattle.trio_open.specs.inner.Parting.{lowest_parted}
-use Rattle.trio_state.specs.Bundles.{lower}
-use Rattle.trio_lease.specs.Views.{bundle_in}
+use Rattle.trio_open.proofs.Words.{◌+◌, ◌∙◌, ap, arith, bundle_in, drop, lower, lowest_parted, sym}
 use Rattle.trio_open.proofs.PartedHolds.{lower_of, next_parted, next_whole}
 use Rattle.trio_open.proofs.parted.parted_hold.Goals.{then-is_parted, else-is_parted}
 use Rattle.trio_open.proofs.parted.parted_hold.Goals as goal

@@ -1,6 +1,4 @@
-use Rattle.std.proofs.Common.{◌≡◌, drop}
-use Rattle.trio_lease.specs.Views.{bundle_in}
-use Rattle.trio_open.specs.inner.Parting.{lowest_parted}
+use Rattle.trio_open.proofs.Words.{◌≡◌, bundle_in, drop, lowest_parted}
 use Rattle.trio_open.proofs.PartedHolds.{lower_of}
 use Rattle.trio_open.proofs.parted.parted_hold.Given as goal
 

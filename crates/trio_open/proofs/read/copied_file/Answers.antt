@@ -1,5 +1,4 @@
-use Rattle.std.proofs.Common.{sym}
-use Rattle.trio_checkpoint.specs.Covered.{core_of}
+use Rattle.trio_open.proofs.Words.{core_of, sym}
 use Rattle.trio_open.proofs.LendLemmas.{blocks_at_home, covered_there, index_there, read_is, same_chain, shown_is}
 use Rattle.trio_open.proofs.read.copied_file.Goals as goal
 

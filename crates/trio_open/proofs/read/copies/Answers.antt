@@ -1,5 +1,4 @@
-use Rattle.std.proofs.Common.{arith, get_or, ◌∙◌}
-use Rattle.std.proofs.lemmas.List.{get_or_default}
+use Rattle.trio_open.proofs.Words.{◌∙◌, arith, get_or, get_or_default}
 use Rattle.trio_open.proofs.LendLemmas.{next_copied}
 use Rattle.trio_open.proofs.read.copies.Goals as goal
 

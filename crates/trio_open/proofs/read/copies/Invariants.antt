@@ -1,7 +1,4 @@
-use Rattle.std.proofs.Common.{◌≡◌, ◌≤◌, map, take}
-use Rattle.trio_layout.specs.Pages.{sheets_of}
-use Rattle.trio_checkpoint.specs.Covered.{core_of}
-use Rattle.trio_open.specs.Open.{untouched}
+use Rattle.trio_open.proofs.Words.{◌≡◌, ◌≤◌, core_of, map, sheets_of, take, untouched}
 use Rattle.trio_open.proofs.read.copies.Given as goal
 
 abbrev pub invariant-loop-number : goal.invariant-loop-number

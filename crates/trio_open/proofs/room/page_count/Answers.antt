@@ -1,7 +1,4 @@
-use Rattle.std.proofs.Common.{◌≡◌, ◌+◌, List, length, drop, ap, sym, ◌∙◌, arith}
-use Rattle.trio_lease.specs.Shown.{LentFile}
-use Rattle.trio_lease.specs.declared.parts.FreshParts.{FreshParts}
-use Rattle.trio_open.specs.inner.Room.{pages_shown}
+use Rattle.trio_open.proofs.Words.{◌+◌, ◌∙◌, ◌≡◌, FreshParts, LentFile, List, ap, arith, drop, length, pages_shown, sym}
 use Rattle.trio_open.proofs.Counts.{page_total, shown_next}
 use Rattle.trio_open.proofs.room.page_count.Goals as goal
 

@@ -1,7 +1,4 @@
-use Rattle.std.proofs.Common.{◌≡◌, ◌+◌, drop, length}
-use Rattle.trio_rights.specs.Bundle.{bundle_pages}
-use Rattle.trio_lease.specs.Views.{bundle_in}
-use Rattle.trio_open.specs.inner.Room.{pages_shown}
+use Rattle.trio_open.proofs.Words.{◌+◌, ◌≡◌, bundle_in, bundle_pages, drop, length, pages_shown}
 use Rattle.trio_open.proofs.room.page_count.Given as goal
 
 abbrev pub invariant-loop-lease : goal.invariant-loop-lease

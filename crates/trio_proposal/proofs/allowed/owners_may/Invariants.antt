@@ -1,5 +1,4 @@
-use Rattle.std.proofs.Common.{◌≤◌, ◌<◌, ℕ, IsTrue, false, slice_index_or}
-use Rattle.trio_proposal.specs.inner.Steps.{owner_may}
+use Rattle.trio_proposal.proofs.Words.{◌<◌, ◌≤◌, IsTrue, false, owner_may, slice_index_or, ℕ}
 use Rattle.trio_proposal.proofs.allowed.owners_may.Given as goal
 
 abbrev pub invariant-loop-page : goal.invariant-loop-page

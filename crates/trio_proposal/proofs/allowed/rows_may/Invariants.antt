@@ -1,6 +1,4 @@
-use Rattle.std.proofs.Common.{◌≤◌, ◌<◌, ℕ, IsTrue, false, slice_index_or}
-use Rattle.trio_rights.specs.Row.{row_in}
-use Rattle.trio_proposal.specs.inner.Steps.{row_may}
+use Rattle.trio_proposal.proofs.Words.{◌<◌, ◌≤◌, IsTrue, false, row_in, row_may, slice_index_or, ℕ}
 use Rattle.trio_proposal.proofs.allowed.rows_may.Given as goal
 
 abbrev pub invariant-loop-ino : goal.invariant-loop-ino

@@ -1,7 +1,4 @@
-use Rattle.std.proofs.Common.{◌∙◌, length, ap}
-use Rattle.trio_layout.specs.Core.{Core}
-use Rattle.trio_layout.specs.Accept.{with_bodies}
-use Rattle.trio_proposal.specs.inner.Steps.{mets_below}
+use Rattle.trio_proposal.proofs.Words.{◌∙◌, Core, ap, length, mets_below, with_bodies}
 use Rattle.trio_proposal.proofs.Keeping.{placed}
 use Rattle.trio_proposal.proofs.Judging.{accepted, allowed_is, core_is, is_found, next_pages, owned_long, refused, unsound}
 use Rattle.trio_proposal.proofs.judgement.judge.Goals as goal

@@ -1,5 +1,4 @@
-use Rattle.std.proofs.Common.{◌≡◌, ◌+◌, map, take, vec_len}
-use Rattle.trio_lists.specs.Marked.{MarksJust}
+use Rattle.trio_proposal.proofs.Words.{◌+◌, ◌≡◌, MarksJust, map, take, vec_len}
 use Rattle.trio_proposal.proofs.marks.number_marks.Given as goal
 
 abbrev pub invariant-loop-number : goal.invariant-loop-number

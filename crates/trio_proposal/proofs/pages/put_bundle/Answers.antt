@@ -1,10 +1,4 @@
-use Rattle.std.proofs.Common.{◌++◌, [], length, map, sym, ap, ◌∙◌, subst}
-use Rattle.std.specs.List.{flat_map}
-use Rattle.trio_lists.specs.Marked.{MarksJust}
-use Rattle.trio_lease.specs.Views.{fresh_sheet}
-use Rattle.trio_rights.specs.Sheets.{sheet_numbers, with_pages}
-use Rattle.trio_lists.proofs.Members.{In-left, In-right}
-use Rattle.trio_proposal.specs.inner.Steps.{ArePut, AreWithin, lease_sheets}
+use Rattle.trio_proposal.proofs.Words.{◌++◌, ◌∙◌, ArePut, AreWithin, In-left, In-right, MarksJust, [], ap, flat_map, fresh_sheet, lease_sheets, length, map, sheet_numbers, subst, sym, with_pages}
 use Rattle.trio_proposal.proofs.Puts.{put_both, put_long, sheets_are}
 use Rattle.trio_proposal.proofs.pages.put_bundle.Goals as goal
 

@@ -1,6 +1,4 @@
-use Rattle.std.proofs.Common.{◌<◌, map, take, sym, subst, arith}
-use Rattle.trio_lease.specs.Views.{fresh_sheet}
-use Rattle.trio_rights.specs.Sheets.{Sheet}
+use Rattle.trio_proposal.proofs.Words.{◌<◌, Sheet, arith, fresh_sheet, map, subst, sym, take}
 use Rattle.trio_proposal.proofs.Puts.{fresh_there, put_long, put_more, there_in}
 use Rattle.trio_proposal.proofs.pages.put_fresh.Goals as goal
 

@@ -1,6 +1,4 @@
-use Rattle.std.proofs.Common.{map, take}
-use Rattle.trio_lease.specs.Views.{fresh_sheet}
-use Rattle.trio_proposal.specs.inner.Steps.{ArePut}
+use Rattle.trio_proposal.proofs.Words.{ArePut, fresh_sheet, map, take}
 use Rattle.trio_proposal.proofs.pages.put_fresh.Given as goal
 
 abbrev pub invariant-loop-page : goal.invariant-loop-page

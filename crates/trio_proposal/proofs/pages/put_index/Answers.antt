@@ -1,7 +1,4 @@
-use Rattle.std.proofs.Common.{◌<◌, List, map, take, sym, subst}
-use Rattle.trio_lease.specs.declared.parts.LentPage.{LentPage}
-use Rattle.trio_lease.specs.Views.{lent_sheet}
-use Rattle.trio_rights.specs.Sheets.{Sheet}
+use Rattle.trio_proposal.proofs.Words.{◌<◌, LentPage, List, Sheet, lent_sheet, map, subst, sym, take}
 use Rattle.trio_proposal.proofs.Puts.{lent_there, put_long, put_more, there_in}
 use Rattle.trio_proposal.proofs.pages.put_index.Goals as goal
 

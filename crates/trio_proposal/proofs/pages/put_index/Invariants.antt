@@ -1,6 +1,4 @@
-use Rattle.std.proofs.Common.{map, take}
-use Rattle.trio_lease.specs.Views.{lent_sheet}
-use Rattle.trio_proposal.specs.inner.Steps.{ArePut}
+use Rattle.trio_proposal.proofs.Words.{ArePut, lent_sheet, map, take}
 use Rattle.trio_proposal.proofs.pages.put_index.Given as goal
 
 abbrev pub invariant-loop-i : goal.invariant-loop-i

@@ -1,7 +1,4 @@
-use Rattle.std.proofs.Common.{length, map, take, sym, ◌∙◌, subst, arith}
-use Rattle.std.specs.List.{flat_map}
-use Rattle.trio_lease.specs.Views.{lent_sheet}
-use Rattle.trio_proposal.specs.inner.Steps.{AreWithin, lease_sheets}
+use Rattle.trio_proposal.proofs.Words.{◌∙◌, AreWithin, arith, flat_map, lease_sheets, length, lent_sheet, map, subst, sym, take}
 use Rattle.trio_proposal.proofs.Puts.{blocks_within, index_within, leases_more, put_both, put_long}
 use Rattle.trio_proposal.proofs.pages.put_leases.Goals as goal
 

@@ -1,6 +1,4 @@
-use Rattle.std.proofs.Common.{take}
-use Rattle.std.specs.List.{flat_map}
-use Rattle.trio_proposal.specs.inner.Steps.{ArePut, lease_sheets}
+use Rattle.trio_proposal.proofs.Words.{ArePut, flat_map, lease_sheets, take}
 use Rattle.trio_proposal.proofs.pages.put_leases.Given as goal
 
 abbrev pub invariant-loop-lease : goal.invariant-loop-lease

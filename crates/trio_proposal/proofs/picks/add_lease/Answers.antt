@@ -1,5 +1,4 @@
-use Rattle.std.proofs.Common.{None, ap, sym, ◌∙◌, arith}
-use Rattle.std.specs.Prelude.{is_some}
+use Rattle.trio_proposal.proofs.Words.{◌∙◌, None, ap, arith, is_some, sym}
 use Rattle.std.proofs.lemmas.List.{get_or_read}
 use Rattle.trio_proposal.proofs.Leases.{lent_again, lent_new, some_none}
 use Rattle.trio_proposal.proofs.picks.add_lease.Goals as goal

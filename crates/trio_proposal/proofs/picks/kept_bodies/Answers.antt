@@ -1,5 +1,4 @@
-use Rattle.std.proofs.Common.{sym, subst}
-use Rattle.trio_proposal.specs.inner.Steps.{ArePlaced}
+use Rattle.trio_proposal.proofs.Words.{ArePlaced, subst, sym}
 use Rattle.trio_proposal.proofs.picks.kept_bodies.Goals as goal
 
 pub kept_body-requires : goal.kept_body-requires

@@ -1,7 +1,4 @@
-use Rattle.std.proofs.Common.{◌≡◌, ◌<◌, ℕ, None, length, slice_index_or}
-use Rattle.std.specs.Option.{option_map}
-use Rattle.trio_rights.specs.Row.{row_in}
-use Rattle.trio_proposal.specs.inner.Steps.{kept_at}
+use Rattle.trio_proposal.proofs.Words.{◌<◌, ◌≡◌, None, kept_at, length, option_map, row_in, slice_index_or, ℕ}
 use Rattle.trio_proposal.proofs.picks.kept_bodies.Given as goal
 
 abbrev pub invariant-loop-ino : goal.invariant-loop-ino

@@ -1,4 +1,4 @@
-use Rattle.std.proofs.Common.{sym}
+use Rattle.trio_proposal.proofs.Words.{sym}
 use Rattle.trio_tables.specs.Row.{as_row}
 use Rattle.trio_proposal.proofs.picks.kept_body.Goals as goal
 

@@ -1,6 +1,4 @@
-use Rattle.std.proofs.Common.{◌≡◌, ◌<◌, ◌≤◌, ℕ, None, length, slice_index_or}
-use Rattle.trio_rights.specs.Row.{row_in}
-use Rattle.trio_proposal.specs.inner.Steps.{picked_by}
+use Rattle.trio_proposal.proofs.Words.{◌<◌, ◌≡◌, ◌≤◌, None, length, picked_by, row_in, slice_index_or, ℕ}
 use Rattle.trio_proposal.proofs.picks.picks_of.Given as goal
 
 abbrev pub invariant-loop-ino : goal.invariant-loop-ino

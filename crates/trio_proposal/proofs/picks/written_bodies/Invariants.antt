@@ -1,5 +1,4 @@
-use Rattle.std.proofs.Common.{◌≡◌, ◌+◌, take, vec_len}
-use Rattle.trio_proposal.specs.inner.Steps.{AreLentBodies}
+use Rattle.trio_proposal.proofs.Words.{◌+◌, ◌≡◌, AreLentBodies, take, vec_len}
 use Rattle.trio_proposal.proofs.picks.written_bodies.Given as goal
 
 abbrev pub invariant-loop-lease : goal.invariant-loop-lease

@@ -1,4 +1,4 @@
-use Rattle.std.proofs.Common.{arith}
+use Rattle.trio_proposal.proofs.Words.{arith}
 use Rattle.trio_proposal.proofs.Placing.{one_below_more}
 use Rattle.trio_proposal.proofs.place.place_bodies.Goals as goal
 

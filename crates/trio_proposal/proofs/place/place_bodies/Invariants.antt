@@ -1,6 +1,4 @@
-use Rattle.std.proofs.Common.{◌≡◌}
-use Rattle.trio_layout.specs.Accept.{with_bodies}
-use Rattle.trio_proposal.specs.inner.Steps.{mets_below}
+use Rattle.trio_proposal.proofs.Words.{◌≡◌, mets_below, with_bodies}
 use Rattle.trio_proposal.proofs.place.place_bodies.Given as goal
 
 abbrev pub invariant-loop-ino : goal.invariant-loop-ino

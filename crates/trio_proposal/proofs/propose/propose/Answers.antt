@@ -1,7 +1,4 @@
-use Rattle.std.proofs.Common.{length, subst, sym}
-use Rattle.trio_lease.specs.Views.{bundle_in}
-use Rattle.trio_rights.specs.Bundle.{bundle_sheets}
-use Rattle.trio_proposal.specs.inner.Steps.{AreWithin}
+use Rattle.trio_proposal.proofs.Words.{AreWithin, bundle_in, bundle_sheets, length, subst, sym}
 use Rattle.trio_proposal.proofs.propose.propose.Goals as goal
 
 pub put_bundle-requires : goal.put_bundle-requires

@@ -1,9 +1,5 @@
-use Rattle.std.proofs.Common.{◌++◌, ◌∷◌, [], sym, ap, subst, ◌∙◌}
-use Rattle.std.proofs.lemmas.List.{append_assoc}
-use Rattle.trio_desk.specs.Out.{without_read}
-use Rattle.trio_desk.specs.Call.{Done, GiveBack}
-use Rattle.trio_raw.specs.Asked.{back_calls}
-use Rattle.trio_raw.specs.Has.{Has, OnList, with_reads}
+use Rattle.trio_raw.proofs.Words.{◌++◌, ◌∙◌, ◌∷◌, Done, Has, OnList, [], ap, append_assoc, back_calls, subst, sym, with_reads, without_read}
+use Rattle.trio_desk.specs.Call.{GiveBack}
 use Rattle.trio_raw.proofs.Backing.{calls_more, last_out, stands-last}
 use Rattle.trio_raw.proofs.Standing.{stands_alike}
 use Rattle.trio_raw.proofs.back.give_all_back.Goals as goal

@@ -1,8 +1,4 @@
-use Rattle.std.proofs.Common.{◌≡◌, List, ◌++◌, length}
-use Rattle.trio_lease.specs.Shown.{Shown}
-use Rattle.trio_desk.specs.Calls.{Calls}
-use Rattle.trio_raw.specs.Asked.{back_calls}
-use Rattle.trio_raw.specs.Has.{OnList, with_reads}
+use Rattle.trio_raw.proofs.Words.{◌++◌, ◌≡◌, Calls, List, OnList, Shown, back_calls, length, with_reads}
 use Rattle.trio_raw.proofs.back.give_all_back.Given as goal
 
 -- what is left is out, and the calls that gave the others back led here

@@ -1,5 +1,4 @@
-use Rattle.std.proofs.Common.{◌≡◌, [], take, drop}
-use Rattle.trio_lists.specs.Lists.{are_new}
+use Rattle.trio_raw.proofs.Words.{◌≡◌, [], are_new, drop, take}
 use Rattle.trio_raw.proofs.lent.are_once.Given as goal
 
 -- what is left is new after what came before exactly where all stand once

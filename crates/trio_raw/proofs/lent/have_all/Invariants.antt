@@ -1,6 +1,5 @@
-use Rattle.std.proofs.Common.{◌≡◌, drop, map}
-use Rattle.std.specs.List.{list_all}
-use Rattle.trio_lists.specs.Lists.{is_among}
+use Rattle.trio_raw.proofs.Words.{◌≡◌, drop, is_among, list_all}
+use Rattle.std.proofs.Common.{map}
 use Rattle.trio_raw.proofs.lent.have_all.Given as goal
 
 -- what is left is there exactly where all is

@@ -1,4 +1,4 @@
-use Rattle.std.proofs.Common.{◌+◌, ◌<◌, ◌∙◌, sym, ap, arith, length, ◌++◌}
+use Rattle.trio_raw.proofs.Words.{◌++◌, ◌+◌, ◌<◌, ◌∙◌, ap, arith, length, sym}
 use Rattle.std.proofs.lemmas.List.{length-drop}
 use Rattle.trio_raw.proofs.Places.{once_more, moved_more, left_more, passed_more, removed_count, kept_count}
 use Rattle.trio_raw.proofs.lent.move_all.Goals as goal

@@ -1,6 +1,4 @@
-use Rattle.std.proofs.Common.{◌≡◌, ◌+◌, ◌≤◌, true, [], ◌++◌, drop, length, vec_capacity, vec_len}
-use Rattle.trio_lists.specs.Lists.{are_new}
-use Rattle.trio_raw.specs.Has.{named, without_all}
+use Rattle.trio_raw.proofs.Words.{◌++◌, ◌+◌, ◌≡◌, ◌≤◌, [], are_new, drop, length, named, true, vec_capacity, vec_len, without_all}
 use Rattle.trio_raw.proofs.lent.move_all.Given as goal
 
 -- with what is left to be moved, all is as after all

@@ -1,4 +1,5 @@
-use Rattle.std.proofs.Common.{◌≡◌, ◌≤◌, length, map, take, vec_capacity, vec_len}
+use Rattle.trio_raw.proofs.Words.{◌≡◌, ◌≤◌, length, take, vec_capacity, vec_len}
+use Rattle.std.proofs.Common.{map}
 use Rattle.trio_raw.proofs.lent.numbers_of.Given as goal
 
 -- the numbers so far, and room for the others

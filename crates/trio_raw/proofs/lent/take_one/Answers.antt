@@ -1,5 +1,4 @@
-use Rattle.std.proofs.Common.{◌≡◌, eqb, Some, None, sym, ◌∙◌}
-use Rattle.std.specs.List.{position}
+use Rattle.trio_raw.proofs.Words.{◌∙◌, ◌≡◌, None, Some, eqb, position, sym}
 use Rattle.trio_raw.proofs.Places.{place_missing, place_found, place_rest, without-same}
 use Rattle.trio_raw.proofs.lent.take_one.Goals as goal
 

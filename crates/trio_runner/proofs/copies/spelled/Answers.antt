@@ -1,4 +1,4 @@
-use Rattle.std.proofs.Common.{◌++◌, ◌∙◌, ap}
+use Rattle.trio_runner.proofs.Words.{◌++◌, ◌∙◌, ap}
 use Rattle.trio_runner.proofs.Spelled.{parts_more}
 use Rattle.trio_runner.proofs.copies.spelled.Goals as goal
 

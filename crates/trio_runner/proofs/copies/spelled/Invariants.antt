@@ -1,5 +1,4 @@
-use Rattle.std.proofs.Common.{◌≡◌, take}
-use Rattle.trio_names.specs.Path.{parts_bytes}
+use Rattle.trio_runner.proofs.Words.{◌≡◌, parts_bytes, take}
 use Rattle.trio_runner.proofs.copies.spelled.Given as goal
 
 abbrev pub invariant-loop-name : goal.invariant-loop-name

@@ -1,6 +1,4 @@
-use Rattle.std.proofs.Common.{Bool, sym, subst, ◌∙◌}
-use Rattle.std.specs.Prelude.{MatchBool}
-use Rattle.trio_calls_file.specs.Asks.{FileCalled}
+use Rattle.trio_runner.proofs.Words.{◌∙◌, Bool, FileCalled, MatchBool, subst, sym}
 use Rattle.trio_calls_dir.specs.Dir.{DirCalled}
 use Rattle.trio_runner.proofs.CallKinds.{dir_call_is, file_call_is}
 use Rattle.trio_runner.proofs.honest.make_call.Goals as goal

@@ -1,4 +1,5 @@
-use Rattle.trio_edit_laws.proofs.Called.{may_be_settled, settle_may}
+use Rattle.trio_runner.proofs.Words.{may_be_settled}
+use Rattle.trio_edit_laws.proofs.Called.{settle_may}
 use Rattle.trio_runner.proofs.honest.play_settle.Goals as goal
 
 pub settle-requires-clause-ready : goal.settle-requires-clause-ready

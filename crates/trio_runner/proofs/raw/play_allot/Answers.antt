@@ -1,4 +1,4 @@
-use Rattle.std.proofs.Common.{refl, sym, subst}
+use Rattle.trio_runner.proofs.Words.{refl, subst, sym}
 use Rattle.trio_report.specs.declared.answer.LineAnswer.TheVariants.{Allotted}
 use Rattle.trio_runner.proofs.Calling.{AllotTold, allot_called, if_ok}
 use Rattle.trio_runner.proofs.raw.play_allot.Goals as goal

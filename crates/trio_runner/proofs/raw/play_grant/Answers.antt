@@ -1,4 +1,4 @@
-use Rattle.std.proofs.Common.{Ok, Err}
+use Rattle.trio_runner.proofs.Words.{Err, Ok}
 use Rattle.trio_runner.proofs.Calling.{grant_called, if_ok}
 use Rattle.trio_runner.proofs.raw.play_grant.Goals as goal
 

@@ -1,4 +1,4 @@
-use Rattle.std.proofs.Common.{Ok, Err, refl}
+use Rattle.trio_runner.proofs.Words.{Err, Ok, refl}
 use Rattle.trio_runner.proofs.Calling.{if_ok, mode_called}
 use Rattle.trio_runner.proofs.raw.play_mode.Goals as goal
 

@@ -1,4 +1,4 @@
-use Rattle.std.proofs.Common.{Ok, Err, refl, sym, ap, ◌∙◌, subst}
+use Rattle.trio_runner.proofs.Words.{◌∙◌, Err, Ok, ap, refl, subst, sym}
 use Rattle.trio_report.specs.declared.answer.LineAnswer.TheVariants.{Accepted, Refused, NotClosed}
 use Rattle.trio_runner.proofs.Calling.{ReleaseTold, release_called}
 use Rattle.trio_runner.proofs.raw.play_release.Goals as goal

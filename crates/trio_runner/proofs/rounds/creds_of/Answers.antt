@@ -1,6 +1,4 @@
-use Rattle.std.proofs.Common.{ap, sym, ◌∙◌}
-use Rattle.std.proofs.lemmas.List.{take_all}
-use Rattle.trio_runner.specs.Play.{creds_in}
+use Rattle.trio_runner.proofs.Words.{◌∙◌, ap, creds_in, sym, take_all}
 use Rattle.trio_runner.proofs.Beginning.{creds_more}
 use Rattle.trio_runner.proofs.rounds.creds_of.Goals as goal
 

@@ -1,5 +1,4 @@
-use Rattle.std.proofs.Common.{◌≡◌, take}
-use Rattle.trio_runner.specs.Play.{creds_in}
+use Rattle.trio_runner.proofs.Words.{◌≡◌, creds_in, take}
 use Rattle.trio_runner.proofs.rounds.creds_of.Given as goal
 
 abbrev pub invariant-loop-lib : goal.invariant-loop-lib

@@ -1,6 +1,4 @@
-use Rattle.std.proofs.Common.{◌+◌, ◌∷◌, [], ap, length, take, subst, sym, arith}
-use Rattle.std.proofs.lemmas.List.{length-append}
-use Rattle.trio_runner.specs.inner.Ready.{AreNew}
+use Rattle.trio_runner.proofs.Words.{◌+◌, ◌∷◌, AreNew, [], ap, arith, length, length-append, subst, sym, take}
 use Rattle.trio_runner.proofs.Seats.{new_next}
 use Rattle.trio_runner.proofs.rounds.new_players.Goals as goal
 

@@ -1,5 +1,5 @@
-use Rattle.std.proofs.Common.{◌≡◌, ◌≤◌, length, take, vec_capacity}
-use Rattle.trio_runner.specs.inner.Ready.{AreNew}
+use Rattle.trio_runner.proofs.Words.{◌≡◌, ◌≤◌, AreNew, length, take}
+use Rattle.std.proofs.Common.{vec_capacity}
 use Rattle.trio_runner.proofs.rounds.new_players.Given as goal
 
 abbrev pub invariant-loop-n : goal.invariant-loop-n

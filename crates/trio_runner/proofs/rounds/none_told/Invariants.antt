@@ -1,6 +1,4 @@
-use Rattle.std.proofs.Common.{◌≡◌}
-use Rattle.trio_lists.specs.Lists.{tabulated}
-use Rattle.trio_runner.specs.Play.{untold}
+use Rattle.trio_runner.proofs.Words.{◌≡◌, tabulated, untold}
 use Rattle.trio_runner.proofs.rounds.none_told.Given as goal
 
 abbrev pub invariant-loop-n : goal.invariant-loop-n

@@ -1,9 +1,5 @@
-use Rattle.std.proofs.Common.{◌+◌, ◌≤◌, sym, subst, arith}
-use Rattle.std.specs.Prelude.{slice_get, slice_set, take}
-use Rattle.std.proofs.lemmas.List.{take_all}
-use Rattle.trio_runner.specs.Rounds.{course, courses_from, line_turns, round_of, turn_list}
-use Rattle.trio_runner.specs.inner.Ready.{Took, lines_in, table}
-use Rattle.trio_ctl.proofs.Underways.{none_still}
+use Rattle.trio_runner.proofs.Words.{◌+◌, ◌≤◌, Took, arith, course, courses_from, line_turns, lines_in, none_still, round_of, slice_get, subst, sym, table, take_all, turn_list}
+use Rattle.std.specs.Prelude.{slice_set, take}
 use Rattle.trio_runner.proofs.Seats.{all_count, courses_length, round_more, seat_closed, seat_goes, seat_library, seat_lines, seat_next, seat_within, seated_after, took_more}
 use Rattle.trio_runner.proofs.rounds.play_round.Goals as goal
 

@@ -1,6 +1,4 @@
-use Rattle.std.proofs.Common.{take}
-use Rattle.trio_runner.specs.Rounds.{courses_from, round_of}
-use Rattle.trio_runner.specs.inner.Ready.{AreSeated, Took, table}
+use Rattle.trio_runner.proofs.Words.{AreSeated, Took, courses_from, round_of, table, take}
 use Rattle.trio_runner.proofs.rounds.play_round.Given as goal
 
 abbrev pub invariant-loop-at : goal.invariant-loop-at

@@ -1,7 +1,4 @@
-use Rattle.std.proofs.Common.{sym, subst}
-use Rattle.trio_runner.specs.Rounds.{courses_from, in_rounds, round_of}
-use Rattle.trio_runner.specs.inner.Ready.{Took, table}
-use Rattle.trio_ctl.proofs.Underways.{none_still}
+use Rattle.trio_runner.proofs.Words.{Took, courses_from, in_rounds, none_still, round_of, subst, sym, table}
 use Rattle.trio_runner.proofs.Seats.{rounds_more, took_more}
 use Rattle.trio_runner.proofs.rounds.play_rounds.Goals as goal
 

@@ -1,5 +1,4 @@
-use Rattle.trio_runner.specs.Rounds.{courses_from, in_rounds}
-use Rattle.trio_runner.specs.inner.Ready.{AreSeated, Took, table}
+use Rattle.trio_runner.proofs.Words.{AreSeated, Took, courses_from, in_rounds, table}
 use Rattle.trio_runner.proofs.rounds.play_rounds.Given as goal
 
 abbrev pub invariant-loop-round : goal.invariant-loop-round

@@ -1,8 +1,4 @@
-use Rattle.std.proofs.Common.{subst, sym, ◌∙◌}
-use Rattle.trio_ctl.specs.Ctl.{Controller}
-use Rattle.trio_ctl.specs.Desk.{desk_of}
-use Rattle.trio_runner.specs.Players.{GoesOn, HasClosed}
-use Rattle.trio_runner.specs.inner.Ready.{share_in}
+use Rattle.trio_runner.proofs.Words.{◌∙◌, Controller, GoesOn, HasClosed, desk_of, share_in, subst, sym}
 use Rattle.trio_runner.proofs.Calling.{on_both, turn_name, turn_took}
 use Rattle.trio_runner.proofs.rounds.play_turn.Goals as goal
 

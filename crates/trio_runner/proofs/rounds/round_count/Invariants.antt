@@ -1,5 +1,4 @@
-use Rattle.std.proofs.Common.{◌≡◌, drop, max}
-use Rattle.trio_runner.specs.Rounds.{courses_from, longest}
+use Rattle.trio_runner.proofs.Words.{◌≡◌, courses_from, drop, longest, max}
 use Rattle.trio_runner.proofs.rounds.round_count.Given as goal
 
 abbrev pub invariant-loop-lib : goal.invariant-loop-lib

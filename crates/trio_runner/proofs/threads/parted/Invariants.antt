@@ -1,5 +1,4 @@
-use Rattle.std.proofs.Common.{◌≡◌, Some, map}
-use Rattle.trio_runner.specs.declared.threads.LibRun.{LibRun}
+use Rattle.trio_runner.proofs.Words.{◌≡◌, LibRun, Some, map}
 use Rattle.trio_runner.proofs.threads.parted.Given as goal
 
 abbrev pub invariant-loop-run : goal.invariant-loop-run

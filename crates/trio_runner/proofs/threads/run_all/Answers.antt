@@ -1,11 +1,10 @@
-use Rattle.std.proofs.Common.{◌∷◌, [], length, refl, arith}
+use Rattle.trio_runner.proofs.Words.{◌∷◌, [], arith, crosses, length, refl, seat_sends}
 use Rattle.std.proofs.lemmas.Option.{slice_get_read}
 use mir.Syntax.{named}
 use denote.Param.Send.{param_sync, sendable, shr_slice_sync, shr_sync}
 use denote.Struct.Tuple.{type_at}
-use Rattle.std.proofs.Crossing.{crosses}
 use Rattle.std.proofs.alloc.Global.TheSendSync as heap
-use Rattle.trio_shared.proofs.Sends.{seat_sends, shared_syncs}
+use Rattle.trio_shared.proofs.Sends.{shared_syncs}
 use Rattle.trio_runner.proofs.Closing.{have_run, if_both}
 use Rattle.trio_runner.proofs.Sends.{captures_sync, run_sends, script_syncs}
 use Rattle.trio_runner.proofs.threads.run_all.Goals as goal

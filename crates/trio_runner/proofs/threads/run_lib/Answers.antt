@@ -1,6 +1,4 @@
-use Rattle.std.proofs.Common.{◌-◌, ap, get_or, subst, ◌∙◌}
-use Rattle.trio_runner.specs.Play.{Heard}
-use Rattle.trio_runner.specs.inner.Threads.{WentThrough}
+use Rattle.trio_runner.proofs.Words.{◌-◌, ◌∙◌, Heard, WentThrough, ap, get_or, subst}
 use Rattle.trio_runner.proofs.Beginning.{ran_all, seat_creds, seat_script}
 use Rattle.trio_runner.proofs.threads.run_lib.Goals as goal
 

@@ -1,7 +1,4 @@
-use Rattle.std.proofs.Common.{subst}
-use Rattle.trio_shared.specs.Seats.{library_of}
-use Rattle.trio_runner.specs.Play.{BeginsWith}
-use Rattle.trio_runner.specs.inner.Ready.{share_in}
+use Rattle.trio_runner.proofs.Words.{BeginsWith, library_of, share_in, subst}
 use Rattle.trio_runner.proofs.Beginning.{begins_may}
 use Rattle.trio_runner.proofs.Calling.{on_ok}
 use Rattle.trio_runner.proofs.Held.{same_library}

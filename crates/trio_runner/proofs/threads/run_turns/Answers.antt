@@ -1,11 +1,4 @@
-use Rattle.std.proofs.Common.{◌≡◌, ◌<◌, ◌≤◌, ◌++◌, ◌∷◌, [], Some, get_or, length, subst, sym, ◌∙◌, arith}
-use Rattle.std.specs.Prelude.{slice_get}
-use Rattle.std.proofs.lemmas.List.{length-append, take_all}
-use Rattle.std.proofs.lemmas.Option.{slice_get-get_or}
-use Rattle.trio_script.specs.Within.{LinesWithin}
-use Rattle.trio_runner.specs.Rounds.{Ends, line_turns}
-use Rattle.trio_runner.specs.inner.Ready.{share_in}
-use Rattle.trio_runner.specs.inner.Threads.{Went}
+use Rattle.trio_runner.proofs.Words.{◌++◌, ◌<◌, ◌∙◌, ◌∷◌, ◌≡◌, ◌≤◌, Ends, LinesWithin, Some, Went, [], arith, get_or, length, length-append, line_turns, share_in, slice_get, slice_get-get_or, subst, sym, take_all}
 use Rattle.trio_runner.proofs.Going.{went_next, went_none}
 use Rattle.trio_runner.proofs.threads.run_turns.Goals as goal
 

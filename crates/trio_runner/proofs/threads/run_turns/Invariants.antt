@@ -1,8 +1,4 @@
-use Rattle.std.proofs.Common.{◌≡◌, ◌++◌, ◌∷◌, [], take}
-use Rattle.trio_shared.specs.Seats.{desk}
-use Rattle.trio_runner.specs.Rounds.{Ends, line_turns}
-use Rattle.trio_runner.specs.inner.Ready.{lines_in, share_in}
-use Rattle.trio_runner.specs.inner.Threads.{MayGoOn, Went}
+use Rattle.trio_runner.proofs.Words.{◌++◌, ◌∷◌, ◌≡◌, Ends, MayGoOn, Went, [], desk, line_turns, lines_in, share_in, take}
 use Rattle.trio_runner.proofs.threads.run_turns.Given as goal
 
 abbrev pub invariant-loop-at : goal.invariant-loop-at

@@ -1,9 +1,4 @@
-use Rattle.std.proofs.Common.{sym, subst, ◌∙◌}
-use Rattle.trio_turn.specs.declared.seat.LibSeat.{LibSeat}
-use Rattle.trio_shared.specs.declared.held.Held.{Held}
-use Rattle.trio_shared.specs.Seats.{desk}
-use Rattle.trio_runner.specs.Players.{GoesOn}
-use Rattle.trio_runner.specs.inner.Ready.{HoldsAll, share_in}
+use Rattle.trio_runner.proofs.Words.{◌∙◌, GoesOn, Held, HoldsAll, LibSeat, desk, share_in, subst, sym}
 use Rattle.trio_runner.proofs.Calling.{on_both}
 use Rattle.trio_runner.proofs.Going.{has_closed, left_of, turn_name, turn_took}
 use Rattle.trio_runner.proofs.threads.turn_at_seat.Goals as goal

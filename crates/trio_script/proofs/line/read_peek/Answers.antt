@@ -1,4 +1,4 @@
-use Rattle.std.proofs.Common.{sym, arith}
+use Rattle.trio_script.proofs.Words.{arith, sym}
 use borrow.Author.Tests.{ltb-true, ltb-false}
 use Rattle.trio_script.proofs.Forms.{peek_too_few, peek_too_many}
 use Rattle.trio_script.proofs.line.read_peek.Goals as goal

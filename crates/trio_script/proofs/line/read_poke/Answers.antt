@@ -1,4 +1,4 @@
-use Rattle.std.proofs.Common.{sym, arith}
+use Rattle.trio_script.proofs.Words.{arith, sym}
 use borrow.Author.Tests.{ltb-true, ltb-false}
 use Rattle.trio_script.proofs.Forms.{poke_too_few, poke_too_many}
 use Rattle.trio_script.proofs.line.read_poke.Goals as goal

@@ -1,4 +1,4 @@
-use Rattle.std.proofs.Common.{Err, ap, sym}
+use Rattle.trio_script.proofs.Words.{Err, ap, sym}
 use Rattle.trio_script.proofs.Paths.{names_of-IsPath, names_of-relative, names_of-no_path}
 use Rattle.trio_script.proofs.text.path_of_bytes.Goals as goal
 

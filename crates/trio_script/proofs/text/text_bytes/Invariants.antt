@@ -1,5 +1,4 @@
-use Rattle.std.proofs.Common.{◌≡◌, length}
-use Rattle.trio_script.specs.Words.{text_of}
+use Rattle.trio_script.proofs.Words.{◌≡◌, length, text_of}
 use Rattle.trio_script.proofs.Numbers.{behind}
 use Rattle.trio_script.proofs.text.text_bytes.Given as goal
 

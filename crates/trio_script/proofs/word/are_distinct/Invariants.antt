@@ -1,8 +1,6 @@
-use Rattle.std.proofs.Common.{◌≡◌, ℕ, ◌==◌, [], take, drop}
+use Rattle.trio_script.proofs.Words.{◌==◌, ◌≡◌, [], are_new, drop, list_any, take, ℕ}
 use Rattle.std.specs.BTreeSet.{contains}
-use Rattle.std.specs.List.{list_any}
 use Rattle.std.specs.Ordering.{nat_cmp}
-use Rattle.trio_script.specs.Words.{are_new}
 use Rattle.trio_script.proofs.word.are_distinct.Given as goal
 
 abbrev pub invariant-loop-number : goal.invariant-loop-number

@@ -1,4 +1,4 @@
-use Rattle.std.proofs.Common.{◌≤◌, ◌+◌, ◌*◌, ◌^◌, arith, ◌∙◌}
+use Rattle.trio_script.proofs.Words.{◌*◌, ◌+◌, ◌^◌, ◌∙◌, ◌≤◌, arith}
 use Rattle.trio_script.proofs.Numerals.{too_large, all_digits}
 use Rattle.trio_script.proofs.word.digits_value.Goals as goal
 

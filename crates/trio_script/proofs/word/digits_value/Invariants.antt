@@ -1,5 +1,4 @@
-use Rattle.std.proofs.Common.{◌≡◌, ◌<◌, ◌^◌, drop}
-use Rattle.trio_script.specs.Words.{digits_after}
+use Rattle.trio_script.proofs.Words.{◌<◌, ◌^◌, ◌≡◌, digits_after, drop}
 use Rattle.trio_script.proofs.word.digits_value.Given as goal
 
 abbrev pub invariant-loop-digit : goal.invariant-loop-digit

@@ -1,4 +1,4 @@
-use Rattle.std.proofs.Common.{arith}
+use Rattle.trio_script.proofs.Words.{arith}
 use Rattle.trio_script.proofs.Numerals.{one_byte}
 use Rattle.trio_script.proofs.word.hex_bytes.Goals as goal
 

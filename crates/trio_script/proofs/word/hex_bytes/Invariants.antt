@@ -1,5 +1,4 @@
-use Rattle.std.proofs.Common.{◌≡◌, ◌*◌, ◌++◌, drop}
-use Rattle.trio_script.specs.Words.{hex_bytes}
+use Rattle.trio_script.proofs.Words.{◌*◌, ◌++◌, ◌≡◌, drop, hex_bytes}
 use Rattle.trio_script.proofs.word.hex_bytes.Given as goal
 
 abbrev pub invariant-loop-i : goal.invariant-loop-i

@@ -1,4 +1,4 @@
-use Rattle.std.proofs.Common.{arith}
+use Rattle.trio_script.proofs.Words.{arith}
 use Rattle.trio_script.proofs.Numerals.{le-pow8}
 use Rattle.trio_script.proofs.word.octal_value.Goals as goal
 

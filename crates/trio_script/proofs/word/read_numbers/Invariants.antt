@@ -1,4 +1,4 @@
-use Rattle.std.proofs.Common.{◌≡◌, map, drop}
+use Rattle.trio_script.proofs.Words.{◌≡◌, drop, map}
 use Rattle.trio_script.specs.Words.{numbers_of}
 use Rattle.trio_script.proofs.Numbers.{behind}
 use Rattle.trio_script.proofs.word.read_numbers.Given as goal

@@ -1,8 +1,5 @@
-use Rattle.std.proofs.Common.{◌≡◌, ◌∙◌, ap, ◌++◌, length, refl, ◌*◌, arith}
+use Rattle.trio_session.proofs.Words.{◌*◌, ◌++◌, ◌∙◌, ◌≡◌, ap, arith, length, number_at, page_in, refl, with_page, with_part}
 use Rattle.std.specs.Prelude.{replicate}
-use Rattle.trio_page.specs.Field.{with_part}
-use Rattle.trio_session.specs.Layout.{page_in, with_page}
-use Rattle.trio_session.specs.inner.Places.{number_at}
 use Rattle.trio_session.proofs.SlotBytes.{with_part-with_part}
 use Rattle.trio_session.proofs.dir_slots.fill_slot.Goals as goal
 

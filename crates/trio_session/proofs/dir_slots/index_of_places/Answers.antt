@@ -1,7 +1,4 @@
-use Rattle.std.proofs.Common.{◌<◌, ap, ◌∙◌, length, arith}
-use Rattle.std.specs.Prelude.{map}
-use Rattle.trio_session.specs.Layout.{page_in}
-use Rattle.trio_session.specs.inner.Places.{chain_at}
+use Rattle.trio_session.proofs.Words.{◌<◌, ◌∙◌, ap, arith, chain_at, length, map, page_in}
 use Rattle.trio_session.proofs.Chains.{blocks_length}
 use Rattle.trio_session.proofs.Scanned.{page_apart, page_read, page_told}
 use Rattle.trio_session.proofs.SlotEdits.{block_there}

@@ -1,9 +1,4 @@
-use Rattle.std.proofs.Common.{◌≡◌, take}
-use Rattle.std.specs.Prelude.{map}
-use Rattle.trio_auxdir.specs.Slots.{slots_of}
-use Rattle.trio_session.specs.Layout.{page_in}
-use Rattle.trio_session.specs.Seen.{every_number}
-use Rattle.trio_session.specs.inner.Places.{chain_at}
+use Rattle.trio_session.proofs.Words.{◌≡◌, chain_at, every_number, map, page_in, slots_of, take}
 use Rattle.trio_session.proofs.dir_slots.index_of_places.Given as goal
 
 -- the index has the slots of the first blocks

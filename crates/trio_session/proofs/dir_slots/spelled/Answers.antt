@@ -1,4 +1,4 @@
-use Rattle.std.proofs.Common.{◌≤◌, arith}
+use Rattle.trio_session.proofs.Words.{◌≤◌, arith}
 use Rattle.trio_session.proofs.SlotBytes.{entry_fits-every}
 use Rattle.trio_session.proofs.dir_slots.spelled.Goals as goal
 

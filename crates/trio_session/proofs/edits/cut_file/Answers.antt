@@ -1,14 +1,5 @@
-use Rattle.std.proofs.Common.{◌≡◌, ℕ, ◌-◌, List, length, drop, ap, ◌∙◌, sym, subst, arith}
+use Rattle.trio_session.proofs.Words.{◌-◌, ◌∙◌, ◌≡◌, CutDone, FilePlace, IsFile, Laid, List, Parcel, ap, arith, block_count, body_at, body_sized, chain_at, drop, home_at, index_count, is_some, length, shown_at, subst, sym, unlinked, unnamed, with_body_at, ℕ}
 use Rattle.std.specs.Prelude.{IsTrue}
-use Rattle.std.specs.Option.{is_some}
-use Rattle.trio_layout.specs.Body.{block_count}
-use Rattle.trio_layout.specs.Chain.{index_count}
-use Rattle.trio_desk.specs.Out.{Parcel}
-use Rattle.trio_session.specs.Layout.{body_sized, unlinked, unnamed, with_body_at}
-use Rattle.trio_session.specs.inner.Found.{CutDone}
-use Rattle.trio_session.specs.inner.Places.{IsFile, body_at, chain_at, home_at, shown_at}
-use Rattle.trio_session.specs.declared.laid.FilePlace.{FilePlace}
-use Rattle.trio_session.specs.declared.laid.Laid.{Laid}
 use Rattle.trio_session.proofs.Chains.{there_some}
 use Rattle.trio_session.proofs.Edited.{keeps_file}
 use Rattle.trio_session.proofs.Cuts.{IsCut, cut_done, file_cut, links_keep, named_keeps}

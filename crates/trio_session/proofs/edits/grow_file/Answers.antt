@@ -1,9 +1,4 @@
-use Rattle.std.proofs.Common.{◌≡◌, ℕ, ◌+◌, ◌-◌, List, length, drop, sym, ap, ◌∙◌, subst, arith}
-use Rattle.trio_page.specs.Field.{zeros}
-use Rattle.trio_layout.specs.Body.{block_count}
-use Rattle.trio_layout.specs.Chain.{index_count}
-use Rattle.trio_session.specs.Layout.{body_sized, gap, linked, numbered, put_bytes, size_in, with_body_at}
-use Rattle.trio_session.specs.inner.Places.{body_at, chain_at, home_at}
+use Rattle.trio_session.proofs.Words.{◌+◌, ◌-◌, ◌∙◌, ◌≡◌, List, ap, arith, block_count, body_at, body_sized, chain_at, drop, gap, home_at, index_count, length, linked, numbered, put_bytes, size_in, subst, sym, with_body_at, zeros, ℕ}
 use Rattle.trio_session.proofs.Chains.{blocks_length, index_length, there_some}
 use Rattle.trio_session.proofs.Edited.{keeps_file}
 use Rattle.trio_session.proofs.Grows.{IsGrown, bytes_keep, grow_done, grown_enough, grown_is_file, index_enough, links_grown, names_grown, next_place}

@@ -1,6 +1,4 @@
-use Rattle.std.proofs.Common.{◌≡◌, ◌-◌, drop}
-use Rattle.trio_session.specs.Layout.{linked}
-use Rattle.trio_session.specs.inner.Places.{IsFile, chain_at}
+use Rattle.trio_session.proofs.Words.{◌-◌, ◌≡◌, IsFile, chain_at, drop, linked}
 use Rattle.trio_session.proofs.edits.link_from.Given as goal
 
 -- with the links that are left all is as after all

@@ -1,7 +1,4 @@
-use Rattle.std.proofs.Common.{◌*◌, ◌/◌, ◌%◌, ap, ◌∙◌}
-use Rattle.std.specs.Prelude.{slice_index}
-use Rattle.trio_session.specs.Layout.{with_number_in}
-use Rattle.trio_session.specs.inner.Places.{chain_at}
+use Rattle.trio_session.proofs.Words.{◌%◌, ◌*◌, ◌/◌, ◌∙◌, ap, chain_at, slice_index, with_number_in}
 use Rattle.trio_session.proofs.Stays.{at_number}
 use Rattle.trio_session.proofs.edits.name_block.Goals as goal
 

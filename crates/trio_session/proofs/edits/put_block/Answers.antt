@@ -1,8 +1,5 @@
-use Rattle.std.proofs.Common.{◌≡◌, ◌+◌, ◌-◌, ◌*◌, ap, ◌∙◌, length, min, max, arith}
-use Rattle.std.specs.Prelude.{slice_range, slice_index}
-use Rattle.trio_page.specs.Field.{with_part}
-use Rattle.trio_session.specs.Layout.{page_in, with_page}
-use Rattle.trio_session.specs.inner.Places.{chain_at}
+use Rattle.trio_session.proofs.Words.{◌*◌, ◌+◌, ◌-◌, ◌∙◌, ◌≡◌, ap, arith, chain_at, length, min, page_in, slice_index, slice_range, with_page, with_part}
+use Rattle.std.proofs.Common.{max}
 use Rattle.trio_session.proofs.Stays.{at_number}
 use Rattle.trio_session.proofs.edits.put_block.Goals as goal
 

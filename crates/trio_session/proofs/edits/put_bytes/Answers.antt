@@ -1,9 +1,4 @@
-use Rattle.std.proofs.Common.{◌+◌, ◌<◌, ap, ◌∙◌, length, arith}
-use Rattle.std.specs.Prelude.{slice_index}
-use Rattle.trio_layout.specs.Body.{block_count}
-use Rattle.trio_layout.specs.Chain.{Chain}
-use Rattle.trio_session.specs.Layout.{put_block, page_in, written_on}
-use Rattle.trio_session.specs.inner.Places.{chain_at}
+use Rattle.trio_session.proofs.Words.{◌+◌, ◌<◌, ◌∙◌, Chain, ap, arith, block_count, chain_at, length, page_in, put_block, slice_index, written_on}
 use Rattle.trio_session.proofs.Loops.{file_still, chain_still, put_step}
 use Rattle.trio_session.proofs.edits.put_bytes.Goals as goal
 

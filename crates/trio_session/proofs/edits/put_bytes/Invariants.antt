@@ -1,7 +1,4 @@
-use Rattle.std.proofs.Common.{◌≡◌, ◌-◌, ◌+◌, ◌/◌, length}
-use Rattle.trio_layout.specs.Body.{block_count}
-use Rattle.trio_session.specs.Layout.{put_blocks}
-use Rattle.trio_session.specs.inner.Places.{IsFile, chain_at}
+use Rattle.trio_session.proofs.Words.{◌+◌, ◌-◌, ◌/◌, ◌≡◌, IsFile, block_count, chain_at, length, put_blocks}
 use Rattle.trio_session.proofs.edits.put_bytes.Given as goal
 
 -- with the blocks that are left all is as after all

@@ -1,8 +1,6 @@
-use Rattle.std.proofs.Common.{ap, ◌∙◌}
+use Rattle.trio_session.proofs.Words.{◌∙◌, ap, chain_at, put_bytes}
 use Rattle.trio_page.specs.Field.{zeros}
 use Rattle.trio_page.proofs.Zeros.{take-zeros}
-use Rattle.trio_session.specs.Layout.{put_bytes}
-use Rattle.trio_session.specs.inner.Places.{chain_at}
 use Rattle.trio_session.proofs.edits.put_zeros.Goals as goal
 
 pub returns : goal.returns

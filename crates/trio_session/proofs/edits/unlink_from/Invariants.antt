@@ -1,6 +1,4 @@
-use Rattle.std.proofs.Common.{◌≡◌, drop}
-use Rattle.trio_session.specs.Layout.{unlinked}
-use Rattle.trio_session.specs.inner.Places.{IsFile, chain_at}
+use Rattle.trio_session.proofs.Words.{◌≡◌, IsFile, chain_at, drop, unlinked}
 use Rattle.trio_session.proofs.edits.unlink_from.Given as goal
 
 -- with the pages that are left all is as after all

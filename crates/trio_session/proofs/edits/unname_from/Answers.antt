@@ -1,9 +1,4 @@
-use Rattle.std.proofs.Common.{◌*◌, ◌/◌, ◌%◌, ◌<◌, ap, ◌∙◌, length, get_or, arith}
-use Rattle.std.specs.Int.{w64}
-use Rattle.trio_page.specs.Field.{with_number}
-use Rattle.trio_layout.specs.Chain.{Chain}
-use Rattle.trio_session.specs.Layout.{page_in, with_block_number}
-use Rattle.trio_session.specs.inner.Places.{chain_at}
+use Rattle.trio_session.proofs.Words.{◌%◌, ◌*◌, ◌/◌, ◌<◌, ◌∙◌, Chain, ap, arith, chain_at, get_or, length, page_in, w64, with_block_number, with_number}
 use Rattle.trio_session.proofs.Chains.{blocks_length}
 use Rattle.trio_session.proofs.Loops.{file_still, chain_still, unnamed_step}
 use Rattle.trio_session.proofs.edits.unname_from.Goals as goal

@@ -1,7 +1,6 @@
-use Rattle.std.proofs.Common.{◌≡◌, Bool, eqb, refl}
+use Rattle.trio_session.proofs.Words.{◌≡◌, Bool, Made, Removed, eqb, refl}
 use Rattle.std.specs.Prelude.{None, Some}
-use Rattle.trio_session.specs.inner.Found.{NotMade, Removed}
-use Rattle.trio_session.specs.declared.made.Made.{Made}
+use Rattle.trio_session.specs.inner.Found.{NotMade}
 use Rattle.trio_session.proofs.Found.{position-same, slice_get-found}
 use Rattle.trio_session.proofs.entries.remove_made.Goals as goal
 

@@ -1,8 +1,7 @@
-use Rattle.std.proofs.Common.{◌≡◌, Bool, eqb, List, refl, ap, sym, ◌∙◌}
-use Rattle.std.specs.Prelude.{None, Some, slice_get}
+use Rattle.trio_session.proofs.Words.{◌∙◌, ◌≡◌, Bool, Kept, List, Made, ap, eqb, refl, slice_get, sym}
+use Rattle.std.specs.Prelude.{None, Some}
 use Rattle.std.specs.List.{remove}
-use Rattle.trio_session.specs.inner.Found.{Fresh, Kept}
-use Rattle.trio_session.specs.declared.made.Made.{Made}
+use Rattle.trio_session.specs.inner.Found.{Fresh}
 use Rattle.trio_session.proofs.Found.{position-same, slice_get-found}
 use Rattle.trio_session.proofs.entries.take_laid.Goals as goal
 

@@ -1,9 +1,4 @@
-use Rattle.std.proofs.Common.{◌++◌, List, ap, ◌∙◌, refl}
-use Rattle.trio_lease.specs.Bundles.{bundled}
-use Rattle.trio_lease.specs.declared.parts.FreshParts.{FreshParts}
-use Rattle.trio_lease.specs.declared.parts.InoParts.{InoParts}
-use Rattle.trio_desk.specs.Out.{Parcel, parcel_of}
-use Rattle.trio_session.specs.inner.Giving.{Gave, Refused}
+use Rattle.trio_session.proofs.Words.{◌++◌, ◌∙◌, FreshParts, Gave, InoParts, List, Parcel, Refused, ap, bundled, parcel_of, refl}
 use Rattle.trio_session.proofs.giving.allot_into.Goals as goal
 
 pub returns-in-Ok : goal.returns-in-Ok

@@ -1,10 +1,4 @@
-use Rattle.std.proofs.Common.{◌++◌, ◌∷◌, [], List, ap, ◌∙◌, refl}
-use Rattle.trio_lease.specs.Bundles.{bundled}
-use Rattle.trio_lease.specs.Shown.{LentFile}
-use Rattle.trio_lease.specs.declared.parts.HoldParts.{HoldParts}
-use Rattle.trio_lease.specs.declared.lease.Lease.TheVariants.{Write, Read, Hold}
-use Rattle.trio_desk.specs.Out.{Parcel, parcel_of}
-use Rattle.trio_session.specs.inner.Giving.{Granted, Denied}
+use Rattle.trio_session.proofs.Words.{◌++◌, ◌∙◌, ◌∷◌, Denied, Granted, Hold, HoldParts, LentFile, List, Parcel, Read, Write, [], ap, bundled, parcel_of, refl}
 use Rattle.trio_session.proofs.giving.grant_into.Goals as goal
 
 pub returns-in-Ok-Write : goal.returns-in-Ok-Write

@@ -1,6 +1,4 @@
-use Rattle.std.proofs.Common.{sym, ap, ◌∙◌, Some}
-use Rattle.std.specs.Option.{option_copied}
-use Rattle.trio_session.specs.Seen.{dir_pages}
+use Rattle.trio_session.proofs.Words.{◌∙◌, Some, ap, dir_pages, option_copied, sym}
 use Rattle.trio_session.proofs.Scanned.{page_apart, page_read, page_there, page_told, pages_end}
 use Rattle.trio_session.proofs.indexes.index_of.Goals as goal
 

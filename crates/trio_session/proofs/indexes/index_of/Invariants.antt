@@ -1,6 +1,4 @@
-use Rattle.std.proofs.Common.{◌≡◌, take}
-use Rattle.trio_auxdir.specs.Slots.{slots_of}
-use Rattle.trio_session.specs.Seen.{dir_pages, every_number}
+use Rattle.trio_session.proofs.Words.{◌≡◌, dir_pages, every_number, slots_of, take}
 use Rattle.trio_session.proofs.indexes.index_of.Given as goal
 
 abbrev pub invariant-loop-k : goal.invariant-loop-k

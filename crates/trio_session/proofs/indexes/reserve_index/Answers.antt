@@ -1,8 +1,6 @@
-use Rattle.std.proofs.Common.{◌≡◌, Bool, eqb, refl, ap}
+use Rattle.trio_session.proofs.Words.{◌≡◌, AnIndex, Bool, IndexedDir, NoIndex, ap, eqb, refl}
 use Rattle.std.specs.Prelude.{None, Some}
 use Rattle.trio_auxdir.specs.Directory.{Directory as Index}
-use Rattle.trio_session.specs.inner.Found.{AnIndex, NoIndex}
-use Rattle.trio_session.specs.declared.indexes.IndexedDir.{IndexedDir}
 use Rattle.trio_session.proofs.Found.{position-same, slice_get-found}
 use Rattle.trio_session.proofs.indexes.reserve_index.Goals as goal
 

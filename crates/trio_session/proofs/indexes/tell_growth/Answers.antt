@@ -1,13 +1,5 @@
-use Rattle.std.proofs.Common.{◌≡◌, ◌+◌, ◌≤◌, Bool, eqb, List, length, refl, ap, sym, subst, ◌∙◌}
+use Rattle.trio_session.proofs.Words.{◌+◌, ◌∙◌, ◌≡◌, ◌≤◌, Bool, In, In-map, IndexedDir, List, ToldGrowth, ap, dir_numbers, eqb, eqb-true, has_slots, is_some, length, position, refl, subst, sym}
 use Rattle.std.specs.Prelude.{None, Some}
-use Rattle.std.specs.List.{position}
-use Rattle.std.specs.Option.{is_some}
-use Rattle.std.proofs.lemmas.Bool.{eqb-true}
-use Rattle.trio_lists.specs.Lists.{In}
-use Rattle.trio_lists.proofs.Members.{In-map}
-use Rattle.trio_session.specs.inner.Found.{ToldGrowth}
-use Rattle.trio_session.specs.inner.Made.{dir_numbers, has_slots}
-use Rattle.trio_session.specs.declared.indexes.IndexedDir.{IndexedDir}
 use Rattle.trio_session.proofs.Found.{position-passes, position-same, slice_get-found}
 use Rattle.trio_session.proofs.Rooms.{index_there, room_at, slots_room, with_room}
 use Rattle.trio_session.proofs.indexes.tell_growth.Goals as goal

@@ -1,7 +1,6 @@
-use Rattle.std.proofs.Common.{◌≡◌, ◌-◌, ◌+◌, ◌++◌, sym, ap, ◌∙◌, length, [], ◌∷◌, append_assoc, length-append, arith}
-use Rattle.trio_lists.specs.Counting.{count_up}
+use Rattle.trio_session.proofs.Words.{◌++◌, ◌+◌, ◌-◌, ◌∙◌, ◌∷◌, ◌≡◌, [], ap, append-nil, append_assoc, arith, count_up, length, sym}
+use Rattle.std.proofs.Common.{length-append}
 use Rattle.trio_session.proofs.Lists.{count_step, count_end}
-use Rattle.std.proofs.lemmas.List.{append-nil}
 use Rattle.trio_session.proofs.laid.push_up.Goals as goal
 
 pub loop-number-init : goal.loop-number-init

@@ -1,5 +1,5 @@
-use Rattle.std.proofs.Common.{◌≡◌, ◌+◌, ◌-◌, ◌≤◌, ◌++◌, length, vec_capacity}
-use Rattle.trio_lists.specs.Counting.{count_up}
+use Rattle.trio_session.proofs.Words.{◌++◌, ◌+◌, ◌-◌, ◌≡◌, ◌≤◌, count_up, length}
+use Rattle.std.proofs.Common.{vec_capacity}
 use Rattle.trio_session.proofs.laid.push_up.Given as goal
 
 -- with those that are left the numbers are all

@@ -1,10 +1,5 @@
-use Rattle.std.proofs.Common.{◌≡◌, Bool, eqb, length, ◌<◌, refl, sym, ap, ◌∙◌}
+use Rattle.trio_session.proofs.Words.{◌<◌, ◌∙◌, ◌≡◌, AmongMade, AmongWritten, Bool, LentFile, Made, ap, eqb, length, position, refl, slice_get-get_or, sym}
 use Rattle.std.specs.Prelude.{None, Some}
-use Rattle.std.specs.List.{position}
-use Rattle.std.proofs.lemmas.Option.{slice_get-get_or}
-use Rattle.trio_lease.specs.Shown.{LentFile}
-use Rattle.trio_session.specs.inner.Found.{AmongMade, AmongWritten}
-use Rattle.trio_session.specs.declared.made.Made.{Made}
 use Rattle.trio_session.proofs.Found.{find-position, slice_get-found}
 use Rattle.trio_session.proofs.made.file_among.Goals as goal
 

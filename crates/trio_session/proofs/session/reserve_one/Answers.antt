@@ -1,11 +1,5 @@
-use Rattle.std.proofs.Common.{◌≡◌, Bool, eqb, false, length, ◌<◌, refl, sym, ap, ◌∙◌, inl, inr}
+use Rattle.trio_session.proofs.Words.{◌<◌, ◌∙◌, ◌≡◌, Bool, LentFile, Made, MadeAnew, WrittenAnew, ap, eqb, false, inl, inr, is_some, length, position, refl, slice_get-get_or, sym}
 use Rattle.std.specs.Prelude.{None, Some, true}
-use Rattle.std.specs.List.{position}
-use Rattle.std.specs.Option.{is_some}
-use Rattle.std.proofs.lemmas.Option.{slice_get-get_or}
-use Rattle.trio_lease.specs.Shown.{LentFile}
-use Rattle.trio_session.specs.inner.Found.{MadeAnew, WrittenAnew}
-use Rattle.trio_session.specs.declared.made.Made.{Made}
 use Rattle.trio_session.proofs.Found.{find-position, position-same, slice_get-found}
 use Rattle.trio_session.proofs.session.reserve_one.Goals as goal
 

@@ -1,4 +1,4 @@
-use Rattle.trio_edit_laws.specs.Calls.{MayCall}
+use Rattle.trio_session_tests.proofs.Words.{MayCall}
 use Rattle.trio_session_tests.proofs.desks.are_changed.Given as goal
 
 abbrev pub invariant-loop-number : goal.invariant-loop-number

@@ -1,4 +1,4 @@
-use Rattle.std.proofs.Common.{rules}
+use Rattle.trio_session_tests.proofs.Words.{rules}
 use Rattle.trio_session_tests.proofs.Begins.{may_begin}
 use Rattle.trio_session_tests.proofs.desks.heard_with.Goals as goal
 

@@ -1,9 +1,4 @@
-use Rattle.std.proofs.Common.{◌∙◌, ap, subst, sym}
-use Rattle.trio_rights.specs.declared.rights.LibNo.{LibNo}
-use Rattle.trio_state.specs.State.{creds_of}
-use Rattle.trio_edit_laws.specs.Calls.{MayCall}
-use Rattle.trio_ctl.specs.Ctl.{Controller}
-use Rattle.trio_ctl.specs.Desk.{desk_of}
+use Rattle.trio_session_tests.proofs.Words.{◌∙◌, Controller, LibNo, MayCall, ap, creds_of, desk_of, subst, sym}
 use Rattle.trio_session_tests.proofs.Begins.{begins}
 use Rattle.trio_session_tests.proofs.desks.hears.Goals as goal
 

@@ -1,5 +1,5 @@
-use Rattle.std.proofs.Common.{IfSome, subst, sym}
-use Rattle.trio_session_tests.specs.Begins.{NothingIsOut}
+use Rattle.trio_session_tests.proofs.Words.{NothingIsOut, subst, sym}
+use Rattle.std.proofs.Common.{IfSome}
 use Rattle.trio_session_tests.proofs.Begins.{none_started}
 use Rattle.trio_session_tests.proofs.desks.started.Goals as goal
 

@@ -1,9 +1,4 @@
-use Rattle.std.proofs.Common.{◌≡◌, ◌∙◌, rules, subst, sym}
-use Rattle.trio_rights.specs.declared.rights.LibNo.{LibNo}
-use Rattle.trio_laws.specs.history.Recorded.{IsRecorded}
-use Rattle.trio_ctl.specs.Ctl.{Controller}
-use Rattle.trio_ctl.specs.Logged.{recorded}
-use Rattle.trio_session_tests.specs.Begins.{MayBegin, second_lib}
+use Rattle.trio_session_tests.proofs.Words.{◌∙◌, ◌≡◌, Controller, IsRecorded, LibNo, MayBegin, recorded, rules, second_lib, subst, sym}
 use Rattle.trio_session_tests.proofs.Begins.{begins_beside, may_begin}
 use Rattle.trio_session_tests.proofs.desks.taken.Goals as goal
 

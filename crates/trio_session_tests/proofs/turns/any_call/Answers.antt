@@ -1,4 +1,4 @@
-use Rattle.std.proofs.Common.{◌++◌}
+use Rattle.trio_session_tests.proofs.Words.{◌++◌}
 use Rattle.trio_calls_file.specs.Asks.{FileTried}
 use Rattle.trio_session_tests.proofs.Made.{calls_made, dir_calls}
 use Rattle.trio_session_tests.proofs.turns.any_call.Goals as goal

@@ -1,7 +1,4 @@
-use Rattle.std.proofs.Common.{rules, subst, sym}
-use Rattle.trio_ctl.specs.Ctl.{Controller, underway_of}
-use Rattle.trio_session_tests.specs.Begins.{MayBegin, second_lib}
-use Rattle.trio_session_tests.specs.Turns.{MayPlay, first_lib}
+use Rattle.trio_session_tests.proofs.Words.{Controller, MayBegin, MayPlay, first_lib, rules, second_lib, subst, sym, underway_of}
 use Rattle.trio_session_tests.proofs.Begins.{may_begin}
 use Rattle.trio_session_tests.proofs.turns.holder_on.Goals as goal
 

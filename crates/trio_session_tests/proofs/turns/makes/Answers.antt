@@ -1,6 +1,4 @@
-use Rattle.std.proofs.Common.{◌∙◌, subst, sym}
-use Rattle.trio_ctl.specs.Ctl.{Controller}
-use Rattle.trio_runner.proofs.Moves.{Stands}
+use Rattle.trio_session_tests.proofs.Words.{◌∙◌, Controller, Stands, subst, sym}
 use Rattle.trio_session_tests.proofs.InTurns.{calls_turn, goes_on, recorded_stands, turn_taken}
 use Rattle.trio_session_tests.proofs.turns.makes.Goals as goal
 

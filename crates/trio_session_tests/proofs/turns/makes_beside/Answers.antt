@@ -1,4 +1,4 @@
-use Rattle.trio_ctl.specs.Ctl.{underway_of}
+use Rattle.trio_session_tests.proofs.Words.{underway_of}
 use Rattle.trio_session_tests.proofs.InTurns.{other_plays}
 use Rattle.trio_session_tests.proofs.turns.makes_beside.Goals as goal
 

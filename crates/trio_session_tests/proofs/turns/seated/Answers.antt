@@ -1,8 +1,4 @@
-use Rattle.std.proofs.Common.{◌∙◌, ap, subst, sym}
-use Rattle.trio_rights.specs.declared.rights.LibNo.{LibNo}
-use Rattle.trio_state.specs.State.{creds_of}
-use Rattle.trio_ctl.specs.Ctl.{Controller, underway_of}
-use Rattle.trio_session_tests.specs.Turns.{MayPlay}
+use Rattle.trio_session_tests.proofs.Words.{◌∙◌, Controller, LibNo, MayPlay, ap, creds_of, subst, sym, underway_of}
 use Rattle.trio_session_tests.proofs.Begins.{begins}
 use Rattle.trio_session_tests.proofs.turns.seated.Goals as goal
 

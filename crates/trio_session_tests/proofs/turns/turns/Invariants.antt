@@ -1,6 +1,4 @@
-use Rattle.trio_ctl.specs.Ctl.{underway_of}
-use Rattle.trio_session_tests.specs.Begins.{second_lib}
-use Rattle.trio_session_tests.specs.Turns.{MayPlay, first_lib}
+use Rattle.trio_session_tests.proofs.Words.{MayPlay, first_lib, second_lib, underway_of}
 use Rattle.trio_session_tests.proofs.turns.turns.Given as goal
 
 abbrev pub invariant-loop : goal.invariant-loop

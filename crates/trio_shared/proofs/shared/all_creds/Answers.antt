@@ -1,6 +1,4 @@
-use Rattle.std.proofs.Common.{◌+◌, ◌∙◌, ap, arith, sym, subst}
-use Rattle.trio_state.specs.State.{creds_of}
-use Rattle.trio_ctl.specs.Ctl.{Controller, IsIdle}
+use Rattle.trio_shared.proofs.Words.{◌+◌, ◌∙◌, Controller, IsIdle, ap, arith, creds_of, subst, sym}
 use Rattle.trio_shared.proofs.Credentials.{creds_grow}
 use Rattle.trio_shared.proofs.shared.all_creds.Goals as goal
 

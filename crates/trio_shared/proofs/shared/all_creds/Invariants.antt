@@ -1,4 +1,4 @@
-use Rattle.std.proofs.Common.{◌≡◌, take}
+use Rattle.trio_shared.proofs.Words.{◌≡◌, take}
 use Rattle.trio_shared.proofs.shared.all_creds.Given as goal
 
 abbrev pub invariant-loop-k : goal.invariant-loop-k

@@ -1,4 +1,4 @@
-use Rattle.trio_shared_tests.specs.Sits.{WritesOn}
+use Rattle.trio_shared_tests.proofs.Words.{WritesOn}
 use Rattle.trio_shared_tests.proofs.at_once.writes.Given as goal
 
 abbrev pub invariant-loop-time : goal.invariant-loop-time

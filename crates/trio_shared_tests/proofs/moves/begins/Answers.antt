@@ -1,8 +1,4 @@
-use Rattle.std.proofs.Common.{ap, subst, sym}
-use Rattle.trio_desk.specs.Call.{DeskSeen}
-use Rattle.trio_desk.specs.Out.{WasGiven, parcel_of}
-use Rattle.trio_case.specs.Cases.{CaseShown}
-use Rattle.trio_shared.specs.Seats.{seated}
+use Rattle.trio_shared_tests.proofs.Words.{CaseShown, DeskSeen, WasGiven, ap, parcel_of, seated, subst, sym}
 use Rattle.trio_shared_tests.proofs.TwoMoves.{may_end}
 use Rattle.trio_shared_tests.proofs.moves.begins.Goals as goal
 

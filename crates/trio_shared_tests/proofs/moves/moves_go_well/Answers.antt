@@ -1,4 +1,4 @@
-use Rattle.std.proofs.Common.{◌∙◌}
+use Rattle.trio_shared_tests.proofs.Words.{◌∙◌}
 use Rattle.trio_shared_tests.proofs.Desks.{back_on}
 use Rattle.trio_shared_tests.proofs.moves.moves_go_well.Goals as goal
 

@@ -1,5 +1,5 @@
+use Rattle.trio_shared_tests.proofs.Words.{desk, library_of, out}
 use Rattle.std.proofs.Common.{rules}
-use Rattle.trio_shared.specs.Seats.{desk, library_of, out}
 use Rattle.trio_shared_tests.proofs.TwoMoves.{given_alone}
 use Rattle.trio_shared_tests.proofs.moves.taken.Goals as goal
 

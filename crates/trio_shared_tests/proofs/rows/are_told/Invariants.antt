@@ -1,4 +1,4 @@
-use Rattle.trio_shared_tests.specs.Sits.{PlaysOn}
+use Rattle.trio_shared_tests.proofs.Words.{PlaysOn}
 use Rattle.trio_shared_tests.proofs.rows.are_told.Given as goal
 
 abbrev pub invariant-loop-step : goal.invariant-loop-step

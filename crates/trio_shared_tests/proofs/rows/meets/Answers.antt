@@ -1,5 +1,4 @@
-use Rattle.std.proofs.Common.{ap, ◌∙◌}
-use Rattle.trio_desk.specs.Call.{DeskSeen}
+use Rattle.trio_shared_tests.proofs.Words.{◌∙◌, DeskSeen, ap}
 use Rattle.trio_shared_tests.proofs.Sitting.{met_alike, same_seen}
 use Rattle.trio_shared_tests.proofs.rows.meets.Goals as goal
 

@@ -1,5 +1,4 @@
-use Rattle.std.proofs.Common.{subst}
-use Rattle.trio_shared_tests.specs.Sits.{AreAll, IsNew}
+use Rattle.trio_shared_tests.proofs.Words.{AreAll, IsNew, subst}
 use Rattle.trio_shared_tests.proofs.Desks.{all_back, two_back}
 use Rattle.trio_shared_tests.proofs.scenes.steps.Goals as goal
 

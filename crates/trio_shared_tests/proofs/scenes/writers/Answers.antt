@@ -1,5 +1,4 @@
-use Rattle.std.proofs.Common.{◌∙◌, ap, ◌++◌, subst, arith}
-use Rattle.trio_shared_tests.specs.Sits.{AreAll, IsNew}
+use Rattle.trio_shared_tests.proofs.Words.{◌++◌, ◌∙◌, AreAll, IsNew, ap, arith, subst}
 use Rattle.trio_shared_tests.proofs.Desks.{all_back, three_back}
 use Rattle.trio_shared_tests.proofs.scenes.writers.Goals as goal
 

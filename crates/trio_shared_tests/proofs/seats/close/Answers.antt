@@ -1,6 +1,4 @@
-use Rattle.std.proofs.Common.{Option, IfSome, subst, sym}
-use Rattle.trio_ctl.specs.Ctl.{Controller}
-use Rattle.trio_shared_tests.specs.Seen.{HaveSeen}
+use Rattle.trio_shared_tests.proofs.Words.{Controller, HaveSeen, IfSome, Option, subst, sym}
 use Rattle.trio_shared_tests.proofs.Desks.{each_is, every_is}
 use Rattle.trio_shared_tests.proofs.Saw.{seen_at_close}
 use Rattle.trio_shared_tests.proofs.seats.close.Goals as goal

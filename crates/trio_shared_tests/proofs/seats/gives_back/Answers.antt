@@ -1,4 +1,4 @@
-use Rattle.std.proofs.Common.{sym, ◌∙◌}
+use Rattle.trio_shared_tests.proofs.Words.{◌∙◌, sym}
 use Rattle.trio_shared_tests.proofs.Sitting.{back_same, plays_back}
 use Rattle.trio_shared_tests.proofs.seats.gives_back.Goals as goal
 

@@ -1,4 +1,4 @@
-use Rattle.std.proofs.Common.{sym, ◌∙◌}
+use Rattle.trio_shared_tests.proofs.Words.{◌∙◌, sym}
 use Rattle.trio_shared_tests.proofs.Desks.{all_new}
 use Rattle.trio_shared_tests.proofs.seats.start.Goals as goal
 

@@ -1,12 +1,10 @@
-use Rattle.std.proofs.Common.{◌+◌, ◌∷◌, [], length, refl, subst}
+use Rattle.trio_shared_tests.proofs.Words.{◌+◌, ◌∷◌, IsBack, [], crosses, length, refl, subst}
 use Rattle.std.proofs.lemmas.Option.{slice_get_read}
 use mir.Syntax.{named}
 use denote.Param.Send.{param_sync, sendable, shr_sync}
 use denote.Struct.Tuple.{type_at}
-use Rattle.std.proofs.Crossing.{crosses}
 use Rattle.std.proofs.alloc.Global.TheSendSync as heap
 use Rattle.trio_shared.proofs.Sends.{seat_sends, shared_syncs}
-use Rattle.trio_shared_tests.specs.Sits.{IsBack}
 use Rattle.trio_shared_tests.proofs.Desks.{all_gone_on}
 use Rattle.trio_shared_tests.proofs.Sends.{captures_sync, flag_syncs, seed_syncs}
 use Rattle.trio_shared_tests.proofs.threads.threads_go_well.Goals as goal

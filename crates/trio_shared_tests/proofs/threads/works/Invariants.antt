@@ -1,4 +1,4 @@
-use Rattle.trio_shared_tests.specs.Sits.{PlaysOn}
+use Rattle.trio_shared_tests.proofs.Words.{PlaysOn}
 use Rattle.trio_shared_tests.proofs.threads.works.Given as goal
 
 abbrev pub invariant-loop : goal.invariant-loop

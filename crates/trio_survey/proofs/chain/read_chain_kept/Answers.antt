@@ -1,6 +1,4 @@
-use Rattle.std.proofs.Common.{◌≡◌, ◌-◌, ◌∙◌, Some, None, arith}
-use Rattle.trio_layout.specs.Core.{page_of}
-use Rattle.trio_survey.specs.Seen.{core_with}
+use Rattle.trio_survey.proofs.Words.{◌-◌, ◌∙◌, ◌≡◌, None, Some, arith, core_with, page_of}
 use Rattle.trio_survey.proofs.Chains.{no_page_at, no_index_at, one_index_more}
 use Rattle.trio_survey.proofs.chain.read_chain_kept.Goals as goal
 

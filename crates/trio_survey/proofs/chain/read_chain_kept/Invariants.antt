@@ -1,8 +1,4 @@
-use Rattle.std.proofs.Common.{◌≡◌, ◌≤◌, ◌+◌, ℕ}
-use Rattle.trio_layout.specs.Chain.{chain_of}
-use Rattle.trio_lists.specs.Lists.{result_map}
-use Rattle.trio_survey.specs.Seen.{core_with}
-use Rattle.trio_survey.specs.inner.Kept.{kept_count, Keeps}
+use Rattle.trio_survey.proofs.Words.{◌+◌, ◌≡◌, ◌≤◌, Keeps, chain_of, core_with, kept_count, result_map, ℕ}
 use Rattle.trio_survey.proofs.Chains.{after, rest_of}
 use Rattle.trio_survey.proofs.chain.read_chain_kept.Given as goal
 

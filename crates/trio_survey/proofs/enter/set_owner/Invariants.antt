@@ -1,5 +1,5 @@
-use Rattle.std.proofs.Common.{◌≡◌, ℕ, ◌<◌, if◌then◌else◌, length, take, slice_index}
-use Rattle.trio_lists.specs.Lists.{is_among}
+use Rattle.trio_survey.proofs.Words.{◌<◌, ◌≡◌, is_among, length, take, ℕ}
+use Rattle.std.proofs.Common.{if◌then◌else◌, slice_index}
 use Rattle.trio_survey.proofs.enter.set_owner.Given as goal
 
 abbrev pub invariant-loop-page : goal.invariant-loop-page

@@ -1,7 +1,4 @@
-use Rattle.std.proofs.Common.{ap, sym, ◌∙◌, Ok, map, arith}
-use Rattle.trio_layout.specs.Entries.{slot_bytes, slot_entries}
-use Rattle.trio_lists.specs.Lists.{both}
-use Rattle.trio_survey.specs.Seen.{listed_seen}
+use Rattle.trio_survey.proofs.Words.{◌∙◌, Ok, ap, arith, both, listed_seen, map, slot_bytes, slot_entries, sym}
 use Rattle.trio_survey.proofs.Gathers.{slot_is, entries_on_fault, entries_on_all, gathered_below_more}
 use Rattle.trio_survey.proofs.entries.add_page_entries.Goals as goal
 

@@ -1,7 +1,4 @@
-use Rattle.std.proofs.Common.{◌≡◌, map, Ok}
-use Rattle.trio_layout.specs.Entries.{slot_entries}
-use Rattle.trio_lists.specs.Lists.{both, gathered_below}
-use Rattle.trio_survey.specs.Seen.{listed_seen}
+use Rattle.trio_survey.proofs.Words.{◌≡◌, Ok, both, gathered_below, listed_seen, map, slot_entries}
 use Rattle.trio_survey.proofs.entries.add_page_entries.Given as goal
 
 abbrev pub invariant-loop-slot : goal.invariant-loop-slot

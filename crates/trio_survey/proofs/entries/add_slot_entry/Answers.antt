@@ -1,5 +1,5 @@
-use Rattle.std.proofs.Common.{◌≡◌, ◌-◌, refl, ap, sym, ◌∙◌, take, drop}
-use Rattle.std.proofs.lemmas.List.{take_rest, map-append}
+use Rattle.trio_survey.proofs.Words.{◌-◌, ◌∙◌, ◌≡◌, ap, drop, map-append, refl, sym, take}
+use Rattle.std.proofs.lemmas.List.{take_rest}
 use Rattle.trio_survey.proofs.entries.add_slot_entry.Goals as goal
 
 pub returns-in_ok-push-in-Entry : goal.returns-in_ok-push-in-Entry

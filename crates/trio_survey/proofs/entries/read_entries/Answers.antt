@@ -1,12 +1,4 @@
-use Rattle.std.proofs.Common.{◌≡◌, ◌∙◌, ◌+◌, ◌++◌, ◌∷◌, [], ℕ, List, Result, Ok, Err, get_or, take, sym, inl, inr, arith, refl}
-use Rattle.std.specs.List.{flat_map}
-use Rattle.std.proofs.lemmas.List.{take_more, take_all}
-use Rattle.trio_lists.specs.Lists.{gathered}
-use Rattle.trio_lists.proofs.Members.{In-cases}
-use Rattle.trio_layout.specs.Core.{Location}
-use Rattle.trio_layout.specs.Entries.{Listed, page_entries}
-use Rattle.trio_survey.specs.Seen.{core_with}
-use Rattle.trio_survey.specs.inner.Blocks.{entries_kept}
+use Rattle.trio_survey.proofs.Words.{◌++◌, ◌+◌, ◌∙◌, ◌∷◌, ◌≡◌, Err, In-cases, List, Listed, Location, Ok, Result, [], arith, core_with, entries_kept, flat_map, gathered, get_or, inl, inr, page_entries, refl, sym, take, take_all, take_more, ℕ}
 use Rattle.trio_survey.proofs.Gathers.{gathered_all, gathered_fault_at}
 use Rattle.trio_survey.proofs.KeptBlocks.{good_lists}
 use Rattle.trio_survey.proofs.entries.read_entries.Goals as goal

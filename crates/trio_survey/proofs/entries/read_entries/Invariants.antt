@@ -1,7 +1,4 @@
-use Rattle.std.proofs.Common.{◌≡◌, ◌≤◌, ◌+◌, ℕ, take}
-use Rattle.trio_lists.specs.Lists.{In}
-use Rattle.trio_survey.specs.inner.Blocks.{HasParts, IsGood, SaysBlocks}
-use Rattle.trio_survey.specs.inner.Kept.{kept_count, Keeps}
+use Rattle.trio_survey.proofs.Words.{◌+◌, ◌≡◌, ◌≤◌, HasParts, In, IsGood, Keeps, SaysBlocks, kept_count, take, ℕ}
 use Rattle.trio_survey.proofs.entries.read_entries.Given as goal
 
 abbrev pub invariant-loop-no : goal.invariant-loop-no

@@ -1,10 +1,4 @@
-use Rattle.std.proofs.Common.{◌≡◌, ◌∙◌, map, ap, sym, subst}
-use Rattle.std.specs.List.{flat_map}
-use Rattle.std.proofs.lemmas.Simd.{map-map}
-use Rattle.trio_survey.specs.Seen.{listed_seen}
-use Rattle.trio_survey.specs.Within.{IsWithin}
-use Rattle.trio_survey.specs.inner.Blocks.{entries_kept}
-use Rattle.trio_survey.specs.inner.Files.{file_kept, listing_blocks}
+use Rattle.trio_survey.proofs.Words.{◌∙◌, ◌≡◌, IsWithin, ap, entries_kept, file_kept, flat_map, listed_seen, listing_blocks, map, map-map, subst, sym}
 use Rattle.trio_survey.proofs.file.read_file.Goals as goal
 
 pub read_pages-requires-clause-keeps : goal.read_pages-requires-clause-keeps

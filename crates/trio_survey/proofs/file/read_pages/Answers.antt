@@ -1,8 +1,6 @@
-use Rattle.std.proofs.Common.{rules, ◌≡◌, Ok, sym}
+use Rattle.trio_survey.proofs.Words.{◌≡◌, Ok, core_with, file_kept, met_seen, rules, sym}
 use Rattle.trio_layout.specs.Survey.{file_of}
 use Rattle.trio_survey.specs.declared.file.FilePages.{FilePages}
-use Rattle.trio_survey.specs.Seen.{core_with, met_seen}
-use Rattle.trio_survey.specs.inner.Files.{file_kept}
 use Rattle.trio_survey.proofs.Fits.{file_within}
 use Rattle.trio_survey.proofs.file.read_pages.Goals as goal
 

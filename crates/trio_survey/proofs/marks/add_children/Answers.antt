@@ -1,10 +1,4 @@
-use Rattle.std.proofs.Common.{◌≡◌, ◌∙◌, ◌+◌, ◌++◌, map, take, vec_len, ap, sym, refl, arith}
-use Rattle.std.specs.List.{flat_map}
-use Rattle.std.proofs.lemmas.List.{take_all}
-use Rattle.std.proofs.lemmas.Simd.{map-map}
-use Rattle.trio_survey.specs.Picks.{pick_of}
-use Rattle.trio_survey.specs.Seen.{met_seen}
-use Rattle.trio_survey.specs.inner.Blocks.{entries_kept}
+use Rattle.trio_survey.proofs.Words.{◌++◌, ◌+◌, ◌∙◌, ◌≡◌, ap, arith, entries_kept, flat_map, map, map-map, met_seen, pick_of, refl, sym, take, take_all, vec_len}
 use Rattle.trio_survey.proofs.Adding.{grows_none, part_below}
 use Rattle.trio_survey.proofs.Naming.{blocks_taken}
 use Rattle.trio_survey.proofs.marks.add_children.Goals as goal

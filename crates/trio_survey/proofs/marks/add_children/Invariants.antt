@@ -1,9 +1,4 @@
-use Rattle.std.proofs.Common.{◌≡◌, map, take, vec_len}
-use Rattle.std.specs.List.{flat_map}
-use Rattle.trio_survey.specs.Picks.{pick_of}
-use Rattle.trio_survey.specs.Seen.{met_seen}
-use Rattle.trio_survey.specs.inner.Blocks.{entries_kept}
-use Rattle.trio_survey.specs.inner.Walk.{Grows}
+use Rattle.trio_survey.proofs.Words.{◌≡◌, Grows, entries_kept, flat_map, map, met_seen, pick_of, take, vec_len}
 use Rattle.trio_survey.proofs.marks.add_children.Given as goal
 
 abbrev pub invariant-loop-block : goal.invariant-loop-block

@@ -1,11 +1,4 @@
-use Rattle.std.proofs.Common.{rules, false, ◌≡◌, ◌++◌, ◌<◌, length, map, take, vec_len, get_or, sym, ap, subst, true, refl, ◌∙◌, arith, append_assoc}
-use Rattle.std.proofs.lemmas.List.{get_or_read, map_push, take_all}
-use Rattle.trio_survey.specs.declared.blocks.DirEntry.{DirEntry}
-use Rattle.trio_survey.specs.Picks.{pick_of}
-use Rattle.trio_survey.specs.Seen.{met_seen}
-use Rattle.trio_survey.specs.inner.Blocks.{entry_seen}
-use Rattle.trio_lists.specs.Marked.{all_below}
-use Rattle.trio_survey.specs.inner.Walk.{are_marked}
+use Rattle.trio_survey.proofs.Words.{◌++◌, ◌<◌, ◌∙◌, ◌≡◌, DirEntry, all_below, ap, append_assoc, are_marked, arith, entry_seen, false, get_or, get_or_read, length, map, map_push, met_seen, pick_of, refl, rules, subst, sym, take, take_all, true, vec_len}
 use Rattle.trio_survey.proofs.Adding.{grows_again, grows_first, grows_known, entry_below}
 use Rattle.trio_survey.proofs.Naming.{IsAt, taken}
 use Rattle.trio_survey.proofs.marks.add_listed.Goals as goal

@@ -1,10 +1,4 @@
-use Rattle.std.proofs.Common.{◌≡◌, ◌++◌, ℕ, List, take, map, vec_len}
-use Rattle.trio_layout.specs.Entries.{Listed}
-use Rattle.trio_layout.specs.Survey.{Met}
-use Rattle.trio_survey.specs.Picks.{pick_of}
-use Rattle.trio_survey.specs.Seen.{met_seen}
-use Rattle.trio_survey.specs.inner.Blocks.{entry_seen}
-use Rattle.trio_survey.specs.inner.Walk.{Grows}
+use Rattle.trio_survey.proofs.Words.{◌++◌, ◌≡◌, Grows, List, Listed, Met, entry_seen, map, met_seen, pick_of, take, vec_len, ℕ}
 use Rattle.trio_survey.proofs.marks.add_listed.Given as goal
 
 abbrev pub invariant-loop-listed : goal.invariant-loop-listed

@@ -1,6 +1,4 @@
-use Rattle.std.proofs.Common.{◌≡◌, ◌∙◌, ◌+◌, ◌<◌, ◌&&◌, true, false, drop, get_or, length, ap, sym, vec_len, arith}
-use Rattle.std.proofs.lemmas.List.{get_or_read}
-use Rattle.trio_survey.specs.inner.Walk.{are_marked}
+use Rattle.trio_survey.proofs.Words.{◌&&◌, ◌+◌, ◌<◌, ◌∙◌, ◌≡◌, ap, are_marked, arith, drop, false, get_or, get_or_read, length, sym, true, vec_len}
 use Rattle.trio_survey.proofs.Adding.{entry_below, rest_marked}
 use Rattle.trio_survey.proofs.marks.are_marked.Goals as goal
 

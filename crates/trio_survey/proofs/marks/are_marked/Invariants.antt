@@ -1,5 +1,4 @@
-use Rattle.std.proofs.Common.{◌≡◌, drop}
-use Rattle.trio_survey.specs.inner.Walk.{are_marked}
+use Rattle.trio_survey.proofs.Words.{◌≡◌, are_marked, drop}
 use Rattle.trio_survey.proofs.marks.are_marked.Given as goal
 
 abbrev pub invariant-loop-listed : goal.invariant-loop-listed

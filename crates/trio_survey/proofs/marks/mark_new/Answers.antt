@@ -1,6 +1,5 @@
-use Rattle.std.proofs.Common.{false, ◌≡◌, ◌+◌, ◌++◌, ◌∷◌, [], ◌<◌, length, vec_len, get_or, take, sym, ◌∙◌, arith}
-use Rattle.std.proofs.lemmas.List.{take_all, take_more, get_or_read}
-use Rattle.trio_lists.proofs.Marked.{MarksJust-more, below_at}
+use Rattle.trio_survey.proofs.Words.{◌++◌, ◌+◌, ◌<◌, ◌∙◌, ◌∷◌, ◌≡◌, [], arith, below_at, false, get_or, get_or_read, length, sym, take, take_all, take_more, vec_len}
+use Rattle.trio_lists.proofs.Marked.{MarksJust-more}
 use Rattle.trio_survey.proofs.Repeats.{first_marked, first_unmarked}
 use Rattle.trio_survey.proofs.marks.mark_new.Goals as goal
 use Rattle.trio_survey.proofs.marks.mark_new.Goals.{then-index, else-index}

@@ -1,6 +1,4 @@
-use Rattle.std.proofs.Common.{◌≡◌, ℕ, List, ◌++◌, take, vec_len}
-use Rattle.trio_lists.specs.Marked.{MarksJust}
-use Rattle.trio_survey.specs.inner.Walk.{FirstRepeat}
+use Rattle.trio_survey.proofs.Words.{◌++◌, ◌≡◌, FirstRepeat, List, MarksJust, take, vec_len, ℕ}
 use Rattle.trio_survey.proofs.marks.mark_new.Given as goal
 
 abbrev pub invariant-loop-n : goal.invariant-loop-n

@@ -1,7 +1,4 @@
-use Rattle.std.proofs.Common.{◌∙◌, ◌++◌, [], length, take, sym, ap, arith, subst, refl}
-use Rattle.std.specs.List.{flat_map}
-use Rattle.trio_layout.specs.Entries.{repeated_name}
-use Rattle.trio_survey.specs.inner.Blocks.{entries_kept, MarksNames}
+use Rattle.trio_survey.proofs.Words.{◌++◌, ◌∙◌, MarksNames, [], ap, arith, entries_kept, flat_map, length, refl, repeated_name, subst, sym, take}
 use Rattle.trio_survey.proofs.Naming.{block_passed, block_repeats, blocks_taken, none_marked, numbered_apart}
 use Rattle.trio_survey.proofs.names.repeated_name.Goals as goal
 

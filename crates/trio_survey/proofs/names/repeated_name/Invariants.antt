@@ -1,7 +1,4 @@
-use Rattle.std.proofs.Common.{◌≡◌, [], take, drop}
-use Rattle.std.specs.List.{flat_map}
-use Rattle.trio_layout.specs.Entries.{repeated_name}
-use Rattle.trio_survey.specs.inner.Blocks.{entries_kept, MarksNames}
+use Rattle.trio_survey.proofs.Words.{◌≡◌, MarksNames, [], drop, entries_kept, flat_map, repeated_name, take}
 use Rattle.trio_survey.proofs.names.repeated_name.Given as goal
 
 abbrev pub invariant-loop-block : goal.invariant-loop-block

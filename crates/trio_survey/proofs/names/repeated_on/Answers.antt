@@ -1,7 +1,4 @@
-use Rattle.std.proofs.Common.{◌≡◌, ◌∙◌, ◌+◌, ◌++◌, get_or, length, map, take, ap, sym, subst, true, arith}
-use Rattle.std.proofs.lemmas.List.{length-set, take_all}
-use Rattle.trio_survey.specs.inner.Blocks.{entry_seen}
-use Rattle.trio_survey.specs.inner.Blocks.{MarksNames}
+use Rattle.trio_survey.proofs.Words.{◌++◌, ◌+◌, ◌∙◌, ◌≡◌, MarksNames, ap, arith, entry_seen, get_or, length, length-set, map, subst, sym, take, take_all, true}
 use Rattle.trio_survey.proofs.Naming.{IsAt, comes_again, goes_on, is_in, marks_on, stands}
 use Rattle.trio_survey.proofs.names.repeated_on.Goals as goal
 

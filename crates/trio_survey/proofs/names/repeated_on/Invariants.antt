@@ -1,7 +1,4 @@
-use Rattle.std.proofs.Common.{◌≡◌, ℕ, ◌++◌, List, length, map, take, drop}
-use Rattle.trio_layout.specs.Entries.{Listed, repeated_name}
-use Rattle.trio_survey.specs.inner.Blocks.{entry_seen, AreNamed}
-use Rattle.trio_survey.specs.inner.Blocks.{MarksNames}
+use Rattle.trio_survey.proofs.Words.{◌++◌, ◌≡◌, AreNamed, List, Listed, MarksNames, drop, entry_seen, length, map, repeated_name, take, ℕ}
 use Rattle.trio_survey.proofs.names.repeated_on.Given as goal
 
 abbrev pub invariant-loop-listed : goal.invariant-loop-listed

@@ -1,4 +1,4 @@
-use Rattle.std.proofs.Common.{arith}
+use Rattle.trio_survey.proofs.Words.{arith}
 use Rattle.trio_survey.proofs.verdict.owner_fault.Goals as goal
 
 pub owner_fault_at-requires-clause-owners : goal.owner_fault_at-requires-clause-owners

@@ -1,6 +1,5 @@
-use Rattle.std.proofs.Common.{◌≡◌, ◌+◌, ◌<◌, ◌≤◌, ℕ}
-use Rattle.trio_survey.specs.Stored.{HasPage}
-use Rattle.trio_tables.specs.Stored.{owner_bytes, padded_to_pages, page_at}
+use Rattle.trio_survey.proofs.Words.{◌+◌, ◌<◌, ◌≡◌, ◌≤◌, HasPage, padded_to_pages, page_at, ℕ}
+use Rattle.trio_tables.specs.Stored.{owner_bytes}
 use Rattle.trio_survey.proofs.verdict.owner_fault.Given as goal
 
 abbrev pub invariant-loop-k : goal.invariant-loop-k

@@ -1,4 +1,4 @@
-use Rattle.std.proofs.Common.{arith}
+use Rattle.trio_survey.proofs.Words.{arith}
 use Rattle.trio_survey.proofs.verdict.row_fault.Goals as goal
 
 pub row_fault_at-requires-clause-rows : goal.row_fault_at-requires-clause-rows

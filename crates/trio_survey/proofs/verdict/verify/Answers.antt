@@ -1,4 +1,4 @@
-use Rattle.std.proofs.lemmas.Result.{err_from_is_err_and}
+use Rattle.trio_survey.proofs.Words.{err_from_is_err_and}
 use Rattle.trio_survey.proofs.verdict.verify.Goals as goal
 
 pub returns-in_err-_found-clause-fails : goal.returns-in_err-_found-clause-fails

@@ -1,9 +1,5 @@
-use Rattle.std.proofs.Common.{◌≡◌, IfErr, ap, ◌∙◌, arith, length, subst}
-use Rattle.std.proofs.lemmas.Result.{err_from_is_err_and}
-use Rattle.trio_layout.specs.declared.superblock.Superblock.{Superblock}
-use Rattle.trio_layout.specs.Survey.{plain, survey}
-use Rattle.trio_survey.specs.Stored.{core_in, image_in, PagesVerify}
-use Rattle.trio_survey.specs.Verdict.{IsDenied}
+use Rattle.trio_survey.proofs.Words.{◌∙◌, ◌≡◌, IsDenied, PagesVerify, Superblock, ap, arith, core_in, err_from_is_err_and, image_in, length, plain, subst, survey}
+use Rattle.std.proofs.Common.{IfErr}
 use Rattle.trio_survey.proofs.Tables.{length-rows_table, length-owners_table}
 use Rattle.trio_survey.proofs.Verdicts.{denied_by_survey, denied_by_tables, verified}
 use Rattle.trio_survey.proofs.verdict.verify_found.Goals as goal

@@ -1,9 +1,5 @@
-use Rattle.std.proofs.Common.{◌≤◌, map, length, refl, arith}
-use Rattle.std.proofs.lemmas.List.{length-map}
-use Rattle.std.proofs.lemmas.Result.{err_from_is_err_and}
+use Rattle.trio_survey.proofs.Words.{◌≤◌, arith, err_from_is_err_and, length, length-map, map, met_seen, pick_of, refl}
 use Rattle.trio_survey.specs.Answer.{core_of}
-use Rattle.trio_survey.specs.Picks.{pick_of}
-use Rattle.trio_survey.specs.Seen.{met_seen}
 use Rattle.trio_survey.proofs.Standing.{is_whole, refused, second_refused}
 use Rattle.trio_survey.proofs.whole.survey_picked.Goals as goal
 

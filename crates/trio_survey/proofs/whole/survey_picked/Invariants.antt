@@ -1,8 +1,5 @@
-use Rattle.std.proofs.Common.{◌≡◌, ◌≤◌, ◌+◌, ◌-◌}
-use Rattle.trio_survey.specs.Picks.{pick_of}
-use Rattle.trio_survey.specs.inner.Blocks.{HasParts, SaysBlocks}
-use Rattle.trio_survey.specs.inner.Kept.{kept_count, Keeps}
-use Rattle.trio_survey.specs.inner.Walk.{framed, WalkHeads, WalkStands, WalkTables}
+use Rattle.trio_survey.proofs.Words.{◌+◌, ◌-◌, ◌≡◌, ◌≤◌, HasParts, Keeps, SaysBlocks, framed, kept_count, pick_of}
+use Rattle.trio_survey.specs.inner.Walk.{WalkHeads, WalkStands, WalkTables}
 use Rattle.trio_survey.proofs.whole.survey_picked.Given as goal
 
 abbrev pub invariant-loop-at : goal.invariant-loop-at

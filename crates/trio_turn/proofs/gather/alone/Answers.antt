@@ -1,4 +1,4 @@
-use Rattle.std.proofs.Common.{rules}
+use Rattle.trio_turn.proofs.Words.{rules}
 use Rattle.trio_turn.proofs.Parts.{copies}
 use Rattle.trio_turn.proofs.Closing.{resting_live}
 use Rattle.trio_turn.proofs.gather.alone.Goals as goal

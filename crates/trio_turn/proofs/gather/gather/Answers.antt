@@ -1,4 +1,4 @@
-use Rattle.std.proofs.Common.{rules, ◌≡◌, ◌++◌, ◌∷◌, [], length, slice_get, ap, ◌∙◌, append_assoc}
+use Rattle.trio_turn.proofs.Words.{◌++◌, ◌∙◌, ◌∷◌, ◌≡◌, [], ap, append_assoc, length, rules, slice_get}
 use Rattle.trio_turn.proofs.Closing.{get_last, get_front, one_more}
 use Rattle.trio_turn.proofs.gather.gather.Goals as goal
 

@@ -1,7 +1,4 @@
-use Rattle.std.proofs.Common.{◌≡◌, List, [], ◌++◌, length}
-use Rattle.trio_turn.specs.declared.seat.LibSeat.{LibSeat}
-use Rattle.trio_turn.specs.declared.view.Stage.TheVariants.{Idle}
-use Rattle.trio_turn.specs.inner.Gathered.{HasEach}
+use Rattle.trio_turn.proofs.Words.{◌++◌, ◌≡◌, HasEach, Idle, LibSeat, List, [], length}
 use Rattle.trio_turn.proofs.gather.gather.Given as goal
 
 -- the seats that are not left are joined

@@ -1,5 +1,4 @@
-use Rattle.std.proofs.Common.{rules, ap, ◌∙◌}
-use Rattle.trio_turn.specs.inner.Resting.{carries}
+use Rattle.trio_turn.proofs.Words.{◌∙◌, ap, carries, rules}
 use Rattle.trio_turn.proofs.Parts.{joins}
 use Rattle.trio_turn.proofs.Resting.{at_rest}
 use Rattle.trio_turn.proofs.Closing.{idle_is_live, joined_libraries}

@@ -1,4 +1,4 @@
-use Rattle.std.proofs.Common.{rules}
+use Rattle.trio_turn.proofs.Words.{rules}
 use Rattle.trio_turn.proofs.Counts.{counts}
 use Rattle.trio_turn.proofs.Ends.{grew_prefix, grew_others}
 use Rattle.trio_turn.proofs.steps.count.Goals as goal

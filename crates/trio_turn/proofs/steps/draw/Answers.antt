@@ -1,4 +1,4 @@
-use Rattle.std.proofs.Common.{rules, ap, ◌∙◌, subst, sym, length, ◌<◌}
+use Rattle.trio_turn.proofs.Words.{◌<◌, ◌∙◌, ap, length, rules, subst, sym}
 use Rattle.trio_turn.proofs.Keeps.{draws}
 use Rattle.trio_turn.proofs.steps.draw.Goals as goal
 

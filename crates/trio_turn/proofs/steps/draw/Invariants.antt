@@ -1,4 +1,4 @@
-use Rattle.std.proofs.Common.{◌≡◌, ◌<◌}
+use Rattle.trio_turn.proofs.Words.{◌<◌, ◌≡◌}
 use Rattle.trio_turn.proofs.steps.draw.Given as goal
 
 abbrev pub invariant-loop : goal.invariant-loop

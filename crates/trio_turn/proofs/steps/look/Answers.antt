@@ -1,4 +1,4 @@
-use Rattle.std.proofs.Common.{rules}
+use Rattle.trio_turn.proofs.Words.{rules}
 use Rattle.trio_turn.proofs.Keeps.{looks}
 use Rattle.trio_turn.proofs.Closing.{looked}
 use Rattle.trio_turn.proofs.steps.look.Goals as goal

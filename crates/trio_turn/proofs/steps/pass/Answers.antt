@@ -1,4 +1,4 @@
-use Rattle.std.proofs.Common.{rules}
+use Rattle.trio_turn.proofs.Words.{rules}
 use Rattle.trio_turn.proofs.Keeps.{passes_at}
 use Rattle.trio_turn.proofs.steps.pass.Goals as goal
 

@@ -1,4 +1,4 @@
-use Rattle.std.proofs.Common.{◌≡◌}
+use Rattle.trio_turn.proofs.Words.{◌≡◌}
 use Rattle.trio_turn.proofs.steps.wait.Given as goal
 
 abbrev pub invariant-loop : goal.invariant-loop

@@ -1,5 +1,4 @@
-use Rattle.std.proofs.Common.{rules, ap, ◌∙◌, []}
-use Rattle.trio_turn.specs.inner.Steps.{unseated}
+use Rattle.trio_turn.proofs.Words.{◌∙◌, [], ap, rules, unseated}
 use Rattle.trio_turn.proofs.Parts.{seats}
 use Rattle.trio_turn.proofs.Closing.{dealt}
 use Rattle.trio_turn.proofs.turn.deal.Goals as goal

@@ -1,5 +1,4 @@
-use Rattle.std.proofs.Common.{refl}
-use Rattle.trio_walk.specs.inner.Settling.{Gives, Leaves}
+use Rattle.trio_walk.proofs.Words.{Gives, Leaves, refl}
 use Rattle.trio_walk.proofs.Retrying.{settled, unsettled}
 use Rattle.trio_walk.proofs.attempts.attempt_and_settle.Goals as goal
 

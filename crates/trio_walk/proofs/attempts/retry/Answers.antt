@@ -1,4 +1,5 @@
-use Rattle.trio_walk.specs.declared.outcome.Outcome.TheVariants.{Busy, NoMemory, Replied}
+use Rattle.trio_walk.proofs.Words.{Replied}
+use Rattle.trio_walk.specs.declared.outcome.Outcome.TheVariants.{Busy, NoMemory}
 use Rattle.trio_walk.proofs.Retrying.{called_again, called_once}
 use Rattle.trio_walk.proofs.attempts.retry.Goals as goal
 

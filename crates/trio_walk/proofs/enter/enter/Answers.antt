@@ -1,5 +1,4 @@
-use Rattle.std.proofs.Common.{sym, ap, ◌∙◌}
-use Rattle.trio_walk.specs.Walks.{gives_met}
+use Rattle.trio_walk.proofs.Words.{◌∙◌, ap, gives_met, sym}
 use Rattle.trio_walk.proofs.Entering.{denied_entered, regular_entered}
 use Rattle.trio_walk.proofs.enter.enter.Goals as goal
 

@@ -1,10 +1,6 @@
-use Rattle.std.proofs.Common.{◌≡◌, Ok, Err, Result, Bool, true, false, not, ◌&&◌, is_some, sym, ap, ◌∙◌, subst}
+use Rattle.trio_walk.proofs.Words.{◌&&◌, ◌∙◌, ◌≡◌, Bool, Err, GrantKind, Ok, Result, Took, WalkEnd, ap, body_refuses, false, kind_for, subst, sym, true}
+use Rattle.std.proofs.Common.{not, is_some}
 use Rattle.std.proofs.lemmas.Bool.{and_parts}
-use Rattle.trio_nodes.specs.declared.grant.GrantKind.{GrantKind}
-use Rattle.trio_walk.specs.declared.walks.WalkEnd.{WalkEnd}
-use Rattle.trio_walk.specs.Needs.{kind_for}
-use Rattle.trio_walk.specs.Walks.{Took}
-use Rattle.trio_walk.specs.inner.Steps.{body_refuses}
 use Rattle.trio_walk.proofs.Entering.{broken_off, entered_either, refused_then, root_refused}
 use Rattle.trio_walk.proofs.enter.enter_allowed.Goals as goal
 

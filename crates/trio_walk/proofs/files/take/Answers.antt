@@ -1,7 +1,4 @@
-use Rattle.std.proofs.Common.{Ok, Err, Result, true, cond, sym, subst, inl, inr}
-use Rattle.trio_nodes.specs.declared.answers.GrantFault.{GrantFault}
-use Rattle.trio_walk.specs.declared.walks.WalkEnd.TheVariants.{Busy, NoMemory}
-use Rattle.trio_walk.specs.Walks.{Took}
+use Rattle.trio_walk.proofs.Words.{Busy, Err, GrantFault, NoMemory, Ok, Result, Took, cond, inl, inr, subst, sym, true}
 use Rattle.trio_walk.proofs.Taking.{Needing, fault_as, fault_end, had_as, never}
 use Rattle.trio_walk.proofs.files.take.Goals as goal
 

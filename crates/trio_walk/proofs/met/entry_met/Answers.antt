@@ -1,7 +1,4 @@
-use Rattle.std.proofs.Common.{◌≡◌, ℕ, Some, IsSome, ap, sym, ◌∙◌, subst}
-use Rattle.trio_layout.specs.Entries.{slot_bytes}
-use Rattle.trio_layout.specs.Slot.{slot_of}
-use Rattle.trio_session.specs.Seen.{SessionSeen, block_shown, entry_in, every_number}
+use Rattle.trio_walk.proofs.Words.{◌∙◌, ◌≡◌, IsSome, SessionSeen, Some, ap, block_shown, entry_in, every_number, slot_bytes, slot_of, subst, sym, ℕ}
 use Rattle.trio_walk.proofs.Looking.{there_entry}
 use Rattle.trio_walk.proofs.met.entry_met.Goals as goal
 

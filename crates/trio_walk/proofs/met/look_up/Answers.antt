@@ -1,8 +1,4 @@
-use Rattle.std.proofs.Common.{ap, sym, ◌∙◌, subst, cond}
-use Rattle.trio_page.specs.Home.{raised}
-use Rattle.trio_lists.proofs.Members.{In-is_among}
-use Rattle.trio_session.specs.Seen.{SessionSeen}
-use Rattle.trio_walk.specs.Walks.{LooksUp, MayWalk}
+use Rattle.trio_walk.proofs.Words.{◌∙◌, In-is_among, LooksUp, MayWalk, SessionSeen, ap, cond, raised, subst, sym}
 use Rattle.trio_walk.proofs.Looking.{finds_entry, looked_up, may_but}
 use Rattle.trio_walk.proofs.met.look_up.Goals as goal
 

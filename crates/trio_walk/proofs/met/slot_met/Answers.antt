@@ -1,14 +1,5 @@
-use Rattle.std.proofs.Common.{◌≡◌, List, ℕ, Option, Some, ap, sym, ◌∙◌, get_or}
-use Rattle.std.specs.Option.{option_map}
-use Rattle.trio_page.specs.Field.{number_at}
-use Rattle.std.specs.Int.{w32}
-use Rattle.trio_layout.specs.Entries.{body_in_slot, slot_bytes}
-use Rattle.trio_layout.specs.declared.slot.EntryPart.{EntryPart}
+use Rattle.trio_walk.proofs.Words.{◌∙◌, ◌≡◌, EntryPart, Kind, List, Met, Option, Some, ap, body_in_slot, every_number, get_or, met_of, number_at, option_map, rights_at, slot_bytes, sym, w32, ℕ}
 use Rattle.trio_layout.proofs.SlotLemmas.{same_kind}
-use Rattle.trio_session.specs.Seen.{every_number}
-use Rattle.trio_rights.specs.declared.kind.Kind.{Kind}
-use Rattle.trio_walk.specs.inner.Steps.{met_of, rights_at}
-use Rattle.trio_walk.specs.declared.met.Met.{Met}
 use Rattle.trio_walk.specs.declared.met.Rights.{Rights}
 use Rattle.trio_walk.proofs.SlotFields.{HasFields, slot_entry}
 use Rattle.trio_walk.proofs.met.slot_met.Goals as goal

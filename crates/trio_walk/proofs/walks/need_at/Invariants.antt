@@ -1,5 +1,4 @@
-use Rattle.std.proofs.Common.{◌≡◌, drop}
-use Rattle.std.specs.List.{list_any}
+use Rattle.trio_walk.proofs.Words.{◌≡◌, drop, list_any}
 use Rattle.trio_nodes.specs.Walk.{same_path}
 use Rattle.trio_walk.proofs.walks.need_at.Given as goal
 

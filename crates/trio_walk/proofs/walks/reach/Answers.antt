@@ -1,13 +1,5 @@
-use Rattle.std.proofs.Common.{◌≡◌, ◌+◌, Some, None, Option, Ok, Err, get_or, take, sym, ap, ◌∙◌, subst, arith}
-use Rattle.trio_page.specs.Home.{raised}
-use Rattle.trio_rights.specs.declared.rights.Need.{Need}
-use Rattle.trio_nodes.specs.declared.call.Reply.TheVariants.{NotFound}
-use Rattle.trio_nodes.specs.Walk.{need_at}
-use Rattle.trio_session.specs.Seen.{SessionSeen}
-use Rattle.trio_walk.specs.declared.met.Met.{Met}
-use Rattle.trio_walk.specs.declared.walks.WalkEnd.TheVariants.{At, Reply}
-use Rattle.trio_walk.specs.Walks.{LooksUp, Walked, Walks, shows_root}
-use Rattle.trio_walk.specs.inner.Steps.{Entered}
+use Rattle.trio_walk.proofs.Words.{◌+◌, ◌∙◌, ◌≡◌, At, Entered, Err, LooksUp, Met, Need, None, NotFound, Ok, Option, Reply, SessionSeen, Some, Walked, Walks, ap, arith, get_or, need_at, raised, subst, sym, take}
+use Rattle.trio_walk.specs.Walks.{shows_root}
 use Rattle.trio_walk.proofs.Walking.{OnWay, begins, ends_at, found_walk, missed_walk, stopped_walk}
 use Rattle.trio_walk.proofs.walks.reach.Goals as goal
 

@@ -1,7 +1,4 @@
-use Rattle.std.proofs.Common.{◌≡◌, Ok, Err, ap, ◌∙◌, subst}
-use Rattle.trio_rights.specs.declared.rights.Need.{Need}
-use Rattle.trio_nodes.specs.Walk.{need_at}
-use Rattle.trio_walk.specs.inner.Steps.{Entered}
+use Rattle.trio_walk.proofs.Words.{◌∙◌, ◌≡◌, Entered, Err, Need, Ok, ap, need_at, subst}
 use Rattle.trio_walk.proofs.Walking.{met_into, stopped_before, walked_into}
 use Rattle.trio_walk.proofs.walks.reach_into.Goals as goal
 

@@ -1,4 +1,4 @@
-use Rattle.std.proofs.Common.{◌∙◌}
+use Rattle.trio_walk.proofs.Words.{◌∙◌}
 use Rattle.trio_onetree.proofs.PathFacts.{same_path-pointwise}
 use Rattle.trio_walk.proofs.walks.same_path.Goals as goal
 

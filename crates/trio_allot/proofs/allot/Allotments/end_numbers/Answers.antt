@@ -1,8 +1,4 @@
-use Rattle.std.proofs.Common.{◌<◌, ◌∙◌, ◌∷◌, [], ap, sym, subst, length, length-set, None}
-use Rattle.std.specs.Prelude.{All}
-use Rattle.std.proofs.lemmas.List.{map-append}
-use Rattle.trio_tables.specs.Out.{with_all}
-use Rattle.trio_allot.specs.Out.{inode_numbers}
+use Rattle.trio_allot.proofs.Words.{◌<◌, ◌∙◌, ◌∷◌, All, None, [], ap, inode_numbers, length, length-set, map-append, subst, sym, with_all}
 use Rattle.trio_allot.proofs.OutLemmas.{all_init, with_all-last}
 use Rattle.trio_allot.proofs.allot.Allotments.end_numbers.Goals as goal
 

@@ -1,7 +1,4 @@
-use Rattle.std.proofs.Common.{◌≡◌, ◌<◌, None, length, vec_len}
-use Rattle.std.specs.Prelude.{All}
-use Rattle.trio_tables.specs.Out.{with_all}
-use Rattle.trio_allot.specs.Out.{inode_numbers}
+use Rattle.trio_allot.proofs.Words.{◌<◌, ◌≡◌, All, None, inode_numbers, length, vec_len, with_all}
 use Rattle.trio_allot.proofs.allot.Allotments.end_numbers.Given as goal
 
 -- with the numbers that are left ended too, all is as after all of them

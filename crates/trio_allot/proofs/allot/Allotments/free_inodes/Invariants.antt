@@ -1,5 +1,4 @@
-use Rattle.std.proofs.Common.{◌≡◌, ◌+◌, ◌≤◌, length}
-use Rattle.trio_tables.specs.Free.{is_free_number, free_numbers, numbers_where}
+use Rattle.trio_allot.proofs.Words.{◌+◌, ◌≡◌, ◌≤◌, free_numbers, is_free_number, length, numbers_where}
 use Rattle.trio_allot.proofs.allot.Allotments.free_inodes.Given as goal
 
 -- those counted, and those from here on, are all

@@ -1,5 +1,4 @@
-use Rattle.std.proofs.Common.{◌≡◌, ◌+◌, length}
-use Rattle.trio_tables.specs.Free.{is_free_page, free_pages, numbers_where}
+use Rattle.trio_allot.proofs.Words.{◌+◌, ◌≡◌, free_pages, is_free_page, length, numbers_where}
 use Rattle.trio_allot.proofs.allot.Allotments.free_pages_to.Given as goal
 
 -- those passed, and those from here on, are all

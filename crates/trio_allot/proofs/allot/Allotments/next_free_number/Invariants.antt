@@ -1,5 +1,4 @@
-use Rattle.std.proofs.Common.{◌≡◌, ◌≤◌, length}
-use Rattle.trio_tables.specs.Free.{is_free_number, numbers_where}
+use Rattle.trio_allot.proofs.Words.{◌≡◌, ◌≤◌, is_free_number, length, numbers_where}
 use Rattle.trio_allot.proofs.allot.Allotments.next_free_number.Given as goal
 
 -- none is free from the start up to here

@@ -1,10 +1,5 @@
-use Rattle.std.proofs.Common.{◌≡◌, ◌<◌, ◌∙◌, ◌∷◌, ◌++◌, [], List, ap, refl, sym, subst, length, reverse, length-set, Some, None}
-use Rattle.std.specs.Prelude.{All}
+use Rattle.trio_allot.proofs.Words.{◌++◌, ◌<◌, ◌∙◌, ◌∷◌, ◌≡◌, All, All-head, All-tail, FreshParts, List, None, Some, [], ap, length, length-set, page_numbers, refl, reverse, subst, sym, with_all, with_pages}
 use Rattle.std.proofs.lemmas.List.{reverse-append, reverse-reverse}
-use Rattle.std.proofs.lemmas.List.Elements.{All-head, All-tail}
-use Rattle.trio_lease.specs.declared.parts.FreshParts.{FreshParts}
-use Rattle.trio_tables.specs.Out.{with_all}
-use Rattle.trio_allot.specs.Out.{page_numbers, with_pages}
 use Rattle.trio_allot.proofs.allot.Allotments.put_pages.Goals as goal
 
 -- the last of the list is the first of the reversed one

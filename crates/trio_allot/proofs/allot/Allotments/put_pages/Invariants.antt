@@ -1,7 +1,4 @@
-use Rattle.std.proofs.Common.{◌≡◌, ◌<◌, None, length, reverse, vec_len}
-use Rattle.std.specs.Prelude.{All}
-use Rattle.trio_tables.specs.Out.{with_all}
-use Rattle.trio_allot.specs.Out.{page_numbers, with_pages}
+use Rattle.trio_allot.proofs.Words.{◌<◌, ◌≡◌, All, None, length, page_numbers, reverse, vec_len, with_all, with_pages}
 use Rattle.trio_allot.proofs.allot.Allotments.put_pages.Given as goal
 
 -- with the pages that are left put back too, the first of them last in the list, all is as after all of them

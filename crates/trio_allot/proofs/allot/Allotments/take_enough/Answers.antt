@@ -1,11 +1,5 @@
-use Rattle.std.proofs.Common.{◌<◌, ◌∙◌, List, Option, ℕ, ap, length, subst, sym, take, Some, None}
-use Rattle.std.specs.Prelude.{All}
-use Rattle.trio_rights.specs.declared.rights.LibNo.{LibNo}
-use Rattle.trio_lease.specs.declared.parts.FreshParts.{FreshParts}
-use Rattle.trio_tables.specs.Free.{free_numbers}
-use Rattle.trio_tables.specs.Out.{with_all}
-use Rattle.trio_tables.proofs.OutLemmas.{length-with_all}
-use Rattle.trio_allot.specs.Out.{OutByNumber, inode_numbers, page_numbers, with_pages}
+use Rattle.trio_allot.proofs.Words.{◌<◌, ◌∙◌, All, FreshParts, LibNo, List, None, Option, Some, ap, free_numbers, inode_numbers, length, length-with_all, page_numbers, subst, sym, take, with_all, with_pages, ℕ}
+use Rattle.trio_allot.specs.Out.{OutByNumber}
 use Rattle.trio_allot.proofs.Taking.{taken_in, numbers_given, undone}
 use Rattle.trio_allot.proofs.allot.Allotments.take_enough.Goals as goal
 

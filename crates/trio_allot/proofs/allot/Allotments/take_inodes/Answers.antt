@@ -1,9 +1,5 @@
-use Rattle.std.proofs.Common.{◌≡◌, ◌≤◌, ℕ, ◌<◌, ◌+◌, ◌∙◌, ◌∷◌, [], ◌++◌, ◌&&◌, not, is_some, arith, ap, sym, map, take, set, length, Some, None, slice_index_or, length-set, get_or-set_other, le_trans}
-use Rattle.std.proofs.lemmas.List.{map-append}
-use Rattle.trio_rights.specs.Row.{row_in}
-use Rattle.trio_tables.specs.Free.{free_numbers, is_free_number}
-use Rattle.trio_tables.specs.Out.{with_all}
-use Rattle.trio_allot.specs.Out.{fresh_number}
+use Rattle.trio_allot.proofs.Words.{◌&&◌, ◌++◌, ◌+◌, ◌<◌, ◌∙◌, ◌∷◌, ◌≡◌, ◌≤◌, None, Some, [], ap, arith, free_numbers, fresh_number, get_or-set_other, is_free_number, le_trans, length, length-set, map, map-append, row_in, set, slice_index_or, sym, take, with_all, ℕ}
+use Rattle.std.proofs.Common.{not, is_some}
 use Rattle.trio_allot.proofs.FreeLemmas.{next_of, next_same, not_empty, where_same}
 use Rattle.trio_allot.proofs.OutLemmas.{with_all-push}
 use Rattle.trio_allot.proofs.allot.Allotments.take_inodes.Goals as goal

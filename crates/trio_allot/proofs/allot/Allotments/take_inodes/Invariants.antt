@@ -1,7 +1,4 @@
-use Rattle.std.proofs.Common.{◌≡◌, ◌≤◌, ℕ, Some, length, map, take, drop, vec_len, vec_capacity}
-use Rattle.trio_tables.specs.Free.{is_free_number, free_numbers, numbers_where}
-use Rattle.trio_tables.specs.Out.{lib_at, with_all}
-use Rattle.trio_allot.specs.Out.{fresh_number}
+use Rattle.trio_allot.proofs.Words.{◌≡◌, ◌≤◌, Some, drop, free_numbers, fresh_number, is_free_number, length, lib_at, map, numbers_where, take, vec_capacity, vec_len, with_all, ℕ}
 use Rattle.trio_allot.proofs.allot.Allotments.take_inodes.Given as goal
 
 -- the first i free numbers are out; the others are those from `from` on, where all is as it was

@@ -1,9 +1,5 @@
-use Rattle.std.proofs.Common.{◌≡◌, ◌≤◌, ℕ, ◌<◌, ◌+◌, ◌∙◌, ◌∷◌, [], ◌++◌, ◌==◌, ◌&&◌, not, is_some, arith, ap, sym, subst, map, take, set, length, slice_index, IsSome, IsTrue, Some, None, slice_index_or, length-set, get_or-set_other, le_trans}
-use Rattle.std.proofs.lemmas.List.{map-append}
-use Rattle.trio_page.specs.Home.{raised}
-use Rattle.trio_tables.specs.Free.{free_pages, is_free_page}
-use Rattle.trio_tables.specs.Out.{with_all}
-use Rattle.trio_allot.specs.Out.{fresh_page}
+use Rattle.trio_allot.proofs.Words.{◌&&◌, ◌++◌, ◌+◌, ◌<◌, ◌==◌, ◌∙◌, ◌∷◌, ◌≡◌, ◌≤◌, IsSome, None, Some, [], ap, arith, free_pages, fresh_page, get_or-set_other, is_free_page, le_trans, length, length-set, map, map-append, raised, set, slice_index_or, subst, sym, take, with_all, ℕ}
+use Rattle.std.proofs.Common.{not, is_some, slice_index, IsTrue}
 use Rattle.trio_allot.proofs.FreeLemmas.{next_of, next_same, not_empty, where_same}
 use Rattle.trio_allot.proofs.OutLemmas.{with_all-push, raised_by-more, home_after_taking}
 use Rattle.trio_allot.proofs.allot.Allotments.take_pages.Goals as goal

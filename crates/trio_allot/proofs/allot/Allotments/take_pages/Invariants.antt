@@ -1,7 +1,4 @@
-use Rattle.std.proofs.Common.{◌≡◌, ◌≤◌, ℕ, Some, None, length, map, take, drop, vec_len, vec_capacity, slice_index_or}
-use Rattle.trio_tables.specs.Free.{is_free_page, free_pages, numbers_where}
-use Rattle.trio_tables.specs.Out.{lib_at, with_all}
-use Rattle.trio_allot.specs.Out.{fresh_page, raised_by}
+use Rattle.trio_allot.proofs.Words.{◌≡◌, ◌≤◌, None, Some, drop, free_pages, fresh_page, is_free_page, length, lib_at, map, numbers_where, raised_by, slice_index_or, take, vec_capacity, vec_len, with_all, ℕ}
 use Rattle.trio_allot.proofs.allot.Allotments.take_pages.Given as goal
 
 -- the first i free pages are out; the others are those from `from` on, where all is as it was

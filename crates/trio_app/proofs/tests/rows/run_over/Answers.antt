@@ -1,6 +1,4 @@
-use Rattle.std.proofs.Common.{◌≡◌, rules}
-use Rattle.std.proofs.lemmas.List.Elements.{All-contains_itself}
-use Rattle.trio_io.specs.Names.{texts_of}
+use Rattle.trio_app.proofs.Words.{◌≡◌, All-contains_itself, rules, texts_of}
 use Rattle.trio_app.proofs.tests.rows.run_over.Goals as goal
 
 pub trio_main-status-requires-after_bounds : goal.trio_main-status-requires-after_bounds

@@ -1,4 +1,4 @@
-use Rattle.std.proofs.Common.{ℕ, Some, set, ap, ◌∙◌}
+use Rattle.trio_auxdir.proofs.Words.{◌∙◌, Some, ap, set, ℕ}
 use Rattle.trio_auxdir.proofs.Gaps.{gap_after}
 use Rattle.trio_auxdir.proofs.Kept.{kept_put, place_of-put}
 use Rattle.trio_auxdir.proofs.directory.HashedDir.add.Goals as goal

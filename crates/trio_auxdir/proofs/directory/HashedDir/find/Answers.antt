@@ -1,4 +1,4 @@
-use Rattle.std.proofs.Common.{sym}
+use Rattle.trio_auxdir.proofs.Words.{sym}
 use Rattle.trio_auxdir.proofs.SlotLists.{slot_there}
 use Rattle.trio_auxdir.proofs.Kept.{slot_number-place_at}
 use Rattle.trio_auxdir.proofs.directory.HashedDir.find.Goals as goal

@@ -1,4 +1,4 @@
-use Rattle.std.proofs.Common.{◌+◌, ◌<◌, ◌^◌, length, arith}
+use Rattle.trio_auxdir.proofs.Words.{◌+◌, ◌<◌, ◌^◌, arith, length}
 use Rattle.trio_auxdir.proofs.Kept.{kept_empties, place_of-empties}
 use Rattle.trio_auxdir.proofs.directory.HashedDir.grow.Goals as goal
 

@@ -1,5 +1,4 @@
-use Rattle.std.proofs.Common.{◌≡◌, ◌<◌, ◌^◌, ap, ◌∙◌, length, rules, arith}
-use Rattle.std.specs.List.{filter}
+use Rattle.trio_auxdir.proofs.Words.{◌<◌, ◌^◌, ◌∙◌, ◌≡◌, ap, arith, filter, length, rules}
 use Rattle.std.specs.Option.{is_some}
 use Rattle.trio_auxdir.specs.Directory.{Directory}
 use Rattle.trio_auxdir.proofs.Counted.{length-filter_some, length-order}

@@ -1,4 +1,4 @@
-use Rattle.std.proofs.Common.{None, Some, refl, ◌∙◌}
+use Rattle.trio_auxdir.proofs.Words.{◌∙◌, None, Some, refl}
 use Rattle.trio_auxdir.proofs.SlotLists.{nowhere_emptied}
 use Rattle.trio_auxdir.proofs.Kept.{no_place, number_within, slice_get-set, set_again, kept_renamed, set-with_slot, place_of-renamed}
 use Rattle.trio_auxdir.proofs.directory.HashedDir.rename.Goals as goal

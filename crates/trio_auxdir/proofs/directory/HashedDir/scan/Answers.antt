@@ -1,4 +1,4 @@
-use Rattle.std.proofs.Common.{arith}
+use Rattle.trio_auxdir.proofs.Words.{arith}
 use Rattle.trio_auxdir.specs.Slots.{slots_on}
 use Rattle.trio_auxdir.proofs.Gaps.{gap-append}
 use Rattle.trio_auxdir.proofs.Kept.{index_same}

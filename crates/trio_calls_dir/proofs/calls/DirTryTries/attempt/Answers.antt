@@ -1,10 +1,4 @@
-use Rattle.std.proofs.Common.{◌≡◌, ◌∙◌, ap, sym, subst}
-use Rattle.trio_nodes.specs.declared.call.Reply.{Reply}
-use Rattle.trio_nodes.specs.declared.grant.Holder.{Holder}
-use Rattle.trio_session.specs.Seen.{SessionSeen}
-use Rattle.trio_walk.specs.Asks.{noted}
-use Rattle.trio_walk.specs.declared.outcome.Outcome.TheVariants.{Busy, Replied}
-use Rattle.trio_calls_dir.specs.Asks.{DirTried}
+use Rattle.trio_calls_dir.proofs.Words.{◌∙◌, ◌≡◌, Busy, DirTried, Holder, Replied, Reply, SessionSeen, ap, noted, subst, sym}
 use Rattle.trio_calls_dir.proofs.Noted.{is_names, tried_busy, tried_noted, tried_short, tried_unnoted}
 use Rattle.trio_calls_dir.proofs.calls.DirTryTries.attempt.Goals as goal
 

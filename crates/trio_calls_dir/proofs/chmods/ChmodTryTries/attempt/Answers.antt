@@ -1,12 +1,5 @@
-use Rattle.std.proofs.Common.{refl, sym, subst}
-use Rattle.trio_nodes.specs.declared.call.Call.{Call}
-use Rattle.trio_desk.specs.Ready.{IsChmod}
-use Rattle.trio_walk.specs.declared.outcome.Outcome.TheVariants.{Busy, NoMemory}
-use Rattle.trio_walk.specs.Tries.{try_end}
-use Rattle.trio_walk.specs.declared.walks.WalkEnd.TheVariants.{At, Reply as IsReply, Busy as IsBusyWalk, NoMemory as NoWalkMemory}
-use Rattle.trio_walk.specs.Walks.{InAllShown}
-use Rattle.trio_calls_dir.specs.inner.Chmods.{IsChmodCall, TriesCall}
-use Rattle.trio_calls_dir.specs.inner.Goes.{IsRefusedAs}
+use Rattle.trio_calls_dir.proofs.Words.{At, Busy, Call, InAllShown, IsBusyWalk, IsChmod, IsRefusedAs, IsReply, NoMemory, NoWalkMemory, TriesCall, refl, subst, sym, try_end}
+use Rattle.trio_calls_dir.specs.inner.Chmods.{IsChmodCall}
 use Rattle.trio_calls_dir.proofs.ChmodsTried.{lib_kept, call_hands, call_modes, is_chmod, refused_does, refuses_so, tried_busy, tried_others, tried_short}
 use Rattle.trio_calls_dir.proofs.chmods.ChmodTryTries.attempt.Goals as goal
 use Rattle.trio_calls_dir.proofs.Walkable.{may_walk}

@@ -1,10 +1,4 @@
-use Rattle.std.proofs.Common.{◌≡◌, sym, ap, ◌∙◌, subst}
-use Rattle.trio_nodes.specs.declared.call.Reply.{Reply}
-use Rattle.trio_session.specs.Seen.{SessionSeen}
-use Rattle.trio_walk.specs.declared.outcome.Outcome.TheVariants.{Busy, Replied}
-use Rattle.trio_nodes.specs.declared.grant.Holder.{Holder}
-use Rattle.trio_calls_file.specs.Asks.{FileTried}
-use Rattle.trio_walk.specs.Asks.{noted}
+use Rattle.trio_calls_file.proofs.Words.{◌∙◌, ◌≡◌, Busy, FileTried, Holder, Replied, Reply, SessionSeen, ap, noted, subst, sym}
 use Rattle.trio_calls_file.proofs.Noted.{is_bytes, tried_busy, tried_short, tried_unnoted, tried_noted}
 use Rattle.trio_calls_file.proofs.calls.FileTryTries.attempt.Goals as goal
 

@@ -1,10 +1,4 @@
-use Rattle.std.proofs.Common.{◌≡◌, ◌∙◌, ◌+◌, ◌<◌, length, ap, subst, sym, arith}
-use Rattle.std.proofs.lemmas.Bool.Decides.{nat_tests}
-use Rattle.trio_lists.proofs.Tabulated.{tabulated-length}
-use Rattle.trio_rights.specs.Row.{row_in}
-use Rattle.trio_lease.specs.Views.{bundle_in}
-use Rattle.trio_layout.specs.Copied.{copied_row}
-use Rattle.trio_case.specs.inner.Maps.{row_kept}
+use Rattle.trio_case.proofs.Words.{◌+◌, ◌<◌, ◌∙◌, ◌≡◌, ap, arith, bundle_in, copied_row, length, nat_tests, row_in, row_kept, subst, sym, tabulated-length}
 use Rattle.trio_case.proofs.CaseRows.{tables-same, tables-agree}
 use Rattle.trio_case.proofs.case.Case.fits.Goals as goal
 

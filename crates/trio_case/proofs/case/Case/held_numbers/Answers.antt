@@ -1,5 +1,4 @@
-use Rattle.std.proofs.Common.{◌∙◌, ap}
-use Rattle.trio_case.specs.Order.{in_order}
+use Rattle.trio_case.proofs.Words.{◌∙◌, ap, in_order}
 use Rattle.trio_case.proofs.case.Case.held_numbers.Goals as goal
 
 pub returns : goal.returns

@@ -1,5 +1,4 @@
-use Rattle.std.proofs.Common.{◌∙◌, ap, sym}
-use Rattle.trio_lists.specs.Lists.{is_among}
+use Rattle.trio_case.proofs.Words.{◌∙◌, ap, is_among, sym}
 use Rattle.trio_case.proofs.CaseRows.{written_is}
 use Rattle.trio_case.proofs.case.Case.is_written.Goals as goal
 

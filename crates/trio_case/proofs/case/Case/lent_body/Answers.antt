@@ -1,6 +1,4 @@
-use Rattle.std.proofs.Common.{◌≡◌}
-use Rattle.std.specs.Option.{option_copied}
-use Rattle.trio_case.specs.inner.Maps.{body_lent}
+use Rattle.trio_case.proofs.Words.{◌≡◌, body_lent, option_copied}
 use Rattle.trio_case.proofs.CaseRows.{body_from, held_from, held_is, lent_is}
 use Rattle.trio_case.proofs.case.Case.lent_body.Goals as goal
 

@@ -1,7 +1,4 @@
-use Rattle.std.proofs.Common.{◌≡◌, ◌∙◌, ◌++◌, map, refl, ap}
-use Rattle.trio_lease.specs.Shown.{LentFile}
-use Rattle.trio_lease.specs.declared.parts.InoParts.{InoParts}
-use Rattle.trio_case.specs.Order.{place_of}
+use Rattle.trio_case.proofs.Words.{◌++◌, ◌∙◌, ◌≡◌, InoParts, LentFile, ap, map, place_of, refl}
 use Rattle.trio_case.proofs.case.Case.own_place.Goals as goal
 
 pub returns : goal.returns

@@ -1,4 +1,4 @@
-use Rattle.std.proofs.Common.{refl}
+use Rattle.trio_case.proofs.Words.{refl}
 use Rattle.trio_case.proofs.OtherBytes.{alike, is_case, tells}
 use Rattle.trio_case.proofs.case.Case.page_mut.Goals as goal
 

@@ -1,6 +1,5 @@
-use Rattle.std.proofs.Common.{◌∙◌, ◌+◌, None, sym, arith}
-use Rattle.trio_lists.proofs.Tabulated.{tabulated-get, tabulated-past}
-use Rattle.trio_case.specs.inner.Maps.{row_kept}
+use Rattle.trio_case.proofs.Words.{◌+◌, ◌∙◌, None, arith, row_kept, sym, tabulated-get}
+use Rattle.trio_lists.proofs.Tabulated.{tabulated-past}
 use Rattle.trio_case.proofs.case.Case.row.Goals as goal
 
 pub returns-then-ino-self : goal.returns-then-ino-self

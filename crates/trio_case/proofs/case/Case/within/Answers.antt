@@ -1,8 +1,4 @@
-use Rattle.std.proofs.Common.{◌+◌, length, ap, sym}
-use Rattle.trio_rights.specs.Row.{row_in}
-use Rattle.trio_lease.specs.Views.{bundle_in}
-use Rattle.trio_layout.specs.Copied.{copied_row}
-use Rattle.trio_case.specs.inner.Maps.{row_kept}
+use Rattle.trio_case.proofs.Words.{◌+◌, ap, bundle_in, copied_row, length, row_in, row_kept, sym}
 use Rattle.trio_case.proofs.CaseRows.{judgeable_case, numbers_differ, tables-same}
 use Rattle.trio_case.proofs.case.Case.within.Goals as goal
 

@@ -1,4 +1,4 @@
-use Rattle.std.proofs.Common.{rules, Some, Ok, ◌≡◌, ◌+◌, ◌-◌, arith}
+use Rattle.trio_case.proofs.Words.{◌+◌, ◌-◌, ◌≡◌, Ok, Some, arith, rules}
 use Rattle.trio_case.proofs.Keeping.{kept_named}
 use Rattle.trio_case.proofs.kept.KeptPages.entries_of.Goals as goal
 

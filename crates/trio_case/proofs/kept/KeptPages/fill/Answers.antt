@@ -1,10 +1,4 @@
-use Rattle.std.proofs.Common.{◌≡◌, ◌∙◌, length, sym, ap, arith}
-use Rattle.std.proofs.lemmas.List.{length-map}
-use Rattle.trio_rights.specs.Bundle.{bundle_pages}
-use Rattle.trio_lease.specs.Views.{bundle_in}
-use Rattle.trio_case.specs.Order.{in_order}
-use Rattle.trio_case.specs.declared.kept.KeptPage.{KeptPage}
-use Rattle.trio_case.specs.inner.Unread.{numbers_of}
+use Rattle.trio_case.proofs.Words.{◌∙◌, ◌≡◌, KeptPage, ap, arith, bundle_in, bundle_pages, in_order, length, length-map, numbers_of, sym}
 use Rattle.trio_case.proofs.Ordered.{order_length}
 use Rattle.trio_case.proofs.kept.KeptPages.fill.Goals as goal
 

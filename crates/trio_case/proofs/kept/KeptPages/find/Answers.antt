@@ -1,10 +1,4 @@
-use Rattle.std.proofs.Common.{rules, ◌≡◌, ◌∙◌, None, refl, sym, ap}
-use Rattle.std.specs.Prelude.{slice_get}
-use Rattle.std.specs.Option.{option_and_then}
-use Rattle.std.specs.Result.{result_ok}
-use Rattle.std.proofs.lemmas.Option.{slice_get_past, slice_get_read}
-use Rattle.trio_case.specs.Order.{place_of}
-use Rattle.trio_case.specs.Rooms.{kept_page}
+use Rattle.trio_case.proofs.Words.{◌∙◌, ◌≡◌, None, ap, kept_page, option_and_then, place_of, refl, result_ok, rules, slice_get, slice_get_past, slice_get_read, sym}
 use Rattle.trio_case.proofs.Ordered.{found_place}
 use Rattle.trio_case.proofs.kept.KeptPages.find.Goals as goal
 

@@ -1,5 +1,4 @@
-use Rattle.std.proofs.Common.{◌+◌, ◌∙◌, ap, arith, get_or, length, slice_set}
-use Rattle.trio_case.specs.inner.Known.{noted}
+use Rattle.trio_case.proofs.Words.{◌+◌, ◌∙◌, ap, arith, get_or, length, noted, slice_set}
 use Rattle.trio_case.proofs.Knowing.{knows_entry}
 use Rattle.trio_case.proofs.listing.Listing.add_entry.Goals as goal
 

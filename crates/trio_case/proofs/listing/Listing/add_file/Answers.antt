@@ -1,9 +1,4 @@
-use Rattle.std.proofs.Common.{◌≡◌, ◌+◌, ◌++◌, ◌∷◌, [], length, map, arith, refl, ap, ◌∙◌}
-use Rattle.std.proofs.lemmas.List.{length-append, length-map, map_push}
-use Rattle.trio_layout.specs.Listing.{ListedFile}
-use Rattle.trio_tables.specs.Row.{as_row}
-use Rattle.trio_case.specs.declared.listing.ListedFile.{ListedFile as FileData}
-use Rattle.trio_case.specs.inner.Known.{file_seen, is_within}
+use Rattle.trio_case.proofs.Words.{◌++◌, ◌+◌, ◌∙◌, ◌∷◌, ◌≡◌, FileData, ListedFile, [], ap, arith, as_row, file_seen, is_within, length, length-append, length-map, map, map_push, refl}
 use Rattle.trio_case.proofs.Knowing.{just_more}
 use Rattle.trio_case.proofs.Parts.{all-push, all-within-more, files-push, flat-push, whole_within}
 use Rattle.trio_case.proofs.listing.Listing.add_file.Goals as goal

@@ -1,4 +1,4 @@
-use Rattle.std.proofs.Common.{arith}
+use Rattle.trio_case.proofs.Words.{arith}
 use Rattle.trio_case.proofs.Knowing.{just_more}
 use Rattle.trio_case.proofs.listing.Listing.add_held.Goals as goal
 

@@ -1,7 +1,4 @@
-use Rattle.std.proofs.Common.{rules, ◌≡◌, ◌<◌, ◌∙◌, ap, get_or, length, sym}
-use Rattle.std.specs.Option.{option_map}
-use Rattle.trio_case.specs.Listed.{entry_seen}
-use Rattle.trio_case.specs.inner.Known.{last_of}
+use Rattle.trio_case.proofs.Words.{◌<◌, ◌∙◌, ◌≡◌, ap, entry_seen, get_or, last_of, length, option_map, rules, sym}
 use Rattle.trio_case.proofs.Knowing.{find-seen}
 use Rattle.trio_case.proofs.listing.Listing.first_entry.Goals as goal
 

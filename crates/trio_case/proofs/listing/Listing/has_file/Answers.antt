@@ -1,4 +1,4 @@
-use Rattle.std.proofs.Common.{sym, ◌∙◌}
+use Rattle.trio_case.proofs.Words.{◌∙◌, sym}
 use Rattle.trio_case.proofs.Knowing.{file-found}
 use Rattle.trio_case.proofs.listing.Listing.has_file.Goals as goal
 

@@ -1,4 +1,4 @@
-use Rattle.std.proofs.Common.{◌∙◌}
+use Rattle.trio_case.proofs.Words.{◌∙◌}
 use Rattle.trio_case.proofs.listing.Listing.is_held.Goals as goal
 
 pub returns : goal.returns

@@ -1,6 +1,4 @@
-use Rattle.std.proofs.Common.{◌∙◌, ap, sym}
-use Rattle.std.specs.Option.{option_copied, option_map}
-use Rattle.trio_case.specs.Listed.{entry_seen}
+use Rattle.trio_case.proofs.Words.{◌∙◌, ap, entry_seen, option_copied, option_map, sym}
 use Rattle.trio_case.proofs.Knowing.{first_kept, kept-seen, unkept}
 use Rattle.trio_case.proofs.listing.Listing.is_listed_kept.Goals as goal
 

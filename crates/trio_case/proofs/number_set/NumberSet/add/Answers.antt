@@ -1,4 +1,4 @@
-use Rattle.std.proofs.Common.{rules, ◌≡◌, insert, is_ok, sym, ap, ◌∙◌}
+use Rattle.trio_case.proofs.Words.{◌∙◌, ◌≡◌, ap, insert, is_ok, rules, sym}
 use Rattle.trio_case.proofs.Asked.{found_among, none_more, one_more, ordered_still}
 use Rattle.trio_case.proofs.number_set.NumberSet.add.Goals as goal
 

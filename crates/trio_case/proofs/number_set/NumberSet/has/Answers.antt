@@ -1,4 +1,4 @@
-use Rattle.std.proofs.Common.{◌∙◌}
+use Rattle.trio_case.proofs.Words.{◌∙◌}
 use Rattle.trio_case.proofs.Asked.{found_among}
 use Rattle.trio_case.proofs.number_set.NumberSet.has.Goals as goal
 

@@ -1,12 +1,4 @@
-use Rattle.std.proofs.Common.{rules, ◌≡◌, ◌∙◌, None, Some, refl, sym, ap, subst}
-use Rattle.std.specs.Prelude.{slice_get}
-use Rattle.std.specs.Option.{option_and_then, option_map}
-use Rattle.std.specs.Result.{result_ok}
-use Rattle.std.proofs.lemmas.List.Sorted.{answers_always}
-use Rattle.std.proofs.lemmas.Option.{slice_get_read}
-use Rattle.trio_case.specs.Order.{place_of, AreRising}
-use Rattle.trio_case.specs.declared.numbered.NumberPlace.{NumberPlace}
-use Rattle.trio_case.specs.inner.Numbered.{counted_numbers}
+use Rattle.trio_case.proofs.Words.{◌∙◌, ◌≡◌, AreRising, None, NumberPlace, Some, answers_always, ap, counted_numbers, option_and_then, option_map, place_of, refl, result_ok, rules, slice_get, slice_get_read, subst, sym}
 use Rattle.trio_case.proofs.Counted.{place_found, search_found}
 use Rattle.trio_case.proofs.Ordered.{order_rises}
 use Rattle.trio_case.proofs.numbered.Places.find.Goals as goal

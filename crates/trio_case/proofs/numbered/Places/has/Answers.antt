@@ -1,5 +1,4 @@
-use Rattle.std.proofs.Common.{◌∙◌, ap}
-use Rattle.std.specs.Prelude.{is_some}
+use Rattle.trio_case.proofs.Words.{◌∙◌, ap, is_some}
 use Rattle.trio_case.proofs.Counted.{place_some}
 use Rattle.trio_case.proofs.numbered.Places.has.Goals as goal
 

@@ -1,7 +1,4 @@
-use Rattle.std.proofs.Common.{◌≡◌, ◌∙◌, length, ap, arith}
-use Rattle.std.proofs.lemmas.List.{length-map}
-use Rattle.trio_case.specs.declared.numbered.NumberPlace.{NumberPlace}
-use Rattle.trio_case.specs.inner.Numbered.{counted_numbers}
+use Rattle.trio_case.proofs.Words.{◌∙◌, ◌≡◌, NumberPlace, ap, arith, counted_numbers, length, length-map}
 use Rattle.trio_case.proofs.Ordered.{order_length}
 use Rattle.trio_case.proofs.numbered.Places.in_order.Goals as goal
 

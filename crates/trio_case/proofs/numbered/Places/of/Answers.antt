@@ -1,5 +1,4 @@
-use Rattle.std.proofs.Common.{◌∙◌, ap}
-use Rattle.trio_case.specs.Order.{in_order}
+use Rattle.trio_case.proofs.Words.{◌∙◌, ap, in_order}
 use Rattle.trio_case.proofs.numbered.Places.of.Goals as goal
 
 pub invariant_of-result : goal.invariant_of-result

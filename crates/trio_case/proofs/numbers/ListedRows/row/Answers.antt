@@ -1,11 +1,4 @@
-use Rattle.std.proofs.Common.{rules, ◌≡◌, ◌∙◌, None, Some, refl, sym, ap}
-use Rattle.std.specs.Prelude.{slice_get}
-use Rattle.std.specs.Option.{option_and_then, option_map}
-use Rattle.std.specs.Result.{result_ok}
-use Rattle.std.proofs.lemmas.Option.{slice_get_past, slice_get_read}
-use Rattle.trio_tables.specs.Row.{as_row}
-use Rattle.trio_case.specs.Order.{place_of}
-use Rattle.trio_case.specs.inner.RowLists.{row_listed}
+use Rattle.trio_case.proofs.Words.{◌∙◌, ◌≡◌, None, Some, ap, as_row, option_and_then, option_map, place_of, refl, result_ok, row_listed, rules, slice_get, slice_get_past, slice_get_read, sym}
 use Rattle.trio_case.proofs.Ordered.{found_place}
 use Rattle.trio_case.proofs.numbers.ListedRows.row.Goals as goal
 

@@ -1,8 +1,4 @@
-use Rattle.std.proofs.Common.{◌∙◌, Some, None, cond, ap, sym}
-use Rattle.std.specs.Option.{option_map}
-use Rattle.trio_lease.specs.Views.{bundle_in}
-use Rattle.trio_layout.specs.Copied.{copied_row}
-use Rattle.trio_tables.specs.Row.{as_row}
+use Rattle.trio_case.proofs.Words.{◌∙◌, None, Some, ap, as_row, bundle_in, cond, copied_row, option_map, sym}
 use Rattle.trio_case.proofs.CaseRows.{copied_if}
 use Rattle.trio_case.proofs.numbers.Numbers.copied.Goals as goal
 

@@ -1,11 +1,6 @@
-use Rattle.std.proofs.Common.{◌≡◌, ◌∙◌, length, sym, ap, arith}
-use Rattle.std.specs.Prelude.{vec_capacity, vec_len}
-use Rattle.std.proofs.lemmas.List.{length-map}
-use Rattle.trio_rights.specs.Bundle.{bundle_pages}
-use Rattle.trio_lease.specs.Views.{bundle_in}
+use Rattle.trio_case.proofs.Words.{◌∙◌, ◌≡◌, KeptPage, ap, arith, bundle_in, bundle_pages, length, length-map, sym, unread_blocks, unread_index, vec_capacity}
+use Rattle.std.specs.Prelude.{vec_len}
 use Rattle.trio_nameset.specs.Names.{Names}
-use Rattle.trio_case.specs.Rooms.{unread_blocks, unread_index}
-use Rattle.trio_case.specs.declared.kept.KeptPage.{KeptPage}
 use Rattle.trio_case.proofs.Making.{all_unread, all_unread_index}
 use Rattle.trio_case.proofs.Ordered.{order_length}
 use Rattle.trio_case.proofs.room.PageRoom.fill.Goals as goal

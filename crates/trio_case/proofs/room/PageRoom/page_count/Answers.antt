@@ -1,4 +1,4 @@
-use Rattle.std.proofs.Common.{arith}
+use Rattle.trio_case.proofs.Words.{arith}
 use Rattle.trio_case.proofs.Opening.{page_count}
 use Rattle.trio_case.proofs.room.PageRoom.page_count.Goals as goal
 

@@ -1,7 +1,5 @@
-use Rattle.std.proofs.Common.{◌≡◌, false, is_some, sym, ap, ◌∙◌}
-use Rattle.trio_rights.specs.Bundle.{bundle_pages}
-use Rattle.trio_lists.specs.Lists.{is_among}
-use Rattle.trio_lease.specs.Views.{bundle_in}
+use Rattle.trio_case.proofs.Words.{◌∙◌, ◌≡◌, ap, bundle_in, bundle_pages, false, is_among, sym}
+use Rattle.std.proofs.Common.{is_some}
 use Rattle.trio_case.proofs.Ordered.{unplaced}
 use Rattle.trio_case.proofs.OwnPages.{found_is_own, place_found, place_within}
 use Rattle.trio_case.proofs.room.PageRoom.place.Goals as goal

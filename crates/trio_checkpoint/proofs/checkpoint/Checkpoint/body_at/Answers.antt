@@ -1,4 +1,4 @@
-use Rattle.std.proofs.Common.{◌∙◌, is_some, ap}
+use Rattle.trio_checkpoint.proofs.Words.{◌∙◌, ap, is_some}
 use Rattle.trio_checkpoint.proofs.Bodies.{is_found}
 use Rattle.trio_checkpoint.proofs.checkpoint.Checkpoint.body_at.Goals as goal
 

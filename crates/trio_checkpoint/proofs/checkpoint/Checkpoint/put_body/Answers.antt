@@ -1,6 +1,5 @@
-use Rattle.std.proofs.Common.{◌≡◌, ◌∙◌, length, sym}
+use Rattle.trio_checkpoint.proofs.Words.{◌∙◌, ◌≡◌, length, renewed, sym, with_body}
 use Rattle.std.proofs.lemmas.List.{length-map, with_items_is}
-use Rattle.trio_checkpoint.specs.Covered.{renewed, with_body}
 use Rattle.trio_checkpoint.proofs.Bodies.{numbers_stay}
 use Rattle.trio_checkpoint.proofs.checkpoint.Checkpoint.put_body.Goals as goal
 

@@ -1,4 +1,4 @@
-use Rattle.std.proofs.Common.{length, refl}
+use Rattle.trio_checkpoint.proofs.Words.{length, refl}
 use Rattle.trio_checkpoint.proofs.Restoring.{below_parts, length-with_pages, with_pages-append}
 use Rattle.trio_checkpoint.proofs.checkpoint.Checkpoint.restored.Goals as goal
 

@@ -1,5 +1,5 @@
-use Rattle.std.proofs.Common.{◌≡◌, Ok, length, sym}
-use Rattle.trio_checkpoint.specs.Covered.{chain_in, core_of, covered_numbers}
+use Rattle.trio_checkpoint.proofs.Words.{◌≡◌, Ok, core_of, covered_numbers, length, sym}
+use Rattle.trio_checkpoint.specs.Covered.{chain_in}
 use Rattle.trio_checkpoint.specs.inner.Steps.{chain_seen}
 use Rattle.trio_checkpoint.proofs.Copies.{all_stand, copies_are_sheets, covered_are}
 use Rattle.trio_checkpoint.proofs.Restoring.{below_joined, copies_within}

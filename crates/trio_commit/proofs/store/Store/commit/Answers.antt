@@ -1,21 +1,4 @@
-use Rattle.std.proofs.Common.{◌≡◌, ◌∙◌, ◌++◌, None, length, map, IsTrue, ap, sym, subst, arith}
-use Rattle.std.specs.List.{flat_map}
-use Rattle.std.proofs.lemmas.List.{length-map}
-use Rattle.trio_page.specs.Home.{Pages}
-use Rattle.trio_lists.specs.Lists.{In}
-use Rattle.trio_lists.specs.Marked.{all_below}
-use Rattle.trio_rights.specs.Bundle.{Bundle, Written, bundle_pages, bundle_sheets}
-use Rattle.trio_rights.specs.Sheets.{with_pages}
-use Rattle.trio_lease.specs.Shown.{LentFile}
-use Rattle.trio_lease.specs.Views.{bundle_in, written_in}
-use Rattle.trio_tables.proofs.OutLemmas.{length-with_all}
-use Rattle.trio_layout.specs.Accept.{with_bodies}
-use Rattle.trio_layout.specs.Listing.{Listing}
-use Rattle.trio_case.specs.Listed.{entry_seen}
-use Rattle.trio_checkpoint.proofs.Restoring.{below_parts}
-use Rattle.trio_commit.specs.Bodies.{bodies_home, kept_children, page_changes, placed_files, with_children}
-use Rattle.trio_commit.specs.Listed.{HasPagesBelow, written_pages}
-use Rattle.trio_commit.specs.inner.Files.{leases_in}
+use Rattle.trio_commit.proofs.Words.{◌++◌, ◌∙◌, ◌≡◌, Bundle, HasPagesBelow, In, IsTrue, LentFile, Listing, None, Pages, Written, all_below, ap, arith, below_parts, bodies_home, bundle_in, bundle_pages, bundle_sheets, entry_seen, flat_map, kept_children, leases_in, length, length-map, length-with_all, map, page_changes, placed_files, subst, sym, with_bodies, with_children, with_pages, written_in, written_pages}
 use Rattle.trio_commit.proofs.Cells.{owners_put}
 use Rattle.trio_commit.proofs.Placing.{Checkpoints, PageList, length-with_bodies}
 use Rattle.trio_commit.proofs.Rolling.{out_within}

@@ -1,11 +1,5 @@
-use Rattle.std.proofs.Common.{◌≡◌, ◌∙◌, ◌++◌, None, ap, sym}
-use Rattle.trio_page.specs.Home.{Pages}
-use Rattle.trio_rights.specs.Bundle.{bundle_pages}
-use Rattle.trio_rights.specs.Sheets.{with_pages}
-use Rattle.trio_lease.specs.Views.{bundle_in}
-use Rattle.trio_tables.specs.Out.{with_all}
-use Rattle.trio_commit.specs.Handed.{lent_uncovered, written_numbers}
-use Rattle.trio_commit.specs.inner.Files.{lease_numbers}
+use Rattle.trio_commit.proofs.Words.{◌++◌, ◌∙◌, ◌≡◌, None, Pages, ap, bundle_in, bundle_pages, lease_numbers, lent_uncovered, sym, with_all, with_pages}
+use Rattle.trio_commit.specs.Handed.{written_numbers}
 use Rattle.trio_commit.proofs.PutBack.{Checkpoints, covered_by}
 use Rattle.trio_commit.proofs.Rolling.{lease_numbers-written, out_within, still_within}
 use Rattle.trio_commit.proofs.store.Store.roll_back.Goals as goal

@@ -1,14 +1,5 @@
-use Rattle.std.proofs.Common.{arith, ◌++◌, [], ◌∷◌, List, ap, append-nil, inr, length, refl, subst, sym, ◌∙◌}
-use Rattle.std.specs.Prelude.{vec_len}
-use Rattle.trio_log.specs.Logged.{Logged}
-use Rattle.trio_nodes.specs.declared.entry.Entry.{Entry}
+use Rattle.trio_ctl.proofs.Words.{◌++◌, ◌∙◌, ◌∷◌, Allot, Controller, Entry, IsLibrary, Kept, List, Logged, State, Step, [], allot_answer, ap, append-nil, arith, inr, length, refl, subst, sym, vec_len}
 use Rattle.trio_nodes.specs.declared.entry.Entry.TheVariants as entry
-use Rattle.trio_state.specs.Kept.{Kept}
-use Rattle.trio_state.specs.State.{State}
-use Rattle.trio_state.specs.Step.{Allot, Step}
-use Rattle.trio_laws.specs.history.Replays.{IsLibrary}
-use Rattle.trio_ctl.specs.Answers.{allot_answer}
-use Rattle.trio_ctl.specs.Ctl.{Controller}
 use Rattle.trio_ctl.proofs.Recording.{after_call, allot_entries, next_entry, one_room, same_room}
 use Rattle.trio_ctl.proofs.Spending.{longer, spends_entry, spends_places}
 use Rattle.trio_ctl.proofs.Views.{seen_idle, seen_state}

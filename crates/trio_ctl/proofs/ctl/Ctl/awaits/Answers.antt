@@ -1,9 +1,4 @@
-use Rattle.std.proofs.Common.{◌≡◌, ap, subst, sym}
-use Rattle.trio_lease.specs.Views.{bundle_in}
-use Rattle.trio_case.specs.Cases.{CaseShown, case_in as case_shown}
-use Rattle.trio_state.specs.Moves.{IsAwaited, IsFull, Underway}
-use Rattle.trio_ctl.specs.Ctl.{underway_of}
-use Rattle.trio_ctl.specs.inner.Beginning.{underway_at}
+use Rattle.trio_ctl.proofs.Words.{◌≡◌, CaseShown, IsAwaited, IsFull, Underway, ap, bundle_in, case_shown, subst, sym, underway_at, underway_of}
 use Rattle.trio_ctl.proofs.ctl.Ctl.awaits.Goals as goal
 
 pub returns : goal.returns

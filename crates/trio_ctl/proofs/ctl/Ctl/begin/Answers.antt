@@ -1,16 +1,6 @@
-use Rattle.std.proofs.Common.{◌≡◌, List, ap, false, length, refl, subst, sym, true, arith}
-use Rattle.std.specs.Prelude.{vec_len}
-use Rattle.trio_nodes.specs.declared.entry.Entry.{Entry}
-use Rattle.trio_ctl.specs.Ctl.{Controller}
-use Rattle.trio_lease.specs.Views.{bundle_in}
-use Rattle.trio_survey.specs.Stored.{image_in}
-use Rattle.trio_state.specs.Given.{GivenTo}
-use Rattle.trio_state.specs.Moves.{Acts, Answered, Begin, HasBegun, KeptUnderway, Underway}
-use Rattle.trio_state.specs.State.{IsLibrary, State}
-use Rattle.trio_laws.proofs.acts.Underways.{acts_keep}
-use Rattle.trio_ctl.specs.Answers.{begin_answer, release_fault_answer}
-use Rattle.trio_ctl.specs.Ctl.{underway_of}
-use Rattle.trio_ctl.specs.inner.Beginning.{underway_at}
+use Rattle.trio_ctl.proofs.Words.{◌≡◌, Acts, Answered, Begin, Controller, Entry, GivenTo, HasBegun, KeptUnderway, List, State, Underway, acts_keep, ap, arith, bundle_in, false, image_in, length, refl, release_fault_answer, subst, sym, true, underway_at, underway_of, vec_len}
+use Rattle.trio_state.specs.State.{IsLibrary}
+use Rattle.trio_ctl.specs.Answers.{begin_answer}
 use Rattle.trio_ctl.proofs.Ends.{after_begin}
 use Rattle.trio_ctl.proofs.Keeping.{has_both, has_place, spare_here, spare_there}
 use Rattle.trio_ctl.proofs.Spending.{spends_places, spends_so}

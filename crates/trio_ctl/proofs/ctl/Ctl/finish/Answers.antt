@@ -1,16 +1,4 @@
-use Rattle.std.proofs.Common.{◌≤◌, ◌+◌, length, ap, arith, refl, rules, subst, sym, ◌∙◌}
-use Rattle.std.specs.Prelude.{vec_len}
-use Rattle.trio_rights.specs.Bundle.{bundle_pages}
-use Rattle.trio_lease.specs.Views.{bundle_in}
-use Rattle.trio_layout.specs.Case.{Case}
-use Rattle.trio_case.specs.Cases.{CaseShown}
-use Rattle.trio_state.specs.Moves.{outline_of}
-use Rattle.trio_state.specs.State.{State}
-use Rattle.trio_laws.proofs.acts.Underways.{some_apart}
-use Rattle.trio_ctl.specs.Ctl.{Controller}
-use Rattle.trio_ctl.specs.inner.Beginning.{underway_at}
-use Rattle.trio_ctl.specs.inner.Outcomes.{IsOutcome}
-use Rattle.trio_ctl.specs.inner.Telling.{noted_by}
+use Rattle.trio_ctl.proofs.Words.{◌+◌, ◌∙◌, ◌≤◌, Case, CaseShown, Controller, IsOutcome, State, ap, arith, bundle_in, bundle_pages, length, noted_by, outline_of, refl, rules, some_apart, subst, sym, underway_at, vec_len}
 use Rattle.trio_ctl.proofs.Ending.{has_ended, judged_there, may_end, outcome_there, weighed_too}
 use Rattle.trio_ctl.proofs.Ends.{began_so, written_live}
 use Rattle.trio_ctl.proofs.Recording.{next_entry}

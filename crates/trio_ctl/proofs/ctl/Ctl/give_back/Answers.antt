@@ -1,8 +1,4 @@
-use Rattle.std.proofs.Common.{refl, subst, sym}
-use Rattle.trio_nodes.specs.declared.grant.GrantKind.TheVariants.{Read}
-use Rattle.trio_state.specs.Given.{HasGrant}
-use Rattle.trio_state.specs.State.{State}
-use Rattle.trio_state.specs.Step.{Back, Done}
+use Rattle.trio_ctl.proofs.Words.{Back, Done, HasGrant, Read, State, refl, subst, sym}
 use Rattle.trio_ctl.proofs.Recording.{after_call, grants_library, next_entry, promised_room}
 use Rattle.trio_ctl.proofs.Views.{seen_idle, seen_state}
 use Rattle.trio_ctl.proofs.ctl.Ctl.give_back.Goals as goal

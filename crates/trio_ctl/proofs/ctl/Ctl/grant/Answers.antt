@@ -1,19 +1,6 @@
-use Rattle.std.proofs.Common.{arith, ◌≡◌, ◌++◌, [], ◌∷◌, List, ap, append-nil, inr, length, refl, subst, sym, ◌∙◌}
-use Rattle.std.specs.Prelude.{vec_len}
+use Rattle.trio_ctl.proofs.Words.{◌++◌, ◌∙◌, ◌∷◌, ◌≡◌, Controller, Entry, Grant, IsLibrary, IsSomeAnd, Kept, List, Logged, State, Step, [], ap, append-nil, arith, grant_answer, inr, length, lent_by, opened, refl, row_at, subst, sym, vec_len}
 use Rattle.std.specs.Prelude.{IfOk}
-use Rattle.std.specs.Option.{IsSomeAnd}
-use Rattle.trio_layout.specs.Image.{row_at}
-use Rattle.trio_log.specs.Logged.{Logged}
-use Rattle.trio_nodes.specs.declared.entry.Entry.{Entry}
 use Rattle.trio_nodes.specs.declared.entry.Entry.TheVariants as entry
-use Rattle.trio_state.specs.Grants.{opened}
-use Rattle.trio_state.specs.Kept.{Kept}
-use Rattle.trio_state.specs.State.{State}
-use Rattle.trio_state.specs.Step.{Grant, Step}
-use Rattle.trio_laws.specs.history.Replays.{IsLibrary}
-use Rattle.trio_ctl.specs.Answers.{grant_answer}
-use Rattle.trio_ctl.specs.Ctl.{Controller}
-use Rattle.trio_open.specs.Open.{lent_by}
 use Rattle.trio_ctl.proofs.Recording.{after_call, grant_entries, if_untold, next_entry, no_more_room, one_more_room}
 use Rattle.trio_ctl.proofs.Spending.{longer, spends_entry, spends_places}
 use Rattle.trio_ctl.proofs.Views.{seen_idle, seen_state}

@@ -1,8 +1,5 @@
-use Rattle.std.proofs.Common.{List, ap, arith, length, refl}
+use Rattle.trio_ctl.proofs.Words.{Entry, List, ap, arith, image_in, length, refl, sizes_in}
 use Rattle.std.proofs.Math.Nat.{le-min}
-use Rattle.trio_nodes.specs.declared.entry.Entry.{Entry}
-use Rattle.trio_survey.specs.Stored.{image_in}
-use Rattle.trio_ctl.specs.Room.{sizes_in}
 use Rattle.trio_ctl.proofs.Ends.{after_begin}
 use Rattle.trio_ctl.proofs.Keeping.{spare_there}
 use Rattle.trio_ctl.proofs.ctl.Ctl.make_room.Goals as goal

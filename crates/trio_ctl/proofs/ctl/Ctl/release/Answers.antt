@@ -1,19 +1,5 @@
-use Rattle.std.proofs.Common.{◌≡◌, ◌+◌, ◌*◌, ◌≤◌, ◌++◌, length, ap, subst, sym, ◌∙◌, arith}
-use Rattle.trio_rights.specs.Bundle.{bundle_pages}
-use Rattle.trio_lease.specs.Views.{bundle_in}
-use Rattle.trio_layout.specs.Copied.{with_copied}
-use Rattle.trio_case.specs.Cases.{CaseShown, case_in as case_shown}
-use Rattle.trio_state.specs.Moves.{Acts, Answered, End, IsAwaited}
-use Rattle.trio_state.specs.State.{State}
-use Rattle.trio_state.specs.Step.{Release}
-use Rattle.trio_state.specs.Tells.{case_in}
-use Rattle.trio_ctl.specs.Answers.{verdict_of}
-use Rattle.trio_ctl.specs.Ctl.{Controller, underway_of}
-use Rattle.trio_ctl.specs.HandedIn.{AreMarked}
-use Rattle.trio_ctl.specs.Logged.{entries_made, with_bundle}
-use Rattle.trio_ctl.specs.Pending.{case_made}
+use Rattle.trio_ctl.proofs.Words.{◌*◌, ◌++◌, ◌+◌, ◌∙◌, ◌≡◌, ◌≤◌, Acts, Answered, AreMarked, CaseShown, Controller, End, IsAwaited, Release, State, ap, arith, bundle_in, bundle_pages, case_in, case_made, case_shown, entries_made, handed_in, length, subst, sym, underway_of, verdict_of, with_bundle, with_copied}
 use Rattle.trio_ctl.proofs.Awaiting.{made_is}
-use Rattle.trio_entries.specs.Handed.{handed_in}
 use Rattle.trio_ctl.proofs.RecordedReleases.{lent_is_marked}
 use Rattle.trio_ctl.proofs.Ends.{at_once, begun_so, in_a_row}
 use Rattle.trio_ctl.proofs.Spending.{spends_both}

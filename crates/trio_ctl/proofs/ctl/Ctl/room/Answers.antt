@@ -1,7 +1,4 @@
-use Rattle.std.proofs.Common.{subst, sym}
-use Rattle.trio_lease.specs.Views.{bundle_in}
-use Rattle.trio_state.specs.Given.{GivenTo}
-use Rattle.trio_state.specs.State.{State}
+use Rattle.trio_ctl.proofs.Words.{GivenTo, State, bundle_in, subst, sym}
 use Rattle.trio_ctl.proofs.Belonging.{given_belongs}
 use Rattle.trio_ctl.proofs.Views.{seen_state}
 use Rattle.trio_ctl.proofs.ctl.Ctl.room.Goals as goal

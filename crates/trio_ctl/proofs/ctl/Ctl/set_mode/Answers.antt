@@ -1,21 +1,6 @@
-use Rattle.std.proofs.Common.{◌≡◌, ◌+◌, ◌++◌, ◌∷◌, [], ℕ, List, Ok, Err, ap, append-nil, arith, length, length-append, refl, subst, sym, ◌∙◌}
-use Rattle.std.specs.Prelude.{vec_len}
-use Rattle.trio_lease.specs.Shown.{Shown}
-use Rattle.trio_layout.specs.Image.{row_at}
-use Rattle.trio_log.specs.Logged.{Logged}
+use Rattle.trio_ctl.proofs.Words.{◌++◌, ◌+◌, ◌∙◌, ◌∷◌, ◌≡◌, AreLent, Controller, Entry, Err, Happens, IsLibrary, Kept, List, Logged, ModeSet, NotModeSet, Ok, SetMode, Shown, State, TellsChmod, [], all_back, ap, append-nil, arith, back_entries, busy_holder, desk_of, length, length-append, mode_fault, out_of, refl, row_at, subst, sym, vec_len, ℕ}
 use Rattle.trio_nodes.specs.declared.answers.ModeFault.TheVariants.{Busy, NoMemory}
-use Rattle.trio_nodes.specs.declared.entry.Entry.{Entry}
 use Rattle.trio_nodes.specs.declared.entry.Entry.TheVariants as entry
-use Rattle.trio_desk.specs.Call.{ModeSet, NotModeSet, SetMode}
-use Rattle.trio_desk.specs.Ready.{AreLent, TellsChmod}
-use Rattle.trio_state.specs.Kept.{Kept}
-use Rattle.trio_state.specs.State.{State}
-use Rattle.trio_state.specs.Step.{mode_fault}
-use Rattle.trio_laws.specs.history.Replays.{IsLibrary}
-use Rattle.trio_ctl.specs.Backs.{all_back, back_entries}
-use Rattle.trio_ctl.specs.Ctl.{Controller}
-use Rattle.trio_ctl.specs.Desk.{Happens, desk_of, out_of}
-use Rattle.trio_open.specs.inner.Modes.{busy_holder}
 use Rattle.trio_ctl.proofs.LeasesBack.{all_back_is, are_back, backs_whose}
 use Rattle.trio_ctl.proofs.ModeCalls.{busy_told, fault_told, free_at, happens_moded, happens_refused, happens_wants, moded_history, moded_logs, moded_room, plain_call, plain_refusal, plain_told, refused_history}
 use Rattle.trio_ctl.proofs.Recording.{next_entry, one_room}

@@ -1,34 +1,5 @@
-use Rattle.std.proofs.lemmas.List.{length-map}
-use Rattle.std.specs.Prelude.{vec_len}
-use Rattle.trio_lease.specs.Shown.{Shown}
-use Rattle.trio_state.specs.Moves.{outline_of}
-use Rattle.trio_ctl.specs.inner.Beginning.{underway_at}
-use Rattle.std.proofs.Common.{length-append, ◌≡◌, ◌+◌, ◌≤◌, ◌++◌, [], ◌∷◌, List, ℕ, length, ap, append-nil, append_assoc, refl, subst, sym, ◌∙◌, arith}
-use Rattle.trio_lease.specs.Bundles.{Bundled}
-use Rattle.trio_lease.specs.Views.{bundle_in}
-use Rattle.trio_log.specs.Logged.{Logged}
-use Rattle.trio_nodes.specs.declared.entry.Entry.{Entry}
+use Rattle.trio_ctl.proofs.Words.{◌++◌, ◌+◌, ◌∙◌, ◌∷◌, ◌≡◌, ◌≤◌, Bundled, Case, Controller, Entry, GivenTo, Happens, HasHistory, IsLibrary, IsOutcome, IsSettled, Kept, List, Logged, Ready, Release, SettleAsked, Shown, State, Step, TellsOutcome, [], all_back, ap, append-nil, append_assoc, arith, back_entries, bundle_in, case_in, desk_of, handed_in, image_in, length, length-append, length-map, noted_by, outline_of, parcel_of, parted_hold, refl, subst, sym, underway_at, vec_len, verdict_of, ℕ}
 use Rattle.trio_nodes.specs.declared.entry.Entry.TheVariants as entry
-use Rattle.trio_layout.specs.Case.{Case}
-use Rattle.trio_desk.specs.Call.{Settle as SettleAsked, Settled as IsSettled}
-use Rattle.trio_desk.specs.Out.{parcel_of}
-use Rattle.trio_desk.specs.Ready.{Ready}
-use Rattle.trio_state.specs.Bundles.{parted_hold}
-use Rattle.trio_state.specs.Given.{GivenTo}
-use Rattle.trio_state.specs.Kept.{Kept}
-use Rattle.trio_state.specs.State.{State}
-use Rattle.trio_state.specs.Step.{Release, Step}
-use Rattle.trio_state.specs.Tells.{case_in}
-use Rattle.trio_laws.specs.history.Replays.{IsLibrary}
-use Rattle.trio_entries.specs.Handed.{handed_in}
-use Rattle.trio_survey.specs.Stored.{image_in}
-use Rattle.trio_ctl.specs.Answers.{verdict_of}
-use Rattle.trio_ctl.specs.Backs.{all_back, back_entries}
-use Rattle.trio_ctl.specs.Ctl.{Controller}
-use Rattle.trio_ctl.specs.Desk.{Happens, desk_of}
-use Rattle.trio_ctl.specs.Logged.{HasHistory}
-use Rattle.trio_ctl.specs.inner.Outcomes.{IsOutcome}
-use Rattle.trio_ctl.specs.inner.Telling.{TellsOutcome, noted_by}
 use Rattle.trio_ctl.proofs.DeskGiven.{given_to, were_held, were_lent}
 use Rattle.trio_ctl.proofs.LeasesBack.{backs_whose}
 use Rattle.trio_ctl.proofs.Ends.{after_begin}

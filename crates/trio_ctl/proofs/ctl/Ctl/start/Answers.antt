@@ -1,14 +1,5 @@
-use Rattle.std.proofs.Common.{List, ap, length, subst, sym, ◌∙◌}
+use Rattle.trio_ctl.proofs.Words.{◌∙◌, All, HasHistory, ImagePages, Kit, List, Serves, State, ap, image_in, length, sizes_in, start, subst, sym}
 use Rattle.std.proofs.lemmas.List.Elements.{All-nil}
-use Rattle.std.specs.List.{All}
-use Rattle.trio_ctl.specs.Kits.{Serves}
-use Rattle.trio_ctl.specs.Room.{sizes_in}
-use Rattle.trio_ctl.specs.declared.kit.Kit.{Kit}
-use Rattle.trio_image.specs.Image.{ImagePages}
-use Rattle.trio_state.specs.Run.{start}
-use Rattle.trio_state.specs.State.{State}
-use Rattle.trio_survey.specs.Stored.{image_in}
-use Rattle.trio_ctl.specs.Logged.{HasHistory}
 use Rattle.trio_ctl.proofs.Underways.{all_idle}
 use Rattle.trio_ctl.proofs.Recording.{begins}
 use Rattle.trio_ctl.proofs.ctl.Ctl.start.Goals as goal

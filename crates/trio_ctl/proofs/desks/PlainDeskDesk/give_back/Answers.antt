@@ -1,9 +1,5 @@
-use Rattle.std.proofs.Common.{refl, subst, sym}
-use Rattle.trio_nodes.specs.declared.grant.GrantKind.TheVariants.{Read}
-use Rattle.trio_state.specs.Given.{HasGrant}
-use Rattle.trio_state.specs.Step.{Step}
+use Rattle.trio_ctl.proofs.Words.{HasGrant, IsIdle, Read, Step, refl, subst, sym}
 use Rattle.trio_state.specs.Step as step
-use Rattle.trio_ctl.specs.Ctl.{IsIdle}
 use Rattle.trio_ctl.proofs.DeskGiven.{read_by}
 use Rattle.trio_ctl.proofs.DeskLogs.{back_logs}
 use Rattle.trio_ctl.proofs.DeskSteps.{back_seen}

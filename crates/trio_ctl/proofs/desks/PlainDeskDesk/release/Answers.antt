@@ -1,8 +1,5 @@
-use Rattle.std.proofs.Common.{refl, subst}
-use Rattle.trio_desk.specs.Out.{parcel_of}
-use Rattle.trio_state.specs.Step.{Step}
+use Rattle.trio_ctl.proofs.Words.{Step, bundle_of, parcel_of, refl, subst}
 use Rattle.trio_state.specs.Step as step
-use Rattle.trio_desk.specs.Ready.{bundle_of}
 use Rattle.trio_ctl.proofs.DeskClosed.{closed_told}
 use Rattle.trio_ctl.proofs.DeskGiven.{given_to, were_held, were_lent}
 use Rattle.trio_ctl.proofs.DeskLogs.{release_logs}

@@ -1,4 +1,4 @@
-use Rattle.trio_desk.specs.Call.{SetMode, mode_told}
+use Rattle.trio_ctl.proofs.Words.{SetMode, mode_told}
 use Rattle.trio_ctl.proofs.DeskCauses.{moded_cause}
 use Rattle.trio_ctl.proofs.DeskSteps.{libraries_stay, mode_holder, mode_seen}
 use Rattle.trio_ctl.proofs.Underways.{idle_still}

@@ -1,5 +1,5 @@
-use Rattle.trio_desk.specs.Call.{Settle, settle_told}
-use Rattle.trio_desk.specs.Out.{parcel_of}
+use Rattle.trio_ctl.proofs.Words.{parcel_of, settle_told}
+use Rattle.trio_desk.specs.Call.{Settle}
 use Rattle.trio_ctl.proofs.DeskSteps.{libraries_stay}
 use Rattle.trio_ctl.proofs.Settling.{settle_seen}
 use Rattle.trio_ctl.proofs.Underways.{idle_still}

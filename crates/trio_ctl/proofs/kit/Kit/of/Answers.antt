@@ -1,5 +1,4 @@
-use Rattle.std.proofs.Common.{ap, arith, sym, ◌∙◌}
-use Rattle.trio_case.specs.declared.size.BundleSize.{BundleSize}
+use Rattle.trio_ctl.proofs.Words.{◌∙◌, BundleSize, ap, arith, sym}
 use Rattle.trio_ctl.proofs.kit.Kit.of.Goals as goal
 
 pub returns : goal.returns

@@ -1,5 +1,4 @@
-use Rattle.std.proofs.Common.{ap, subst, sym, ◌∙◌}
-use Rattle.trio_layout.specs.Range.{core_count}
+use Rattle.trio_ctl.proofs.Words.{◌∙◌, ap, core_count, subst, sym}
 use Rattle.trio_case.specs.Memory.{IsWithin}
 use Rattle.trio_ctl.proofs.kit.Kit.with.Goals as goal
 

@@ -1,7 +1,4 @@
-use Rattle.std.proofs.Common.{ap, subst, ◌∙◌}
-use Rattle.trio_lease.specs.Bundles.{Bundled}
-use Rattle.trio_lease.specs.Shown.{KeepsUntouched, LentFile}
-use Rattle.trio_lists.specs.Lists.{In}
+use Rattle.trio_ctl.proofs.Words.{◌∙◌, Bundled, In, KeepsUntouched, LentFile, ap, subst}
 use Rattle.trio_ctl.specs.Pending.{JudgedCase}
 use Rattle.trio_ctl.proofs.pending.Judged.keeps_untouched.Goals as goal
 

@@ -1,4 +1,4 @@
-use Rattle.std.proofs.Common.{refl}
+use Rattle.trio_ctl.proofs.Words.{refl}
 use Rattle.trio_judge.proofs.OtherBytes.{room_still}
 use Rattle.trio_ctl.proofs.pending.Pending.page_mut.Goals as goal
 

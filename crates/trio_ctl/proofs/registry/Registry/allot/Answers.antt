@@ -1,15 +1,6 @@
-use Rattle.std.proofs.Common.{◌∙◌, map, refl, take, ap, subst, sym, inr, arith}
-use Rattle.trio_page.specs.Home.{Pages}
-use Rattle.trio_tables.specs.Free.{free_pages}
-use Rattle.trio_ctl.specs.Answers.{allot_fault_answer}
-use Rattle.trio_allot.specs.Out.{fresh_number, fresh_page, inode_numbers, page_numbers}
-use Rattle.trio_commit.specs.declared.store.Store.{Store}
-use Rattle.trio_commit.specs.Store.{state_of}
-use Rattle.trio_open.specs.Open.{grants_in}
+use Rattle.trio_ctl.proofs.Words.{◌∙◌, Entries, Kept, Pages, Registered, Store, allot_fault_answer, ap, arith, free_pages, fresh_number, fresh_page, grants_in, inr, map, refl, state_of, subst, sym, take}
+use Rattle.trio_allot.specs.Out.{inode_numbers, page_numbers}
 use Rattle.trio_allot.proofs.Taking.{numbers_given}
-use Rattle.trio_state.specs.Kept.{Kept}
-use Rattle.trio_ctl.specs.Ctl.{Registered}
-use Rattle.trio_open.specs.Entries.{Entries}
 use Rattle.trio_ctl.proofs.Views.{state_is}
 use Rattle.trio_ctl.proofs.Allotting.{free_home, given_controlled, given_step, logged_controlled, logged_is, numbers_placed, pages_placed, raised_by_above, refused_step, still, unchanged_controlled}
 use Rattle.trio_ctl.proofs.Outs.{pages_given, without_is}

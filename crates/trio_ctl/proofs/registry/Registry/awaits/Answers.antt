@@ -1,4 +1,4 @@
-use Rattle.std.proofs.Common.{◌≡◌, true, rules}
+use Rattle.trio_ctl.proofs.Words.{◌≡◌, rules, true}
 use Rattle.trio_ctl.proofs.Awaiting.{copy_from, copy_is}
 use Rattle.trio_ctl.proofs.registry.Registry.awaits.Goals as goal
 

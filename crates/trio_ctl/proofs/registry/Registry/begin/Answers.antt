@@ -1,8 +1,4 @@
-use Rattle.std.proofs.Common.{◌≡◌, ◌-◌, ◌<◌, get_or, length, None, ap, sym, ◌∙◌, arith}
-use Rattle.trio_state.specs.Moves.{Underway, begun_by}
-use Rattle.trio_state.specs.State.{State}
-use Rattle.trio_commit.specs.Store.{state_of}
-use Rattle.trio_open.specs.Open.{grants_in}
+use Rattle.trio_ctl.proofs.Words.{◌-◌, ◌<◌, ◌∙◌, ◌≡◌, None, State, Underway, ap, arith, begun_by, get_or, grants_in, length, state_of, sym}
 use Rattle.trio_ctl.proofs.Beginnings.{begins_controlled, begun_place}
 use Rattle.trio_ctl.proofs.Views.{state_is, underway_is}
 use Rattle.trio_ctl.proofs.registry.Registry.begin.Goals as goal

@@ -1,7 +1,4 @@
-use Rattle.std.proofs.Common.{List, ap, sym, ◌∙◌}
-use Rattle.std.proofs.lemmas.Bool.{false≢true}
-use Rattle.trio_open.specs.Open.{Opened}
-use Rattle.trio_ctl.specs.inner.Belonging.{are_given_by}
+use Rattle.trio_ctl.proofs.Words.{◌∙◌, List, Opened, ap, are_given_by, false≢true, sym}
 use Rattle.trio_ctl.proofs.Belonging.{belongs_back, belongs_from, given_belongs, held_belongs}
 use Rattle.trio_ctl.proofs.Views.{state_is}
 use Rattle.trio_ctl.proofs.registry.Registry.belongs.Goals as goal

@@ -1,12 +1,4 @@
-use Rattle.std.proofs.Common.{◌≡◌, Option, None, ap, subst, sym, ◌∙◌}
-use Rattle.std.specs.Option.{option_map}
-use Rattle.trio_rights.specs.Row.{Row}
-use Rattle.trio_layout.specs.Image.{row_at}
-use Rattle.trio_tables.specs.Row.{as_row}
-use Rattle.trio_commit.specs.Store.{state_of}
-use Rattle.trio_state.specs.State.{State}
-use Rattle.trio_state.specs.Step.{mode_fault}
-use Rattle.trio_open.specs.Open.{grants_in}
+use Rattle.trio_ctl.proofs.Words.{◌∙◌, ◌≡◌, None, Option, Row, State, ap, as_row, grants_in, mode_fault, option_map, row_at, state_of, subst, sym}
 use Rattle.trio_ctl.proofs.Moding.{after_is, live_within, moded_controlled, page_there, slot_within}
 use Rattle.trio_ctl.proofs.Views.{state_is}
 use Rattle.trio_ctl.proofs.registry.Registry.change_mode.Goals as goal

@@ -1,10 +1,4 @@
-use Rattle.std.proofs.Common.{arith, length, ap, sym, rules, subst}
-use Rattle.trio_rights.specs.Bundle.{Bundle, bundle_pages}
-use Rattle.trio_lease.specs.Views.{bundle_in}
-use Rattle.trio_state.specs.Kept.{Kept}
-use Rattle.trio_ctl.specs.Ctl.{Registered}
-use Rattle.trio_open.specs.Entries.{HasRoom}
-use Rattle.trio_ctl.specs.inner.Outcomes.{verdict_on}
+use Rattle.trio_ctl.proofs.Words.{Bundle, HasRoom, Kept, Registered, ap, arith, bundle_in, bundle_pages, length, rules, subst, sym, verdict_on}
 use Rattle.trio_ctl.proofs.Concluding.{can_commit_seen, can_roll_back_seen, ended_accepted, ended_refused, few_seen}
 use Rattle.trio_ctl.proofs.Views.{state_is}
 use Rattle.trio_ctl.proofs.registry.Registry.conclude.Goals as goal

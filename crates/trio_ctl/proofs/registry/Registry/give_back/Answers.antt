@@ -1,15 +1,4 @@
-use Rattle.std.proofs.Common.{◌+◌, ap, arith, drop, subst, sym, take, ◌∙◌}
-use Rattle.std.specs.List.{position}
-use Rattle.trio_nodes.specs.declared.grant.GrantKind.TheVariants.{Read}
-use Rattle.trio_grants.specs.Grants.{HasKey, without}
-use Rattle.trio_lease.specs.Shown.{Shown}
-use Rattle.trio_state.specs.Given.{HasGrant}
-use Rattle.trio_state.specs.Kept.{Kept}
-use Rattle.trio_state.specs.State.{State}
-use Rattle.trio_ctl.specs.Ctl.{Registered}
-use Rattle.trio_open.specs.Entries.{Entries}
-use Rattle.trio_open.specs.Open.{Opened}
-use Rattle.trio_open.specs.inner.Reads.{is_read_of}
+use Rattle.trio_ctl.proofs.Words.{◌+◌, ◌∙◌, Entries, HasGrant, HasKey, Kept, Opened, Read, Registered, Shown, State, ap, arith, drop, is_read_of, position, subst, sym, take, without}
 use Rattle.trio_ctl.proofs.Views.{state_is}
 use Rattle.trio_ctl.proofs.GivingBack.{back_controlled, back_step, found_split, has_promise, is_found, key_there}
 use Rattle.trio_ctl.proofs.registry.Registry.give_back.Goals as goal

@@ -1,12 +1,4 @@
-use Rattle.std.proofs.Common.{◌≡◌, Some, subst, sym, ap, ◌∙◌}
-use Rattle.std.specs.Option.{option_map}
-use Rattle.trio_tables.specs.Row.{as_row}
-use Rattle.trio_nodes.specs.declared.grant.GrantKind.TheVariants.{Read, Write, Hold}
-use Rattle.trio_state.specs.Kept.{Kept}
-use Rattle.trio_state.specs.State.{State}
-use Rattle.trio_layout.specs.Image.{row_at}
-use Rattle.trio_state.specs.Step.{Grant}
-use Rattle.trio_laws.proofs.Runs.{step_kept}
+use Rattle.trio_ctl.proofs.Words.{◌∙◌, ◌≡◌, Grant, Hold, Kept, Read, Some, State, Write, ap, as_row, option_map, row_at, step_kept, subst, sym}
 use Rattle.trio_ctl.proofs.Views.{state_is}
 use Rattle.trio_ctl.proofs.Granting.{denied_step, kept_either, where_refused}
 use Rattle.trio_ctl.proofs.registry.Registry.grant.Goals as goal

@@ -1,14 +1,4 @@
-use Rattle.std.proofs.Common.{◌≡◌, List, ap, subst, sym, ◌∙◌}
-use Rattle.std.specs.List.{list_all}
-use Rattle.trio_rights.specs.declared.rights.LibNo.{LibNo}
-use Rattle.trio_lease.specs.Bundles.{Bundled}
-use Rattle.trio_lease.specs.Views.{bundle_in}
-use Rattle.trio_lease.specs.declared.parts.HoldParts.{HoldParts}
-use Rattle.trio_state.specs.Given.{GivenTo}
-use Rattle.trio_state.specs.State.{State}
-use Rattle.trio_open.specs.Open.{Opened}
-use Rattle.trio_ctl.specs.inner.Beginning.{HaveBodies}
-use Rattle.trio_open.specs.inner.Given.{is_body_of}
+use Rattle.trio_ctl.proofs.Words.{◌∙◌, ◌≡◌, Bundled, GivenTo, HaveBodies, HoldParts, LibNo, List, Opened, State, ap, bundle_in, is_body_of, list_all, subst, sym}
 use Rattle.trio_ctl.proofs.Bodies.{bodies_stand, stand_held}
 use Rattle.trio_ctl.proofs.Views.{state_is}
 use Rattle.trio_ctl.proofs.registry.Registry.has_bodies.Goals as goal

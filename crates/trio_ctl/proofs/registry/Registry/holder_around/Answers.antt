@@ -1,8 +1,4 @@
-use Rattle.std.proofs.Common.{List, ap, sym, ◌∙◌}
-use Rattle.std.specs.List.{find}
-use Rattle.std.specs.Option.{option_map}
-use Rattle.trio_open.specs.Open.{Opened}
-use Rattle.trio_open.specs.inner.Modes.{stays_around}
+use Rattle.trio_ctl.proofs.Words.{◌∙◌, List, Opened, ap, find, option_map, stays_around, sym}
 use Rattle.trio_ctl.proofs.Moding.{holder_around, nobody_around}
 use Rattle.trio_ctl.proofs.Views.{state_is}
 use Rattle.trio_ctl.proofs.registry.Registry.holder_around.Goals as goal

@@ -1,12 +1,4 @@
-use Rattle.std.proofs.Common.{arith, ap, length, subst, sym, ◌∙◌}
-use Rattle.trio_page.specs.Home.{Pages}
-use Rattle.trio_layout.proofs.Superblocks.{superblock_facts}
-use Rattle.trio_layout.specs.declared.superblock.Superblock.{Superblock}
-use Rattle.trio_state.specs.State.{State, settled}
-use Rattle.trio_image.specs.Image.{IsVerified}
-use Rattle.trio_ctl.specs.Ctl.{superblock_for}
-use Rattle.trio_ctl.specs.Stored.{superblock_at_home}
-use Rattle.trio_ctl.specs.inner.Pages.{stored_pages}
+use Rattle.trio_ctl.proofs.Words.{◌∙◌, IsVerified, Pages, State, Superblock, ap, arith, length, settled, stored_pages, subst, superblock_at_home, superblock_facts, superblock_for, sym}
 use Rattle.trio_ctl.proofs.Views.{state_is}
 use Rattle.trio_ctl.proofs.AtHome.{at_home, same_settled, state_at_home, writer_is}
 use Rattle.trio_ctl.proofs.Storing.{stored_count, stored_tables, stored_verified, tells, tells_alike}

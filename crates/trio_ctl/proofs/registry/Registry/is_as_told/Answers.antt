@@ -1,6 +1,4 @@
-use Rattle.std.proofs.Common.{subst}
-use Rattle.trio_ctl.specs.Ctl.{AreAsTold}
-use Rattle.trio_open.specs.Open.{grants_in}
+use Rattle.trio_ctl.proofs.Words.{AreAsTold, grants_in, subst}
 use Rattle.trio_ctl.proofs.Told.{told_open}
 use Rattle.trio_ctl.proofs.Views.{state_is}
 use Rattle.trio_ctl.proofs.registry.Registry.is_as_told.Goals as goal

@@ -1,9 +1,5 @@
-use Rattle.std.proofs.Common.{subst}
-use Rattle.trio_layout.proofs.Superblocks.{superblock_facts}
+use Rattle.trio_ctl.proofs.Words.{State, sizes_of, subst, superblock_at_home, superblock_facts}
 use Rattle.trio_desk.specs.Contents.{AreWithinLimits}
-use Rattle.trio_state.specs.State.{State}
-use Rattle.trio_laws.specs.session.Lent.{sizes_of}
-use Rattle.trio_ctl.specs.Stored.{superblock_at_home}
 use Rattle.trio_ctl.proofs.Views.{state_is}
 use Rattle.trio_ctl.proofs.registry.Registry.is_within_limits.Goals as goal
 

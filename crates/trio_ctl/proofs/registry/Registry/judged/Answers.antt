@@ -1,12 +1,6 @@
-use Rattle.std.proofs.Common.{◌≡◌, ◌+◌, ◌*◌, ◌≤◌, length, ap, refl, sym, subst, ◌∙◌}
-use Rattle.trio_rights.specs.Bundle.{bundle_pages}
-use Rattle.trio_lease.specs.Views.{bundle_in}
-use Rattle.trio_layout.specs.Copied.{with_copied}
-use Rattle.trio_case.specs.Cases.{CaseShown, case_in as case_shown}
-use Rattle.trio_state.specs.Kept.{Kept}
-use Rattle.trio_state.specs.Tells.{case_in}
+use Rattle.trio_ctl.proofs.Words.{◌*◌, ◌+◌, ◌∙◌, ◌≡◌, ◌≤◌, CaseShown, IsOutcome, Kept, ap, bundle_in, bundle_pages, case_in, case_shown, length, refl, subst, sym, with_copied}
 use Rattle.trio_laws.specs.RuleLaws.{IsJudgeable as CanBeJudged}
-use Rattle.trio_ctl.specs.inner.Outcomes.{HasFew, IsOutcome}
+use Rattle.trio_ctl.specs.inner.Outcomes.{HasFew}
 use Rattle.trio_ctl.proofs.Awaiting.{made_is}
 use Rattle.trio_ctl.proofs.registry.Registry.judged.Goals as goal
 

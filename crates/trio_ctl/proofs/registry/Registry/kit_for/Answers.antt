@@ -1,11 +1,5 @@
-use Rattle.std.proofs.Common.{◌≡◌, ℕ, IfOk, ap, subst, ◌∙◌, arith}
-use Rattle.trio_layout.specs.declared.range.CoreRange.{CoreRange}
-use Rattle.trio_state.specs.State.{State}
-use Rattle.trio_desk.specs.Contents.{Sizes}
-use Rattle.trio_commit.specs.Store.{state_of}
-use Rattle.trio_open.specs.Open.{grants_in}
-use Rattle.trio_laws.specs.session.Lent.{sizes_of}
-use Rattle.trio_ctl.specs.Kits.{HasKit, TakesOne}
+use Rattle.trio_ctl.proofs.Words.{◌∙◌, ◌≡◌, CoreRange, HasKit, IfOk, Sizes, State, ap, arith, grants_in, sizes_of, state_of, subst, ℕ}
+use Rattle.trio_ctl.specs.Kits.{TakesOne}
 use Rattle.trio_ctl.proofs.Views.{state_is}
 use Rattle.trio_ctl.proofs.registry.Registry.kit_for.Goals as goal
 

@@ -1,20 +1,4 @@
-use Rattle.std.proofs.Common.{◌≡◌, refl, Some, None, ap, arith, length, sym, subst, ◌∙◌, ◌++◌, ◌∷◌, []}
-use Rattle.std.specs.Result.{IsOk}
-use Rattle.trio_nodes.specs.declared.grant.GrantKind.TheVariants.{Read}
-use Rattle.trio_tables.specs.Row.{as_row}
-use Rattle.trio_grants.specs.Grants.{AllBelow}
-use Rattle.trio_lease.specs.declared.lease.Lease.TheVariants.{Read as ReadLent}
-use Rattle.trio_layout.specs.Core.{Core}
-use Rattle.trio_layout.specs.Image.{row_at}
-use Rattle.trio_layout.specs.declared.range.CoreRange.{CoreRange}
-use Rattle.trio_state.specs.State.{OpenGrant, State}
-use Rattle.trio_checkpoint.specs.Covered.{chain_in, core_of}
-use Rattle.trio_commit.specs.declared.store.Store.{Store}
-use Rattle.trio_open.specs.Entries.{Entries}
-use Rattle.trio_ctl.specs.inner.Denials.{denial}
-use Rattle.trio_open.specs.inner.Lending.{IsLendable}
-use Rattle.trio_open.specs.Open.{Opened, grant_on, shown_of}
-use Rattle.trio_ctl.specs.Ctl.{Registered}
+use Rattle.trio_ctl.proofs.Words.{◌++◌, ◌∙◌, ◌∷◌, ◌≡◌, AllBelow, Core, CoreRange, Entries, IsLendable, IsOk, None, OpenGrant, Opened, Read, ReadLent, Registered, Some, State, Store, [], ap, arith, as_row, chain_in, core_of, denial, grant_on, length, refl, row_at, shown_of, subst, sym}
 use Rattle.trio_ctl.proofs.Views.{next_is, state_is}
 use Rattle.trio_ctl.proofs.Granting.{refused_step, stands_somewhere, body_is, chain, chain_home, lendable, grant_made, plain_controlled, plain_step, controlled_still}
 use Rattle.trio_ctl.proofs.registry.Registry.lend_copies.Goals as goal

@@ -1,24 +1,5 @@
-use Rattle.std.proofs.Common.{arith, ◌≡◌, refl, Some, None, ap, length, sym, subst, ◌∙◌, ◌++◌, ◌∷◌, []}
-use Rattle.std.specs.Prelude.{slice_set}
-use Rattle.std.specs.Result.{IsOk}
+use Rattle.trio_ctl.proofs.Words.{◌++◌, ◌∙◌, ◌∷◌, ◌≡◌, AllBelow, Core, CoreRange, Entries, IsLendable, IsOk, None, Registered, Some, State, Store, Write, WriteLent, [], ap, arith, as_row, chain_in, core_of, denial, grant_on, length, refl, row_at, slice_set, subst, sym, without_checkpoint, without_pages}
 use Rattle.std.specs.Vec.{with_item}
-use Rattle.trio_rights.specs.Sheets.{without_pages}
-use Rattle.trio_nodes.specs.declared.grant.GrantKind.TheVariants.{Write}
-use Rattle.trio_tables.specs.Row.{as_row}
-use Rattle.trio_grants.specs.Grants.{AllBelow}
-use Rattle.trio_lease.specs.declared.lease.Lease.TheVariants.{Write as WriteLent}
-use Rattle.trio_layout.specs.Core.{Core}
-use Rattle.trio_layout.specs.Image.{row_at}
-use Rattle.trio_layout.specs.declared.range.CoreRange.{CoreRange}
-use Rattle.trio_state.specs.State.{State}
-use Rattle.trio_checkpoint.specs.Covered.{chain_in, core_of}
-use Rattle.trio_commit.specs.declared.store.Store.{Store}
-use Rattle.trio_open.specs.inner.Lending.{IsLendable}
-use Rattle.trio_laws.specs.OutLaws.{without_checkpoint}
-use Rattle.trio_open.specs.Open.{grant_on}
-use Rattle.trio_ctl.specs.inner.Denials.{denial}
-use Rattle.trio_open.specs.Entries.{Entries}
-use Rattle.trio_ctl.specs.Ctl.{Registered}
 use Rattle.trio_ctl.proofs.Views.{next_is, state_is}
 use Rattle.trio_ctl.proofs.Granting.{refused_step, stands_somewhere, body_is, chain, chain_home, lendable, granted_controlled, granted_step, lease_made, controlled_still}
 use Rattle.trio_ctl.proofs.registry.Registry.lend_file.Goals as goal

@@ -1,17 +1,5 @@
-use Rattle.std.proofs.Common.{arith, ◌≡◌, ℕ, List, refl, Some, None, ap, sym, subst, ◌∙◌, ◌++◌, ◌∷◌, []}
-use Rattle.trio_nodes.specs.declared.grant.GrantKind.TheVariants.{Hold}
-use Rattle.trio_tables.specs.Row.{as_row}
-use Rattle.trio_grants.specs.Grants.{AllBelow}
+use Rattle.trio_ctl.proofs.Words.{◌++◌, ◌∙◌, ◌∷◌, ◌≡◌, AllBelow, Entries, Hold, HoldParts, List, None, Opened, Registered, Some, State, Store, [], ap, arith, as_row, denial, grants_in, refl, row_at, settled, settled_body, state_of, subst, sym, ℕ}
 use Rattle.trio_lease.specs.declared.lease.Lease.TheVariants.{Hold as HoldLent}
-use Rattle.trio_lease.specs.declared.parts.HoldParts.{HoldParts}
-use Rattle.trio_layout.specs.Image.{row_at, settled_body}
-use Rattle.trio_state.specs.State.{State, settled}
-use Rattle.trio_commit.specs.Store.{state_of}
-use Rattle.trio_commit.specs.declared.store.Store.{Store}
-use Rattle.trio_open.specs.Entries.{Entries}
-use Rattle.trio_ctl.specs.inner.Denials.{denial}
-use Rattle.trio_open.specs.Open.{Opened, grants_in}
-use Rattle.trio_ctl.specs.Ctl.{Registered}
 use Rattle.trio_ctl.proofs.Views.{next_is, state_is}
 use Rattle.trio_ctl.proofs.Granting.{refused_step, stands_somewhere, body_is, plain_controlled, plain_step}
 use Rattle.trio_tables.specs.Tables.{child_count}

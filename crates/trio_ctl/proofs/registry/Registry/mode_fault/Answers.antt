@@ -1,13 +1,4 @@
-use Rattle.std.proofs.Common.{◌≡◌, Option, Some, ap, subst, sym, ◌∙◌}
-use Rattle.std.specs.List.{find}
-use Rattle.std.specs.Option.{option_map}
-use Rattle.trio_rights.specs.Row.{Row}
-use Rattle.trio_layout.specs.Image.{row_at}
-use Rattle.trio_tables.specs.Row.{as_row}
-use Rattle.trio_state.specs.State.{State}
-use Rattle.trio_state.specs.Step.{mode_fault}
-use Rattle.trio_ctl.specs.Backs.{all_back}
-use Rattle.trio_open.specs.inner.Modes.{stays_around}
+use Rattle.trio_ctl.proofs.Words.{◌∙◌, ◌≡◌, Option, Row, Some, State, all_back, ap, as_row, find, mode_fault, option_map, row_at, stays_around, subst, sym}
 use Rattle.trio_ctl.proofs.Moding.{busy_told, denied_back, free_back, none_told}
 use Rattle.trio_ctl.proofs.Views.{state_is}
 use Rattle.trio_ctl.proofs.registry.Registry.mode_fault.Goals as goal

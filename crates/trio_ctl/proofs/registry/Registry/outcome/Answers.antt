@@ -1,15 +1,4 @@
-use Rattle.std.proofs.Common.{◌≡◌, refl, sym, subst}
-use Rattle.trio_lease.specs.Views.{bundle_in}
-use Rattle.trio_layout.specs.Case.{Case}
-use Rattle.trio_layout.specs.Copied.{with_copied}
-use Rattle.trio_case.specs.Cases.{case_in as case_shown}
-use Rattle.trio_commit.specs.Store.{state_of}
-use Rattle.trio_state.specs.State.{State}
-use Rattle.trio_state.specs.Tells.{case_in}
-use Rattle.trio_laws.specs.RuleLaws.{IsJudgeable}
-use Rattle.trio_open.specs.Open.{grants_in}
-use Rattle.trio_ctl.specs.Pending.{IsVerdict}
-use Rattle.trio_ctl.specs.inner.Outcomes.{IsOutcome}
+use Rattle.trio_ctl.proofs.Words.{◌≡◌, Case, IsJudgeable, IsOutcome, IsVerdict, State, bundle_in, case_in, case_shown, grants_in, refl, state_of, subst, sym, with_copied}
 use Rattle.trio_ctl.proofs.Concluding.{verdict_told}
 use Rattle.trio_ctl.proofs.Judging.{leaves}
 use Rattle.trio_ctl.proofs.Views.{state_is}

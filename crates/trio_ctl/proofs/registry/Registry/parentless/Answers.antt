@@ -1,10 +1,4 @@
-use Rattle.std.proofs.Common.{Bool, Option, Some, None, ap, sym, ◌∙◌}
-use Rattle.std.specs.Prelude.{if◌then◌else◌}
-use Rattle.trio_nodes.specs.declared.answers.GrantFault.{GrantFault}
-use Rattle.trio_nodes.specs.declared.answers.GrantFault.TheVariants.{NoParent}
-use Rattle.trio_tables.specs.Row.{as_row}
-use Rattle.trio_state.specs.Grants.{has_parent_grant}
-use Rattle.trio_state.specs.State.{State}
+use Rattle.trio_ctl.proofs.Words.{if◌then◌else◌, ◌∙◌, Bool, GrantFault, NoParent, None, Option, Some, State, ap, as_row, has_parent_grant, sym}
 use Rattle.trio_ctl.proofs.Views.{state_is}
 use Rattle.trio_ctl.proofs.Granting.{parent_granted}
 use Rattle.trio_ctl.proofs.registry.Registry.parentless.Goals as goal

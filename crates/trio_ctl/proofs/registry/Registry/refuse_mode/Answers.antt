@@ -1,4 +1,4 @@
-use Rattle.std.proofs.Common.{refl}
+use Rattle.trio_ctl.proofs.Words.{refl}
 use Rattle.trio_ctl.proofs.Allotting.{logged_controlled}
 use Rattle.trio_ctl.proofs.registry.Registry.refuse_mode.Goals as goal
 

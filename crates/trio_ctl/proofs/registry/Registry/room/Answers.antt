@@ -1,7 +1,4 @@
-use Rattle.std.proofs.Common.{sym, subst}
-use Rattle.trio_lease.specs.Views.{bundle_in}
-use Rattle.trio_state.specs.State.{State}
-use Rattle.trio_state.specs.Given.{GivenTo}
+use Rattle.trio_ctl.proofs.Words.{GivenTo, State, bundle_in, subst, sym}
 use Rattle.trio_ctl.proofs.Rooms.{counts_few}
 use Rattle.trio_ctl.proofs.Views.{state_is}
 use Rattle.trio_ctl.proofs.registry.Registry.room.Goals as goal

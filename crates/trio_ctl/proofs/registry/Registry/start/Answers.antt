@@ -1,7 +1,4 @@
-use Rattle.std.proofs.Common.{◌≡◌, ◌+◌, None, length, arith, ap, ◌∙◌}
-use Rattle.std.specs.Prelude.{replicate}
-use Rattle.trio_layout.specs.declared.superblock.Superblock.{Superblock}
-use Rattle.trio_allot.specs.Out.{nothing_out}
+use Rattle.trio_ctl.proofs.Words.{◌+◌, ◌∙◌, ◌≡◌, None, Superblock, ap, arith, length, nothing_out, replicate}
 use Rattle.trio_ctl.proofs.Starting.{started, state_started}
 use Rattle.trio_ctl.proofs.registry.Registry.start.Goals as goal
 

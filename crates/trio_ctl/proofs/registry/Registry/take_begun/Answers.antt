@@ -1,10 +1,4 @@
-use Rattle.std.proofs.Common.{◌≡◌, ◌-◌, get_or, set, Option, None, Some, ap, subst, sym, ◌∙◌, arith}
-use Rattle.trio_commit.specs.Store.{state_of}
-use Rattle.trio_state.specs.Moves.{Outline, Underway, begun_by}
-use Rattle.trio_ctl.specs.Ctl.{IsControlled, Registered}
-use Rattle.trio_open.specs.Entries.{Entries}
-use Rattle.trio_open.specs.Open.{grants_in}
-use Rattle.trio_ctl.specs.inner.Beginning.{underway_at}
+use Rattle.trio_ctl.proofs.Words.{◌-◌, ◌∙◌, ◌≡◌, Entries, IsControlled, None, Option, Outline, Registered, Some, Underway, ap, arith, begun_by, get_or, grants_in, set, state_of, subst, sym, underway_at}
 use Rattle.trio_ctl.proofs.Beginnings.{begun_place, begun_stands, some_promised, stands_there, takes_controlled}
 use Rattle.trio_ctl.proofs.Views.{underway_is}
 use Rattle.trio_ctl.proofs.registry.Registry.take_begun.Goals as goal

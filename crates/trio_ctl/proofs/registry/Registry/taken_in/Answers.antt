@@ -1,11 +1,4 @@
-use Rattle.std.proofs.Common.{◌≡◌, None, Some, ap, refl, sym, subst, ◌∙◌}
-use Rattle.trio_lease.specs.Views.{bundle_in}
-use Rattle.trio_state.specs.Bundles.{parted_hold}
-use Rattle.trio_state.specs.Moves.{ComesBack}
-use Rattle.trio_state.specs.State.{State}
-use Rattle.trio_ctl.specs.Ctl.{Registered}
-use Rattle.trio_open.specs.Entries.{HasRoom}
-use Rattle.trio_open.specs.inner.Parting.{lowest_parted}
+use Rattle.trio_ctl.proofs.Words.{◌∙◌, ◌≡◌, ComesBack, HasRoom, None, Registered, Some, State, ap, bundle_in, lowest_parted, parted_hold, refl, subst, sym}
 use Rattle.trio_ctl.proofs.PartedHolds.{parted_is}
 use Rattle.trio_ctl.proofs.Views.{state_is}
 use Rattle.trio_ctl.proofs.registry.Registry.taken_in.Goals as goal

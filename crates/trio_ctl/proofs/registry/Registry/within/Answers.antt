@@ -1,13 +1,5 @@
-use Rattle.std.proofs.Common.{◌≡◌, None, ap, sym, subst, ◌∙◌, arith}
-use Rattle.trio_lease.specs.Views.{bundle_in}
-use Rattle.trio_case.specs.Cases.{CaseShown, IsJudgeable}
-use Rattle.trio_state.specs.Bundles.{parted_hold}
-use Rattle.trio_state.specs.Given.{GivenTo}
-use Rattle.trio_state.specs.State.{State, creds_of}
-use Rattle.trio_ctl.specs.HandedIn.{WereHeld}
-use Rattle.trio_commit.specs.Store.{state_of}
-use Rattle.trio_open.specs.Open.{grants_in}
-use Rattle.trio_ctl.specs.Pending.{case_made}
+use Rattle.trio_ctl.proofs.Words.{◌∙◌, ◌≡◌, CaseShown, GivenTo, None, State, WereHeld, ap, arith, bundle_in, case_made, creds_of, grants_in, parted_hold, state_of, subst, sym}
+use Rattle.trio_case.specs.Cases.{IsJudgeable}
 use Rattle.trio_ctl.proofs.Cases.{case_judgeable, made_so}
 use Rattle.trio_ctl.proofs.Views.{state_is}
 use Rattle.trio_ctl.proofs.registry.Registry.within.Goals as goal

@@ -1,10 +1,7 @@
-use Rattle.std.proofs.Common.{Option, arith, subst, sym, ◌∙◌}
-use Rattle.std.proofs.lemmas.List.Elements.{All-pop, All-push}
+use Rattle.trio_ctl.proofs.Words.{◌∙◌, All, All-push, Kit, Option, Serves, arith, subst, sym}
+use Rattle.std.proofs.lemmas.List.Elements.{All-pop}
 use Rattle.std.specs.Global.{Vec}
-use Rattle.std.specs.List.{All}
 use Rattle.std.specs.Prelude.{IfSome}
-use Rattle.trio_ctl.specs.Kits.{Serves}
-use Rattle.trio_ctl.specs.declared.kit.Kit.{Kit}
 use Rattle.trio_ctl.proofs.spares.Spares.keep.Goals.{then-bytes-self+in_default, else-bytes-self}
 use Rattle.trio_ctl.proofs.spares.Spares.keep.Goals as goal
 

@@ -1,8 +1,4 @@
-use Rattle.std.proofs.Common.{◌≡◌, ◌+◌}
-use Rattle.std.specs.Prelude.{vec_capacity, vec_len}
-use Rattle.std.specs.List.{All}
-use Rattle.trio_desk.specs.Contents.{Sizes}
-use Rattle.trio_ctl.specs.Kits.{Serves}
+use Rattle.trio_ctl.proofs.Words.{◌+◌, ◌≡◌, All, Serves, Sizes, vec_capacity, vec_len}
 use Rattle.trio_ctl.proofs.spares.Spares.keep.Given as goal
 
 abbrev pub invariant-loop-kit : goal.invariant-loop-kit

@@ -1,11 +1,6 @@
-use Rattle.std.proofs.Common.{◌≤◌, ℕ, arith}
+use Rattle.trio_ctl.proofs.Words.{◌≤◌, Bundled, HasKit, Kit, Serves, Sizes, arith, bundle_in, ℕ}
 use Rattle.std.specs.Prelude.{IfOk, Result, Ok, Err}
-use Rattle.trio_lease.specs.Bundles.{Bundled}
-use Rattle.trio_lease.specs.Views.{bundle_in}
-use Rattle.trio_desk.specs.Contents.{Sizes}
-use Rattle.trio_ctl.specs.Kits.{HasKit, Serves}
 use Rattle.trio_ctl.specs.Room.{room_in}
-use Rattle.trio_ctl.specs.declared.kit.Kit.{Kit}
 use Rattle.trio_ctl.proofs.spares.Spares.kit_for.Goals as goal
 
 serves_it : {E : Type 0} (z : Sizes) (b : Bundled) (room : ℕ) (r : Result Kit E) → room_in z (bundle_in b) ≤ room → IfOk r (Serves z room) → IfOk r (HasKit z b)

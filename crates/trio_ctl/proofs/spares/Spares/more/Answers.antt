@@ -1,8 +1,4 @@
-use Rattle.std.proofs.Common.{arith, subst, sym}
-use Rattle.std.proofs.lemmas.List.Elements.{All-push}
-use Rattle.std.specs.List.{All}
-use Rattle.trio_desk.specs.Contents.{Sizes}
-use Rattle.trio_ctl.specs.Kits.{Serves}
+use Rattle.trio_ctl.proofs.Words.{All, All-push, Serves, Sizes, arith, subst, sym}
 use Rattle.trio_ctl.proofs.Serving.{serves_so}
 use Rattle.trio_ctl.proofs.spares.Spares.more.Goals as goal
 

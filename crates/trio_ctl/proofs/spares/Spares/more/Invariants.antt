@@ -1,7 +1,4 @@
-use Rattle.std.proofs.Common.{◌≡◌, ◌≤◌, ◌+◌}
-use Rattle.std.specs.Prelude.{vec_capacity, vec_len}
-use Rattle.std.specs.List.{All}
-use Rattle.trio_ctl.specs.Kits.{Serves}
+use Rattle.trio_ctl.proofs.Words.{◌+◌, ◌≡◌, ◌≤◌, All, Serves, vec_capacity, vec_len}
 use Rattle.trio_ctl.proofs.spares.Spares.more.Given as goal
 
 abbrev pub invariant-loop : goal.invariant-loop

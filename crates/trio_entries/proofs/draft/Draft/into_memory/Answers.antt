@@ -1,7 +1,4 @@
-use Rattle.std.proofs.Common.{subst, ap, ◌∙◌}
-use Rattle.trio_state.specs.Moves.{Outline}
-use Rattle.trio_case.specs.declared.size.BundleSize.{BundleSize}
-use Rattle.trio_entries.specs.Drafts.{HasToldPlaces, outline_size}
+use Rattle.trio_entries.proofs.Words.{◌∙◌, BundleSize, HasToldPlaces, Outline, ap, outline_size, subst}
 use Rattle.trio_entries.proofs.Sizes.{size_outlined}
 use Rattle.trio_entries.proofs.draft.Draft.into_memory.Goals as goal
 

@@ -1,6 +1,4 @@
-use Rattle.std.proofs.Common.{◌∙◌, List, ℕ, subst}
-use Rattle.std.specs.List.Sorted.{IsBinarySearchResult}
-use Rattle.std.specs.Ordering.{nat_cmp}
+use Rattle.trio_entries.proofs.Words.{◌∙◌, IsBinarySearchResult, List, nat_cmp, subst, ℕ}
 use Rattle.trio_entries.proofs.Finding.{found_among}
 use Rattle.trio_entries.proofs.finder.Finder.is_marked.Goals as goal
 

@@ -1,7 +1,4 @@
-use Rattle.std.proofs.Common.{◌∙◌, ap, map, refl}
-use Rattle.trio_layout.specs.Listing.{ListedFile}
-use Rattle.trio_case.specs.Order.{place_of}
-use Rattle.trio_entries.specs.inner.Finding.{own_numbers}
+use Rattle.trio_entries.proofs.Words.{◌∙◌, ListedFile, ap, map, own_numbers, place_of, refl}
 use Rattle.trio_entries.proofs.Finding.{noted_all}
 use Rattle.trio_entries.proofs.finder.Finder.judge.Goals as goal
 

@@ -1,11 +1,4 @@
-use Rattle.std.proofs.Common.{◌∙◌, ◌||◌, List, ℕ, ap, arith, length, map, sym}
-use Rattle.std.proofs.lemmas.List.{length-append, length-map}
-use Rattle.trio_lists.specs.Lists.{is_among}
-use Rattle.trio_lease.specs.Shown.{LentFile}
-use Rattle.trio_lease.specs.declared.parts.InoParts.{InoParts}
-use Rattle.trio_nodes.specs.Handed.{Handed, all_pages}
-use Rattle.trio_state.specs.Listed.{is_marked}
-use Rattle.trio_entries.specs.inner.Finding.{has_mark}
+use Rattle.trio_entries.proofs.Words.{◌||◌, ◌∙◌, Handed, InoParts, LentFile, List, all_pages, ap, arith, has_mark, is_among, is_marked, length, length-append, length-map, map, sym, ℕ}
 use Rattle.trio_entries.proofs.FlatPlaces.{all_count, marks_in}
 use Rattle.trio_entries.proofs.finder.Finder.look.Goals as goal
 

@@ -1,14 +1,4 @@
-use Rattle.std.proofs.Common.{◌∙◌, ◌+◌, ◌++◌, List, ap, arith, length, map}
-use Rattle.std.specs.List.{flat_map}
-use Rattle.std.proofs.lemmas.List.{length-map}
-use Rattle.trio_rights.specs.Bundle.{bundle_pages}
-use Rattle.trio_lease.specs.Shown.{LentFile}
-use Rattle.trio_lease.specs.Views.{bundle_in}
-use Rattle.trio_lease.specs.declared.parts.FreshParts.{FreshParts}
-use Rattle.trio_lease.specs.declared.parts.HoldParts.{HoldParts}
-use Rattle.trio_lease.specs.declared.parts.InoParts.{InoParts}
-use Rattle.trio_nodes.specs.Handed.{head_of}
-use Rattle.trio_entries.specs.Handed.{file_in, file_pages, fresh_in}
+use Rattle.trio_entries.proofs.Words.{◌++◌, ◌+◌, ◌∙◌, FreshParts, HoldParts, InoParts, LentFile, List, ap, arith, bundle_in, bundle_pages, file_in, file_pages, flat_map, fresh_in, head_of, length, length-map, map}
 use Rattle.trio_entries.proofs.FlatPlaces.{bundle_count, copy_has, copy_is, room_less}
 use Rattle.trio_entries.proofs.handed.HandedRoom.fill.Goals as goal
 

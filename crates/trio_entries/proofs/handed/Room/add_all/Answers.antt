@@ -1,8 +1,5 @@
-use Rattle.std.proofs.Common.{◌≡◌, ◌∙◌, ◌++◌, ◌∷◌, [], ◌+◌, ◌-◌, ap, append_assoc, arith, length, subst, sym, take}
-use Rattle.std.specs.Option.{option_map}
-use Rattle.trio_entries.specs.Drafts.{IsRoom}
-use Rattle.trio_entries.specs.inner.Sources.{page_seen, pages_of}
-use Rattle.trio_entries.specs.declared.handed.Room.{Room}
+use Rattle.trio_entries.proofs.Words.{◌++◌, ◌+◌, ◌-◌, ◌∙◌, ◌∷◌, ◌≡◌, IsRoom, Room, [], ap, append_assoc, arith, length, option_map, pages_of, subst, sym, take}
+use Rattle.trio_entries.specs.inner.Sources.{page_seen}
 use Rattle.trio_entries.proofs.Turns.{at_end, take_one}
 use Rattle.trio_entries.proofs.handed.Room.add_all.Goals as goal
 use Rattle.trio_entries.proofs.handed.Room.add_all.Goals.{in-Some, in_default}

@@ -1,6 +1,4 @@
-use Rattle.std.proofs.Common.{◌≡◌, ℕ, ◌+◌, ◌-◌, ◌++◌, length, take}
-use Rattle.trio_entries.specs.Drafts.{IsRoom}
-use Rattle.trio_entries.specs.inner.Sources.{pages_of}
+use Rattle.trio_entries.proofs.Words.{◌++◌, ◌+◌, ◌-◌, ◌≡◌, IsRoom, length, pages_of, take, ℕ}
 use Rattle.trio_entries.proofs.handed.Room.add_all.Given as goal
 
 abbrev pub invariant-loop-i : goal.invariant-loop-i

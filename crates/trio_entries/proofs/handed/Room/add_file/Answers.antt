@@ -1,7 +1,5 @@
-use Rattle.std.proofs.Common.{◌≡◌, ◌+◌, arith, length, map, subst}
-use Rattle.std.proofs.lemmas.List.{length-append}
-use Rattle.trio_entries.specs.Drafts.{IsRoom}
-use Rattle.trio_entries.specs.Handed.{block_in, file_pages, index_in}
+use Rattle.trio_entries.proofs.Words.{◌+◌, ◌≡◌, IsRoom, arith, file_pages, index_in, length, length-append, map, subst}
+use Rattle.trio_entries.specs.Handed.{block_in}
 use Rattle.trio_entries.proofs.handed.Room.add_file.Goals as goal
 
 pub add_all-requires-2 : goal.add_all-requires-2

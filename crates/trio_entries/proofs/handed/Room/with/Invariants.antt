@@ -1,4 +1,4 @@
-use Rattle.std.proofs.Common.{◌≡◌, length}
+use Rattle.trio_entries.proofs.Words.{◌≡◌, length}
 use Rattle.std.specs.List.{All}
 use Rattle.trio_entries.specs.Drafts.{IsBuffer}
 use Rattle.trio_entries.proofs.handed.Room.with.Given as goal

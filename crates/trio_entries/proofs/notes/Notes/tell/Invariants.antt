@@ -1,4 +1,4 @@
-use Rattle.std.proofs.Common.{◌≡◌, drop}
+use Rattle.trio_entries.proofs.Words.{◌≡◌, drop}
 use Rattle.trio_state.specs.Listed.{notes_after}
 use Rattle.trio_entries.proofs.notes.Notes.tell.Given as goal
 

@@ -1,6 +1,4 @@
-use Rattle.std.proofs.Common.{ap, sym, ◌∙◌}
-use Rattle.std.proofs.lemmas.Bool.{false≢true}
-use Rattle.trio_state.specs.Moves.{Outline}
+use Rattle.trio_entries.proofs.Words.{◌∙◌, Outline, ap, false≢true, sym}
 use Rattle.trio_entries.proofs.Outlined.{AreLeases, outline_is, outline_leases}
 use Rattle.trio_entries.proofs.outline.Outline.is_of.Goals as goal
 

@@ -1,8 +1,4 @@
-use Rattle.std.proofs.Common.{◌∙◌, ap, map}
-use Rattle.trio_lease.specs.Shown.{LentFile}
-use Rattle.trio_lease.specs.declared.parts.HoldParts.{HoldParts}
-use Rattle.trio_lease.specs.declared.parts.InoParts.{InoParts}
-use Rattle.trio_entries.specs.inner.Outlined.{head_in}
+use Rattle.trio_entries.proofs.Words.{◌∙◌, HoldParts, InoParts, LentFile, ap, head_in, map}
 use Rattle.trio_entries.proofs.Outlined.{outline_has, outline_is}
 use Rattle.trio_entries.proofs.outline.Outline.of.Goals as goal
 

@@ -1,4 +1,4 @@
-use Rattle.std.proofs.lemmas.Result.{err_from_is_err_and}
+use Rattle.trio_image.proofs.Words.{err_from_is_err_and}
 use Rattle.trio_image.proofs.Superblocks.{superblock_there}
 use Rattle.trio_image.proofs.Refused.{pages_refuse, survey_told}
 use Rattle.trio_image.proofs.image.Image.from_pages.Goals as goal

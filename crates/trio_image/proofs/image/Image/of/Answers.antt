@@ -1,6 +1,4 @@
-use Rattle.std.proofs.Common.{subst, sym}
-use Rattle.trio_layout.specs.declared.superblock.Superblock.{Superblock}
-use Rattle.trio_image.specs.Image.{IsVerified, TablesAre}
+use Rattle.trio_image.proofs.Words.{IsVerified, Superblock, TablesAre, subst, sym}
 use Rattle.trio_image.proofs.Superblocks.{same_superblock, verified_by}
 use Rattle.trio_image.proofs.image.Image.of.Goals as goal
 

@@ -1,4 +1,4 @@
-use Rattle.std.proofs.Common.{sym, ap, ◌∙◌, arith}
+use Rattle.trio_judge.proofs.Words.{◌∙◌, ap, arith, sym}
 use Rattle.trio_judge.proofs.Starting.{directory_lent, own_count}
 use Rattle.trio_judge.proofs.start.WalkMemory.with.Goals as goal
 

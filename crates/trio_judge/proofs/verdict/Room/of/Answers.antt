@@ -1,4 +1,4 @@
-use Rattle.std.proofs.Common.{◌++◌, false, length, replicate, ap, ◌∙◌, arith}
+use Rattle.trio_judge.proofs.Words.{◌++◌, ◌∙◌, ap, arith, false, length, replicate}
 use Rattle.trio_judge.proofs.verdict.Room.of.Goals as goal
 
 pub of-walk-requires-clause-count : goal.of-walk-requires-clause-count

@@ -1,4 +1,4 @@
-use Rattle.std.proofs.Common.{arith}
+use Rattle.trio_judge.proofs.Words.{arith}
 use Rattle.trio_judge.proofs.verdict.RoomMemory.with.Goals as goal
 
 pub returns : goal.returns

@@ -1,11 +1,6 @@
-use Rattle.std.proofs.Common.{rules, ◌≡◌, true, false, refl, sym, ◌∙◌, arith}
-use Rattle.trio_lists.specs.Lists.{is_among}
-use Rattle.trio_layout.specs.Survey.{numbers}
-use Rattle.trio_case.specs.Cases.{case_in}
-use Rattle.trio_judge.specs.inner.Walk.{file_met, files_of, is_new}
+use Rattle.trio_judge.proofs.Words.{◌∙◌, ◌≡◌, arith, case_in, false, file_met, files_of, get_or_default, is_among, is_new, map_push, numbers, refl, rules, sym, true}
 use Rattle.trio_judge.proofs.Noting.{find_again, find_first, find_old, mark_at, mark_within, none_is, place_left, ready_more, unfound_new, unplaced_old}
 use Rattle.trio_judge.proofs.Starting.{own_place}
-use Rattle.std.proofs.lemmas.List.{get_or_default, map_push}
 use Rattle.trio_judge.proofs.walk.Walk.find.Goals as goal
 
 pub returns-in_default-clause-grows : goal.returns-in_default-clause-grows

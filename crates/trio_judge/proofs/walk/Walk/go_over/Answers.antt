@@ -1,12 +1,4 @@
-use Rattle.std.proofs.Common.{◌≡◌, ◌<◌, [], Ok, Err, length, map, take, get_or, refl, sym, ap, ◌∙◌, arith}
-use Rattle.std.specs.List.{flat_map}
-use Rattle.std.proofs.lemmas.List.{length-map}
-use Rattle.trio_layout.specs.Case.{file_in}
-use Rattle.trio_layout.specs.JudgedFiles.{entries_in}
-use Rattle.trio_layout.specs.Survey.{children_in, met_in, plain}
-use Rattle.trio_case.specs.Cases.{case_in}
-use Rattle.trio_case.specs.Rooms.{entries_in_room, entries_kept, file_in_room}
-use Rattle.trio_judge.specs.inner.Walk.{file_met, files_of}
+use Rattle.trio_judge.proofs.Words.{◌<◌, ◌∙◌, ◌≡◌, Err, Ok, [], ap, arith, case_in, children_in, entries_in, entries_in_room, entries_kept, file_in, file_in_room, file_met, files_of, flat_map, get_or, length, length-map, map, met_in, plain, refl, sym, take}
 use Rattle.trio_judge.proofs.Noting.{ready_same}
 use Rattle.trio_judge.proofs.Visiting.{directory_found, directory_passed, directory_queued, entries_place, entry_breaks, file_breaks, if_err_then, is_judged, on_ok_then, on_way, regular_passed, regular_queued}
 use Rattle.trio_judge.proofs.FoundAgain.{read_of}

@@ -1,7 +1,4 @@
-use Rattle.trio_layout.specs.JudgedFiles.{entries_in}
-use Rattle.trio_layout.specs.Survey.{numbers}
-use Rattle.trio_case.specs.Cases.{case_in}
-use Rattle.trio_judge.specs.inner.Walk.{file_met, files_of}
+use Rattle.trio_judge.proofs.Words.{case_in, entries_in, file_met, files_of, numbers}
 use Rattle.trio_judge.proofs.FoundAgain.{all_grown, heads_grown}
 use Rattle.trio_judge.proofs.walk.Walk.go_over_marked.Goals as goal
 

@@ -1,7 +1,5 @@
-use Rattle.std.proofs.Common.{◌∷◌, [], is_some, refl, sym, ap, ◌∙◌}
-use Rattle.trio_case.specs.Cases.{case_in}
+use Rattle.trio_judge.proofs.Words.{◌∙◌, ◌∷◌, [], ap, case_in, file_met, is_some, refl, sym}
 use Rattle.trio_case.specs.Listed.{Listed}
-use Rattle.trio_judge.specs.inner.Walk.{file_met}
 use Rattle.trio_judge.proofs.Faults.{entry_again, entry_foreign}
 use Rattle.trio_judge.proofs.Noting.{entries_still, is_named, is_none_of, lists_entry, so_far}
 use Rattle.trio_judge.proofs.walk.Walk.list.Goals as goal

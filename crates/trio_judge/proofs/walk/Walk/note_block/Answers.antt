@@ -1,9 +1,5 @@
-use Rattle.std.proofs.Common.{◌+◌, ◌≤◌, get_or, length, map, take, sym, ◌∷◌, [], inl, inr, arith, subst}
+use Rattle.trio_judge.proofs.Words.{◌+◌, ◌∷◌, ◌≤◌, DirEntry, In, [], arith, case_in, get_or, inl, inr, length, listed_met, map, subst, sym, take}
 use Rattle.std.proofs.lemmas.List.{length-take}
-use Rattle.trio_lists.specs.Lists.{In}
-use Rattle.trio_case.specs.Cases.{case_in}
-use Rattle.trio_case.specs.declared.entries.DirEntry.{DirEntry}
-use Rattle.trio_judge.specs.inner.Walk.{listed_met}
 use Rattle.trio_judge.proofs.Noting.{bad_among, blank, block_at, block_has, block_len, block_more, noted_append, places_fewer}
 use Rattle.trio_judge.proofs.walk.Walk.note_block.Goals as goal
 

@@ -1,6 +1,4 @@
-use Rattle.std.proofs.Common.{map, take}
-use Rattle.trio_case.specs.Cases.{case_in}
-use Rattle.trio_judge.specs.inner.Walk.{Noted, listed_met}
+use Rattle.trio_judge.proofs.Words.{Noted, case_in, listed_met, map, take}
 use Rattle.trio_judge.proofs.walk.Walk.note_block.Given as goal
 
 abbrev pub invariant-loop-listed : goal.invariant-loop-listed

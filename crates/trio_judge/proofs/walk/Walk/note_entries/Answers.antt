@@ -1,11 +1,5 @@
-use Rattle.std.proofs.Common.{◌<◌, ◌+◌, ◌≤◌, length, map, take, get_or, ap, arith}
-use Rattle.std.specs.List.{flat_map}
-use Rattle.std.proofs.lemmas.List.{length-map}
+use Rattle.trio_judge.proofs.Words.{◌+◌, ◌<◌, ◌≤◌, ap, arith, case_in, entries_kept, flat_map, get_or, length, length-map, listed_seen, map, met_in, plain, take}
 use Rattle.std.proofs.lemmas.List.Folds.{length-flat_map-take}
-use Rattle.trio_layout.specs.Survey.{met_in, plain}
-use Rattle.trio_case.specs.Cases.{case_in}
-use Rattle.trio_case.specs.Reading.{listed_seen}
-use Rattle.trio_case.specs.Rooms.{entries_kept}
 use Rattle.trio_judge.proofs.Noting.{bad_among, entries_have, entries_more, listed_is, noted_append, places_fewer}
 use Rattle.trio_judge.proofs.walk.Walk.note_entries.Goals as goal
 

@@ -1,9 +1,4 @@
-use Rattle.std.proofs.Common.{map, take}
-use Rattle.std.specs.List.{flat_map}
-use Rattle.trio_layout.specs.Survey.{met_in, plain}
-use Rattle.trio_case.specs.Cases.{case_in}
-use Rattle.trio_case.specs.Rooms.{entries_kept}
-use Rattle.trio_judge.specs.inner.Walk.{Noted}
+use Rattle.trio_judge.proofs.Words.{Noted, case_in, entries_kept, flat_map, map, met_in, plain, take}
 use Rattle.trio_judge.proofs.walk.Walk.note_entries.Given as goal
 
 abbrev pub invariant-loop-block : goal.invariant-loop-block

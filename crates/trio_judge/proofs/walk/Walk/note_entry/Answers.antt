@@ -1,6 +1,4 @@
-use Rattle.std.proofs.Common.{sym, ◌∙◌}
-use Rattle.trio_case.specs.Cases.{case_in}
-use Rattle.trio_judge.specs.inner.Walk.{file_met}
+use Rattle.trio_judge.proofs.Words.{◌∙◌, case_in, file_met, sym}
 use Rattle.trio_judge.proofs.Noting.{bad_entry, noted_entry, ready_same}
 use Rattle.trio_judge.proofs.walk.Walk.note_entry.Goals as goal
 

@@ -1,12 +1,5 @@
-use Rattle.std.proofs.Common.{◌++◌, None, Some, length, refl, subst, sym, ap, ◌∙◌}
-use Rattle.std.specs.List.{flat_map}
-use Rattle.trio_rights.specs.Bundle.{bundle_pages}
-use Rattle.trio_layout.specs.Survey.{pages_in}
-use Rattle.trio_layout.specs.JudgedFiles.{pages_within}
-use Rattle.trio_case.specs.Cases.{case_in}
+use Rattle.trio_judge.proofs.Words.{◌++◌, ◌∙◌, FirstForeign, None, Some, ap, bundle_pages, case_in, file_in_room, file_met, flat_map, length, own_numbers, pages_in, pages_within, refl, subst, sym}
 use Rattle.trio_case.specs.Listed.{Listed}
-use Rattle.trio_case.specs.Rooms.{file_in_room}
-use Rattle.trio_judge.specs.inner.Walk.{FirstForeign, file_met, own_numbers}
 use Rattle.trio_judge.proofs.Faults.{page_fails}
 use Rattle.trio_judge.proofs.FileNoted.{file_place, first_of_both, lists_file, page_places, read_more, stands_still}
 use Rattle.trio_judge.proofs.Noting.{is_none_of, none_is, so_far}

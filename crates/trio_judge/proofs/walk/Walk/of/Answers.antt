@@ -1,6 +1,4 @@
-use Rattle.std.proofs.Common.{rules, ◌++◌, ◌∙◌, false, length, replicate, refl, ap, sym, subst, arith}
-use Rattle.trio_case.specs.Cases.{case_in}
-use Rattle.trio_judge.specs.inner.Walk.{HasListingRoom}
+use Rattle.trio_judge.proofs.Words.{◌++◌, ◌∙◌, HasListingRoom, ap, arith, case_in, false, length, refl, replicate, rules, subst, sym}
 use Rattle.trio_judge.proofs.Starting.{starts}
 use Rattle.trio_judge.proofs.walk.Walk.of.Goals as goal
 

@@ -1,10 +1,6 @@
-use Rattle.std.proofs.Common.{rules, ◌≡◌, ◌<◌, true, length, get_or, sym, ap, ◌∙◌, arith}
+use Rattle.trio_judge.proofs.Words.{◌<◌, ◌∙◌, ◌≡◌, IsListedBefore, ap, arith, case_in, entries_in, file_met, files_of, get_or, length, length-map, rules, sym, true}
 use Rattle.std.specs.Prelude.{is_some}
-use Rattle.std.proofs.lemmas.List.{get_or-map, length-map}
-use Rattle.trio_layout.specs.JudgedFiles.{entries_in}
-use Rattle.trio_case.specs.Cases.{case_in}
-use Rattle.trio_judge.specs.inner.Again.{IsListedBefore}
-use Rattle.trio_judge.specs.inner.Walk.{file_met, files_of}
+use Rattle.std.proofs.lemmas.List.{get_or-map}
 use Rattle.trio_judge.proofs.FoundAgain.{heads_grown, nothing_new, passed_again, queued_again}
 use Rattle.trio_judge.proofs.Visiting.{file_breaks, is_judged, on_ok_then}
 use Rattle.trio_judge.proofs.walk.Walk.visit.Goals as goal

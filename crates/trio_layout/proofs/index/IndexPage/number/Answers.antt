@@ -1,8 +1,5 @@
-use Rattle.std.proofs.Common.{ℕ, ◌*◌, ◌∙◌, sym, ap, get_or, arith}
+use Rattle.trio_layout.proofs.Words.{◌*◌, ◌∙◌, Index, ap, arith, get_or, number_at, numbers_in, sym, w64, ℕ}
 use Rattle.std.proofs.lemmas.List.{get_or_past}
-use Rattle.std.specs.Int.{w64}
-use Rattle.trio_page.specs.Field.{number_at}
-use Rattle.trio_layout.specs.Index.{Index, numbers_in}
 use Rattle.trio_layout.proofs.IndexPages.{numbers_in-at, length-numbers_in}
 use Rattle.trio_layout.proofs.index.IndexPage.number.Goals as goal
 

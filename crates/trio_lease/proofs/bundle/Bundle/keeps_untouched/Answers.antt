@@ -1,6 +1,4 @@
-use Rattle.std.proofs.Common.{ap, ◌∙◌, subst, length, ◌<◌, ◌≤◌, ◌≡◌, List}
-use Rattle.std.specs.Prelude.{slice_index_or}
-use Rattle.trio_lease.specs.Shown.{LentFile, KeepsUntouched}
+use Rattle.trio_lease.proofs.Words.{◌<◌, ◌∙◌, ◌≡◌, ◌≤◌, KeepsUntouched, LentFile, List, ap, length, slice_index_or, subst}
 use Rattle.trio_lease.proofs.Untouched.{one_more, all_told}
 use Rattle.trio_lease.proofs.bundle.Bundle.keeps_untouched.Goals as goal
 

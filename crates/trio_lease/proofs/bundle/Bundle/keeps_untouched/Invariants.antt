@@ -1,6 +1,4 @@
-use Rattle.std.proofs.Common.{take}
-use Rattle.trio_lists.specs.Lists.{In}
-use Rattle.trio_lease.specs.Shown.{LentFile, KeepsUntouched}
+use Rattle.trio_lease.proofs.Words.{In, KeepsUntouched, LentFile, take}
 use Rattle.trio_lease.proofs.bundle.Bundle.keeps_untouched.Given as goal
 
 -- it is told of the leases so far

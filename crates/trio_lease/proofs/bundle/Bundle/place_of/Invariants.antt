@@ -1,5 +1,4 @@
-use Rattle.std.proofs.Common.{◌≡◌, drop}
-use Rattle.trio_lease.specs.Places.{place_in_files}
+use Rattle.trio_lease.proofs.Words.{◌≡◌, drop, place_in_files}
 use Rattle.trio_lease.proofs.bundle.Bundle.place_of.Given as goal
 
 -- the rest of the leases gives the place

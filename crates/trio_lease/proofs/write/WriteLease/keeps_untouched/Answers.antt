@@ -1,5 +1,4 @@
-use Rattle.std.proofs.Common.{subst}
-use Rattle.trio_lease.specs.Shown.{LentFile, KeepsUntouched}
+use Rattle.trio_lease.proofs.Words.{KeepsUntouched, LentFile, subst}
 use Rattle.trio_lease.proofs.write.WriteLease.keeps_untouched.Goals as goal
 
 pub returns : goal.returns

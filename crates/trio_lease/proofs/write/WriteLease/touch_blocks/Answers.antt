@@ -1,4 +1,4 @@
-use Rattle.std.proofs.Common.{inl}
+use Rattle.trio_lease.proofs.Words.{inl}
 use Rattle.trio_lease.proofs.Untouched.{all_marked}
 use Rattle.trio_lease.proofs.write.WriteLease.touch_blocks.Goals as goal
 

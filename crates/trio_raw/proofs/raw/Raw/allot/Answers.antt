@@ -1,9 +1,5 @@
-use Rattle.std.proofs.Common.{arith, ap, ◌∙◌}
-use Rattle.trio_desk.specs.Out.{ino_numbers, page_numbers, with_allotted}
-use Rattle.trio_desk.specs.Call.{Given, NotGiven}
-use Rattle.trio_desk.specs.Calls.{Made}
-use Rattle.trio_raw.specs.Has.{Held}
-use Rattle.trio_raw.specs.inner.Stock.{with_given}
+use Rattle.trio_raw.proofs.Words.{◌∙◌, Given, Held, Made, ap, arith, ino_numbers, page_numbers, with_allotted, with_given}
+use Rattle.trio_desk.specs.Call.{NotGiven}
 use Rattle.trio_raw.proofs.Asking.{allot_after, allot_leases, allot_stands, few_numbers, few_pages}
 use Rattle.trio_raw.proofs.Leases.{leases_alike}
 use Rattle.trio_raw.proofs.Standing.{stands_alike}

@@ -1,9 +1,6 @@
-use Rattle.std.proofs.Common.{◌≡◌, None, Some, refl, sym, ap, subst, ◌∙◌}
-use Rattle.std.proofs.lemmas.Bool.{both_ways}
+use Rattle.trio_raw.proofs.Words.{◌∙◌, ◌≡◌, Done, HasLeases, Held, Made, None, OnList, Some, ap, both_ways, has_read, read_on, refl, subst, sym}
 use Rattle.trio_desk.specs.Out.{without_read as out_without_read}
-use Rattle.trio_desk.specs.Call.{Done}
-use Rattle.trio_desk.specs.Calls.{Made}
-use Rattle.trio_raw.specs.Has.{HasLeases, Held, OnList, has_read, read_on, without_read}
+use Rattle.trio_raw.specs.Has.{without_read}
 use Rattle.trio_raw.proofs.Asking.{back_none, read_none, read_some, read_there}
 use Rattle.trio_raw.proofs.Leases.{leases_same}
 use Rattle.trio_raw.proofs.Standing.{stands-back, stands_alike}

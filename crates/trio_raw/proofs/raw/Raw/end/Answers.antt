@@ -1,12 +1,5 @@
-use Rattle.std.proofs.Common.{◌≡◌, [], sym, ap, subst, ◌∙◌}
-use Rattle.trio_lists.specs.Lists.{In}
-use Rattle.trio_nodes.specs.declared.answers.ReleaseFault.TheVariants.{NoMemory as NoReleaseMemory}
-use Rattle.trio_lease.specs.Bundles.{Bundled}
-use Rattle.trio_desk.specs.Out.{IsClosed, Parcel, WasGiven, parcel_of}
-use Rattle.trio_desk.specs.Call.{Judged, NotJudged, Release, TellsClosed}
-use Rattle.trio_desk.specs.Calls.{Calls}
-use Rattle.trio_raw.specs.Asked.{back_calls, release_call}
-use Rattle.trio_raw.specs.Has.{Has, Held, OnList, whole_parcel, with_reads}
+use Rattle.trio_raw.proofs.Words.{◌∙◌, ◌≡◌, Bundled, Calls, Has, Held, In, IsClosed, Judged, NoReleaseMemory, NotJudged, OnList, Parcel, Release, TellsClosed, WasGiven, [], ap, back_calls, parcel_of, subst, sym, whole_parcel, with_reads}
+use Rattle.trio_raw.specs.Asked.{release_call}
 use Rattle.trio_raw.proofs.Asking.{only_memory}
 use Rattle.trio_raw.proofs.Backing.{calls_more}
 use Rattle.trio_raw.proofs.Standing.{stands_alike, whole-given}

@@ -1,8 +1,5 @@
-use Rattle.std.proofs.Common.{Ok, refl, sym, ap, subst, ◌∙◌}
-use Rattle.trio_desk.specs.Out.{with_lease}
+use Rattle.trio_raw.proofs.Words.{◌∙◌, Has, HasLeases, Held, Made, Ok, OnList, ap, keeps_lease, refl, subst, sym, with_lease}
 use Rattle.trio_desk.specs.Call.{Lent, NotLent}
-use Rattle.trio_desk.specs.Calls.{Made}
-use Rattle.trio_raw.specs.Has.{Has, HasLeases, Held, OnList, keeps_lease}
 use Rattle.trio_raw.proofs.Leases.{leases-lease, leases_alike}
 use Rattle.trio_raw.proofs.Standing.{stands-lease, stands_alike}
 use Rattle.trio_raw.proofs.raw.Raw.grant.Goals as goal

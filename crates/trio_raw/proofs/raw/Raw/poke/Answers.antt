@@ -1,5 +1,4 @@
-use Rattle.std.proofs.Common.{subst}
-use Rattle.trio_raw.specs.Has.{Held}
+use Rattle.trio_raw.proofs.Words.{Held, subst}
 use Rattle.trio_raw.proofs.Kept.{KeepsAll, poke_keeps-if}
 use Rattle.trio_raw.proofs.raw.Raw.poke.Goals as goal
 

@@ -1,9 +1,5 @@
-use Rattle.std.proofs.Common.{◌≡◌, true, Err, refl, sym, ap, subst, ◌∙◌}
-use Rattle.trio_lease.specs.Bundles.{Bundled}
-use Rattle.trio_desk.specs.Out.{WasGiven, parcel_of, without_parcel}
-use Rattle.trio_desk.specs.Call.{Judged, NotJudged, Release}
-use Rattle.trio_desk.specs.Calls.{Made}
-use Rattle.trio_raw.specs.Has.{Has, HasLeases, Held, OnList, has_all_of, parcel_named, rest_of, with_parcel}
+use Rattle.trio_raw.proofs.Words.{◌∙◌, ◌≡◌, Bundled, Has, HasLeases, Held, Judged, Made, NotJudged, OnList, Release, WasGiven, ap, has_all_of, parcel_named, parcel_of, refl, rest_of, subst, sym, true, with_parcel, without_parcel}
+use Rattle.std.proofs.Common.{Err}
 use Rattle.trio_raw.proofs.Leases.{leases-rest, leases-returned, leases_alike}
 use Rattle.trio_raw.proofs.Standing.{named-given, stands-rest, stands-returned, stands_alike}
 use Rattle.trio_raw.proofs.raw.Raw.release.Goals as goal

@@ -1,7 +1,5 @@
-use Rattle.std.proofs.Common.{List, None, refl, subst}
-use Rattle.trio_lease.specs.Shown.{Shown}
+use Rattle.trio_raw.proofs.Words.{List, Made, None, Shown, refl, subst}
 use Rattle.trio_desk.specs.Call.{ModeSet, NotModeSet, SetMode}
-use Rattle.trio_desk.specs.Calls.{Made}
 use Rattle.trio_raw.proofs.Asking.{mode_alike}
 use Rattle.trio_raw.proofs.Leases.{leases_alike}
 use Rattle.trio_raw.proofs.Standing.{stands_alike}

@@ -1,5 +1,4 @@
-use Rattle.std.proofs.Common.{ap, ◌∙◌}
-use Rattle.trio_nodes.specs.declared.spot.Spot.TheVariants.{Fresh}
+use Rattle.trio_raw.proofs.Words.{◌∙◌, Fresh, ap}
 use Rattle.trio_raw.specs.Has.{bytes_at}
 use Rattle.trio_raw.specs.inner.Stock.{Stock}
 use Rattle.trio_raw.proofs.things.Things.shown.Goals as goal

@@ -1,6 +1,5 @@
-use Rattle.std.proofs.Common.{sym, ap, ◌∙◌, subst}
-use Rattle.trio_desk.specs.Out.{IsClosed}
-use Rattle.trio_raw.specs.Has.{Held, OnList, whole_parcel}
+use Rattle.trio_runner.proofs.Words.{◌∙◌, IsClosed, OnList, ap, subst, sym, whole_parcel}
+use Rattle.trio_raw.specs.Has.{Held}
 use Rattle.trio_runner.specs.Players.{EndCalled}
 use Rattle.trio_runner.proofs.Calling.{if_ok, nothing_on_list}
 use Rattle.trio_runner.proofs.raw.RawPlayer.end.Goals as goal

@@ -1,6 +1,4 @@
-use Rattle.std.proofs.Common.{get_or, sym, subst}
-use Rattle.trio_session.specs.inner.Places.{IsAt, chain_at}
-use Rattle.trio_session.specs.declared.laid.PagePlace.TheVariants.{Block}
+use Rattle.trio_session.proofs.Words.{Block, IsAt, chain_at, get_or, subst, sym}
 use Rattle.trio_session.proofs.Chains.{block_kept, block_more}
 use Rattle.trio_session.proofs.laid.Laid.block_place.Goals as goal
 

@@ -1,14 +1,5 @@
-use Rattle.std.proofs.Common.{◌≡◌, ℕ, ◌+◌, ◌-◌, ◌<◌, ◌≤◌, min, Bool, List, [], ◌∷◌, ◌++◌, length, true, eqb, not, sym, refl, ap, ◌∙◌, subst, arith}
-use Rattle.std.specs.Prelude.{map, vec_capacity, if◌then◌else◌}
-use Rattle.std.specs.List.{filter}
-use Rattle.std.proofs.lemmas.List.{length-append, length-map, map-append}
-use Rattle.trio_lists.specs.Lists.{are_new}
-use Rattle.trio_layout.specs.Chain.{Chain}
-use Rattle.trio_desk.specs.Out.{Parcel}
-use Rattle.trio_session.specs.Seen.{MadeFile, SessionSeen, is_allotted, placed_made, with_made}
-use Rattle.trio_session.specs.inner.Made.{AreDirs, AreMade, IsMadeAt, file_of, made_seen}
-use Rattle.trio_session.specs.inner.Places.{chain_at, number_at}
-use Rattle.trio_session.specs.declared.made.Made.{Made}
+use Rattle.trio_session.proofs.Words.{if◌then◌else◌, ◌++◌, ◌+◌, ◌-◌, ◌<◌, ◌∙◌, ◌∷◌, ◌≡◌, ◌≤◌, AreDirs, AreMade, Bool, Chain, IsMadeAt, List, Made, MadeFile, Parcel, SessionSeen, [], ap, are_new, arith, chain_at, eqb, file_of, filter, is_allotted, length, length-append, length-map, made_seen, map, map-append, min, number_at, placed_made, refl, subst, sym, true, vec_capacity, with_made, ℕ}
+use Rattle.std.proofs.Common.{not}
 use Rattle.trio_session.specs.contracts.session.Session.{the_view}
 use Rattle.trio_session.proofs.Added.{chain_kept, kept_added, less_many, less_shown}
 use Rattle.trio_session.proofs.Kept.{files_of}

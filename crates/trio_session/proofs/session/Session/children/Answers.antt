@@ -1,14 +1,4 @@
-use Rattle.std.proofs.Common.{◌≡◌, Bool, eqb, List, None, Some, ap, refl, subst, sym, ◌∙◌}
-use Rattle.std.specs.Prelude.{if◌then◌else◌}
-use Rattle.std.specs.Option.{option_copied, option_map, option_or}
-use Rattle.std.proofs.lemmas.Bool.{eqb-true}
-use Rattle.trio_lease.specs.declared.parts.HoldParts.{HoldParts}
-use Rattle.trio_rights.specs.declared.kind.Kind.{Kind}
-use Rattle.trio_rights.specs.declared.kind.Kind.TheVariants.{Directory}
-use Rattle.trio_nodes.specs.Walk.{is_directory}
-use Rattle.trio_session.specs.Seen.{entry_count, slots_shown}
-use Rattle.trio_session.specs.inner.Made.{made_seen}
-use Rattle.trio_session.specs.declared.made.Made.{Made}
+use Rattle.trio_session.proofs.Words.{if◌then◌else◌, ◌∙◌, ◌≡◌, Bool, Directory, HoldParts, Kind, List, Made, None, Some, ap, entry_count, eqb, eqb-true, is_directory, made_seen, option_copied, option_map, option_or, refl, slots_shown, subst, sym}
 use Rattle.trio_session.proofs.Found.{position-passes, position-same, slice_get-found}
 use Rattle.trio_session.proofs.Indexed.{dir_index, index_missing, open_shown}
 use Rattle.trio_session.proofs.Insides.{files_in, view_shows}

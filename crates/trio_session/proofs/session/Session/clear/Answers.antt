@@ -1,20 +1,6 @@
-use Rattle.std.proofs.Common.{◌≡◌, ◌<◌, ◌≤◌, ◌*◌, ◌+◌, ◌++◌, ℕ, true, Bool, eqb, List, Option, None, Some, length, ap, refl, subst, sym, ◌∙◌, arith}
-use Rattle.std.specs.Prelude.{map, slice_get, slice_set, vec_capacity}
-use Rattle.std.specs.List.{filter, position}
-use Rattle.std.specs.Option.{is_some, option_map_or}
-use Rattle.std.specs.Vec.{with_item}
-use Rattle.std.proofs.lemmas.List.{length-map}
-use Rattle.trio_lists.specs.Lists.{In}
-use Rattle.trio_page.specs.Field.{with_part, zeros}
-use Rattle.trio_layout.specs.declared.slot.EntryPart.{EntryPart}
-use Rattle.trio_auxdir.specs.declared.place.Place.{Place}
+use Rattle.trio_session.proofs.Words.{◌*◌, ◌++◌, ◌+◌, ◌<◌, ◌∙◌, ◌≡◌, ◌≤◌, Bool, EntryPart, In, IndexedDir, List, None, Option, Place, SessionSeen, Some, ap, arith, block_number, cleared, dir_numbers, entry_shown, eqb, filter, has_names, is_some, length, length-map, made_room, made_seen, map, number_at, number_shown, option_map_or, page_in, place_at_name, place_of, position, refl, slice_get, slice_set, slots_shown, subst, sym, true, vec_capacity, with_item, with_part, with_slot, without_made, zeros, ℕ}
 use Rattle.trio_auxdir.specs.Directory.{Directory as Index}
-use Rattle.trio_auxdir.specs.Places.{place_of as place_at_name, with_slot}
-use Rattle.trio_session.specs.Layout.{cleared, page_in}
-use Rattle.trio_session.specs.Seen.{SessionSeen, block_number, entry_shown, clear, number_shown, place_of, slots_shown, without_made}
-use Rattle.trio_session.specs.inner.Made.{dir_numbers, has_names, made_room, made_seen}
-use Rattle.trio_session.specs.inner.Places.{number_at}
-use Rattle.trio_session.specs.declared.indexes.IndexedDir.{IndexedDir}
+use Rattle.trio_session.specs.Seen.{clear}
 use Rattle.trio_session.specs.contracts.session.Session.{the_view}
 use Rattle.trio_session.proofs.Found.{position-same, slice_get-found}
 use Rattle.trio_session.proofs.Indexed.{open_shown}

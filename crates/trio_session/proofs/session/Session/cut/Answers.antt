@@ -1,16 +1,5 @@
-use Rattle.std.proofs.Common.{◌≡◌, ◌≤◌, ◌<◌, ℕ, List, Some, length, ap, refl, subst, sym, ◌∙◌}
-use Rattle.std.specs.Prelude.{map}
-use Rattle.std.specs.Option.{is_some}
-use Rattle.std.proofs.lemmas.List.{length-map}
-use Rattle.trio_rights.specs.declared.kind.Kind.TheVariants.{Regular}
-use Rattle.trio_layout.specs.Body.{block_count}
-use Rattle.trio_layout.specs.Chain.{Chain}
-use Rattle.trio_desk.specs.Out.{Parcel}
-use Rattle.trio_session.specs.Layout.{Home, chain_cut, cut_file, size_in}
-use Rattle.trio_session.specs.Seen.{MadeFile, SessionSeen, body_in, chain_in, cut, home_in, with_chain}
-use Rattle.trio_session.specs.inner.Found.{CutDone, IsRelaid}
-use Rattle.trio_session.specs.inner.Made.{made_seen}
-use Rattle.trio_session.specs.inner.Places.{body_at, chain_at}
+use Rattle.trio_session.proofs.Words.{◌<◌, ◌∙◌, ◌≡◌, ◌≤◌, Chain, CutDone, Home, IsRelaid, List, MadeFile, Parcel, Regular, SessionSeen, Some, ap, block_count, body_at, body_in, chain_at, chain_cut, chain_in, cut_file, home_in, is_some, length, length-map, made_seen, map, refl, size_in, subst, sym, with_chain, ℕ}
+use Rattle.trio_session.specs.Seen.{cut}
 use Rattle.trio_session.specs.contracts.session.Session.{the_view}
 use Rattle.trio_session.proofs.Chained.{IsAnew, kind_one, laid_relaid, made_many, relaid_as, relaid_edit, shown_anew}
 use Rattle.trio_session.proofs.Insides.{files_in, view_shows}

@@ -1,7 +1,5 @@
-use Rattle.std.proofs.Common.{Ok, Err}
-use Rattle.trio_desk.specs.Call.{SeenAfter, Settle}
-use Rattle.trio_desk.specs.Calls.{OneCall, Made, NotMade}
-use Rattle.trio_session.specs.Asked.{AfterSettle}
+use Rattle.trio_session.proofs.Words.{AfterSettle, Err, NotMade, Ok, OneCall, SeenAfter, Settle}
+use Rattle.trio_desk.specs.Calls.{Made}
 use Rattle.trio_session.proofs.Desks.{told-settle_end}
 use Rattle.trio_session.proofs.session.Session.end.Goals as goal
 

@@ -1,8 +1,4 @@
-use Rattle.std.proofs.Common.{List, subst}
-use Rattle.std.specs.Option.{option_map}
-use Rattle.trio_session.specs.inner.Found.{Finds}
-use Rattle.trio_session.specs.declared.laid.Laid.{Laid}
-use Rattle.trio_session.specs.declared.made.Made.{Made}
+use Rattle.trio_session.proofs.Words.{Finds, Laid, List, Made, option_map, subst}
 use Rattle.trio_session.proofs.Insides.{files_in, view_shows}
 use Rattle.trio_session.proofs.Seeing.{Shows, finds_file}
 use Rattle.trio_session.proofs.session.Session.file_on.Goals as goal

@@ -1,17 +1,5 @@
-use Rattle.std.proofs.Common.{◌≡◌, ◌<◌, ◌*◌, ◌+◌, ◌++◌, ℕ, Bool, List, None, Some, length, true, false, ap, refl, subst, sym, ◌∙◌}
-use Rattle.std.specs.Prelude.{slice_get}
-use Rattle.std.specs.Option.{option_map_or}
-use Rattle.std.proofs.lemmas.Option.{slice_get-get_or}
-use Rattle.trio_lists.specs.Lists.{In, is_among}
-use Rattle.trio_page.specs.Field.{with_part}
-use Rattle.trio_layout.specs.Slot.{entry_bytes}
-use Rattle.trio_layout.specs.declared.slot.EntryPart.{EntryPart}
-use Rattle.trio_auxdir.specs.Places.{slot_number}
-use Rattle.trio_desk.specs.Out.{Parcel, ino_numbers}
-use Rattle.trio_session.specs.Layout.{filled, page_in}
-use Rattle.trio_session.specs.Seen.{SessionSeen, block_number, chain_in, empty_shown, fill, filled_at, is_allotted, slots_shown, with_made}
-use Rattle.trio_session.specs.inner.Made.{IsMadeAt}
-use Rattle.trio_session.specs.inner.Places.{number_at}
+use Rattle.trio_session.proofs.Words.{◌*◌, ◌++◌, ◌+◌, ◌<◌, ◌∙◌, ◌≡◌, Bool, EntryPart, In, IsMadeAt, List, None, Parcel, SessionSeen, Some, ap, block_number, chain_in, empty_shown, entry_bytes, false, filled, filled_at, ino_numbers, is_allotted, is_among, length, number_at, option_map_or, page_in, refl, slice_get, slice_get-get_or, slot_number, slots_shown, subst, sym, true, with_made, with_part, ℕ}
+use Rattle.trio_session.specs.Seen.{fill}
 use Rattle.trio_session.proofs.Filling.{filled_made, first_empty-there, with_made-else, with_made-filled, within_shown}
 use Rattle.trio_session.proofs.Lists.{slice_get-In}
 use Rattle.trio_session.proofs.Places.{number_at-map}

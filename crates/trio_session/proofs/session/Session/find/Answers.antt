@@ -1,13 +1,6 @@
-use Rattle.std.proofs.Common.{◌≡◌, Bool, true, false, eqb, cond, None, Some, List, ap, subst, sym, ◌∙◌}
-use Rattle.std.specs.List.{find}
-use Rattle.std.specs.Option.{option_copied}
+use Rattle.trio_session.proofs.Words.{◌∙◌, ◌≡◌, Bool, In, In-is_among, IndexedDir, List, None, SessionSeen, Some, ap, cond, eqb, false, find, is_among, is_among-not, kind_shown, option_copied, place_of, subst, sym, true}
 use Rattle.trio_page.specs.Home.{raised}
-use Rattle.trio_lists.specs.Lists.{In, is_among}
-use Rattle.trio_lists.proofs.Members.{In-is_among}
-use Rattle.trio_lists.proofs.New.{is_among-not}
-use Rattle.trio_session.specs.Seen.{SessionSeen, kind_shown, place_of}
 use Rattle.trio_session.specs.contracts.session.Session.{the_view}
-use Rattle.trio_session.specs.declared.indexes.IndexedDir.{IndexedDir}
 use Rattle.trio_session.proofs.Dirs.{dir_among, dir_missed}
 use Rattle.trio_session.proofs.Indexed.{dir_index, index_missing, place_of-index, place_of-missing}
 use Rattle.trio_session.proofs.session.Session.find.Goals as goal

@@ -1,5 +1,4 @@
-use Rattle.std.proofs.Common.{ap, ◌∙◌}
-use Rattle.trio_auxdir.specs.Places.{first_empty}
+use Rattle.trio_session.proofs.Words.{◌∙◌, ap, first_empty}
 use Rattle.trio_session.proofs.Indexed.{dir_index, index_missing, open_shown}
 use Rattle.trio_session.proofs.session.Session.first_empty.Goals as goal
 

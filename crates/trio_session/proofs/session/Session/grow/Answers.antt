@@ -1,25 +1,8 @@
-use Rattle.std.proofs.Common.{◌≡◌, ◌+◌, ◌-◌, ◌%◌, ◌≤◌, ◌<◌, ℕ, List, Some, length, drop, take, ap, refl, subst, sym, ◌∙◌, inl, inr, arith}
-use Rattle.std.specs.Option.{is_some}
-use Rattle.trio_layout.specs.Body.{block_count}
-use Rattle.trio_layout.specs.Chain.{Chain}
-use Rattle.trio_desk.specs.Out.{page_numbers}
-use Rattle.trio_session.specs.Layout.{growth, size_in}
-use Rattle.trio_session.specs.Seen.{SessionSeen, chain_in, open_kind, spare_pages}
-use Rattle.trio_session.specs.inner.Found.{MayGrowAt}
-use Rattle.trio_session.specs.inner.Places.{chain_at, room_laid}
+use Rattle.trio_session.proofs.Words.{◌%◌, ◌+◌, ◌-◌, ◌<◌, ◌∙◌, ◌≡◌, ◌≤◌, Chain, FindsFile, GrowDone, In, IsFileOn, List, MayGrowAt, Parcel, SessionSeen, Some, ap, arith, block_count, body_at, body_in, chain_at, chain_grown, chain_in, dir_numbers, drop, grown_file, growth, home_in, inl, inr, is_some, length, length-map, made_seen, map, open_kind, option_map, page_numbers, refl, room_laid, size_in, spare_pages, subst, sym, take, with_chain, ℕ}
 use Rattle.trio_session.proofs.Grows.{within_spare}
 use Rattle.trio_session.proofs.Insides.{files_in}
 use Rattle.trio_session.proofs.Opens.{has_file, is_there, may_grow, open_some, shows_view}
-use Rattle.std.specs.Prelude.{map}
-use Rattle.std.specs.Option.{option_map}
-use Rattle.std.proofs.lemmas.List.{length-map}
-use Rattle.trio_lists.specs.Lists.{In}
-use Rattle.trio_desk.specs.Out.{Parcel}
-use Rattle.trio_session.specs.Layout.{chain_grown, grown_file}
-use Rattle.trio_session.specs.Seen.{body_in, grown, home_in, with_chain}
-use Rattle.trio_session.specs.inner.Found.{GrowDone}
-use Rattle.trio_session.specs.inner.Made.{FindsFile, IsFileOn, dir_numbers, made_seen}
-use Rattle.trio_session.specs.inner.Places.{body_at}
+use Rattle.trio_session.specs.Seen.{grown}
 use Rattle.trio_session.specs.contracts.session.Session.{the_view}
 use Rattle.trio_session.proofs.Chained.{IsAnew, made_many, relaid_as, relaid_edit, shown_anew}
 use Rattle.trio_session.proofs.Chains.{blocks_length}

@@ -1,10 +1,4 @@
-use Rattle.std.proofs.Common.{◌≡◌, ◌++◌, ◌∷◌, ℕ, [], false, List, Option, Bor, Some, None, ap, refl, subst, sym, ◌∙◌, eqb}
-use Rattle.std.specs.List.{find}
-use Rattle.std.specs.Option.{is_some, option_copied}
-use Rattle.trio_lists.specs.Lists.{In}
-use Rattle.trio_session.specs.Seen.{SessionSeen}
-use Rattle.trio_session.specs.inner.Made.{dir_numbers}
-use Rattle.trio_session.specs.declared.indexes.IndexedDir.{IndexedDir}
+use Rattle.trio_session.proofs.Words.{◌++◌, ◌∙◌, ◌∷◌, ◌≡◌, Bor, In, IndexedDir, List, None, Option, SessionSeen, Some, [], ap, dir_numbers, eqb, false, find, is_some, option_copied, refl, subst, sym, ℕ}
 use Rattle.trio_session.proofs.Dirs.{copied_some, dir_there, push_has, push_more}
 use Rattle.trio_session.proofs.Indexed.{index_missing}
 use Rattle.trio_session.proofs.Indexing.{dirs_pushed}

@@ -1,7 +1,4 @@
-use Rattle.std.proofs.Common.{Bool, eqb, ap, subst, sym, ◌∙◌}
-use Rattle.std.specs.List.{position}
-use Rattle.std.specs.Option.{is_some}
-use Rattle.trio_session.specs.declared.made.Made.{Made}
+use Rattle.trio_session.proofs.Words.{◌∙◌, Bool, Made, ap, eqb, is_some, position, subst, sym}
 use Rattle.trio_session.proofs.Insides.{files_in, view_shows}
 use Rattle.trio_session.proofs.Seeing.{Shows, used-made, used-rest}
 use Rattle.trio_session.proofs.session.Session.is_used.Goals as goal

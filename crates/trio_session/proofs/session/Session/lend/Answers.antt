@@ -1,21 +1,9 @@
-use Rattle.std.proofs.Common.{◌≡◌, ◌≤◌, ◌<◌, List, ap, sym, refl, ◌∙◌, subst, length}
-use Rattle.trio_lease.specs.Bundles.{bundled}
-use Rattle.trio_lease.specs.Shown.{Shown}
-use Rattle.trio_lists.specs.Lists.{In}
-use Rattle.trio_desk.specs.Out.{Parcel, parcel_of}
-use Rattle.trio_desk.specs.Call.{Grant, Lent, NotLent}
-use Rattle.trio_desk.specs.Calls.{OneCall, Made, NotMade}
-use Rattle.trio_session.specs.Asked.{TellsGrant, with_lease}
-use Rattle.trio_session.specs.inner.Giving.{AfterGrant, NoGrant}
-use Rattle.trio_session.specs.Seen.{SessionSeen, IsOn, has_out}
-use Rattle.trio_session.specs.inner.Places.{AreApart}
-use Rattle.std.specs.Prelude.{map, ◌+◌, vec_capacity}
-use Rattle.trio_session.specs.inner.Made.{AreDirs, AreMade, made_seen}
+use Rattle.trio_session.proofs.Words.{◌<◌, ◌∙◌, ◌≡◌, ◌≤◌, AfterGrant, AreApart, AreDirs, AreLaid, AreMade, Denied, Grant, Granted, In, IsOn, Laid, Lent, List, NoGrant, NotLent, NotMade, OneCall, Parcel, SessionSeen, Shown, TellsGrant, ap, bundled, chains_laid, has_out, length, made_seen, map, parcel_of, reads_leased, refl, subst, sym, vec_capacity, with_lease, with_leased}
+use Rattle.trio_desk.specs.Calls.{Made}
+use Rattle.std.specs.Prelude.{◌+◌}
 use Rattle.trio_session.proofs.Kept.{files_of}
 use Rattle.trio_session.proofs.Leased.{kept_leased, seen_leased, unused_granted}
-use Rattle.trio_session.specs.inner.Inside.{AreLaid, chains_laid}
-use Rattle.trio_session.specs.inner.Giving.{Grants, Granted, Denied, NoPlace, reads_leased, with_leased}
-use Rattle.trio_session.specs.declared.laid.Laid.{Laid}
+use Rattle.trio_session.specs.inner.Giving.{Grants, NoPlace}
 use Rattle.trio_session.specs.contracts.session.Session.{the_view}
 use Rattle.trio_session.proofs.Needs.{lease_apart, lease_laid, lease_pages, lease_view, lease_on}
 use Rattle.trio_session.proofs.Desks.{on_still, on_room}

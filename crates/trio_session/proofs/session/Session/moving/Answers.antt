@@ -1,16 +1,5 @@
-use Rattle.std.proofs.Common.{◌≡◌, ℕ, Bool, cond, eqb, List, [], Option, None, Some, refl, sym, subst, ap, ◌∙◌}
-use Rattle.std.specs.List.{find}
-use Rattle.std.specs.Option.{option_copied, option_map, option_map_or, option_or}
-use Rattle.trio_rights.specs.declared.kind.Kind.{Kind}
-use Rattle.trio_lists.specs.Lists.{is_among}
-use Rattle.trio_lease.specs.Shown.{Shown}
-use Rattle.trio_lease.specs.declared.parts.HoldParts.{HoldParts}
-use Rattle.trio_desk.specs.Out.{Parcel, ino_numbers}
-use Rattle.trio_session.specs.Seen.{MadeFile, SessionSeen, body_shown, held_file, is_allotted, made_body, made_file, read_file, written_file}
-use Rattle.trio_session.specs.inner.Made.{made_seen}
-use Rattle.trio_session.specs.declared.made.Made.{Made}
+use Rattle.trio_session.proofs.Words.{◌∙◌, ◌≡◌, Bool, Files, HoldParts, Kind, List, Made, MadeFile, None, Option, Parcel, SessionSeen, Shown, Some, [], ap, body_shown, cond, eqb, find, held_file, ino_numbers, is_allotted, is_among, made_body, made_file, made_seen, option_copied, option_map, option_map_or, option_or, read_file, refl, subst, sym, written_file, ℕ}
 use Rattle.trio_session.proofs.Found.{position-same, slice_get-found}
-use Rattle.trio_session.specs.inner.Made.{Files}
 use Rattle.trio_session.proofs.Insides.{files_in, view_shows}
 use Rattle.trio_session.proofs.Seeing.{Shows, made_missing, made_shown, made_there}
 use Rattle.trio_session.proofs.session.Session.moving.Goals as goal

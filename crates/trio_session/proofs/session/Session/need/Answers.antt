@@ -1,12 +1,7 @@
-use Rattle.std.proofs.Common.{◌≡◌, IsTrue, Ok, Err, inr, refl, sym, ◌∙◌}
-use Rattle.trio_desk.specs.Call.{Grant}
-use Rattle.trio_desk.specs.Calls.{OneCall, Made, NotMade}
-use Rattle.trio_nodes.specs.declared.answers.GrantFault.TheVariants.{NoMemory as NoGrantMemory}
-use Rattle.trio_session.specs.Asked.{TellsGrant}
-use Rattle.trio_session.specs.inner.Giving.{AfterGrant, NoGrant}
+use Rattle.trio_session.proofs.Words.{◌∙◌, ◌≡◌, AfterGrant, Err, Grant, IsTrue, NoGrant, NoGrantMemory, NotMade, Ok, OneCall, TellsGrant, inr, refl, serves, sym}
+use Rattle.trio_desk.specs.Calls.{Made}
 use Rattle.trio_session.proofs.Desks.{but_indexed, indexed_or_not, may_read, need_denied, need_granted, on_indexed, same_but}
 use Rattle.trio_session.proofs.Serves.{serves-but, serves-granted}
-use Rattle.trio_session.specs.Seen.{serves}
 use Rattle.trio_session.proofs.session.Session.need.Goals as goal
 
 pub index-requires : goal.index-requires

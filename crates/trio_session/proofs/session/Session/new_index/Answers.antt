@@ -1,11 +1,4 @@
-use Rattle.std.proofs.Common.{◌≡◌, Some, ap, subst, sym, ◌∙◌}
-use Rattle.std.specs.Prelude.{map}
-use Rattle.std.specs.Option.{option_map}
-use Rattle.trio_layout.specs.Chain.{Chain}
-use Rattle.trio_session.specs.Layout.{page_in}
-use Rattle.trio_session.specs.inner.Indexes.{AreRead}
-use Rattle.trio_session.specs.inner.Made.{FindsFile, IsFileOn}
-use Rattle.trio_session.specs.inner.Places.{chain_at}
+use Rattle.trio_session.proofs.Words.{◌∙◌, ◌≡◌, AreRead, Chain, FindsFile, IsFileOn, Some, ap, chain_at, map, option_map, page_in, subst, sym}
 use Rattle.trio_session.proofs.Slotted.{readable_open}
 use Rattle.trio_session.proofs.session.Session.new_index.Goals as goal
 

@@ -1,7 +1,4 @@
-use Rattle.std.proofs.Common.{Bool, eqb, List, None, Some, ap, subst, sym, ◌∙◌}
-use Rattle.std.specs.List.{position}
-use Rattle.std.specs.Option.{option_copied}
-use Rattle.trio_session.specs.declared.made.Made.{Made}
+use Rattle.trio_session.proofs.Words.{◌∙◌, Bool, List, Made, None, Some, ap, eqb, option_copied, position, subst, sym}
 use Rattle.trio_session.proofs.Found.{position-same, slice_get-found}
 use Rattle.trio_session.proofs.Insides.{files_in, view_shows}
 use Rattle.trio_session.proofs.Seeing.{Shows, open_made, open_rest}

@@ -1,7 +1,4 @@
-use Rattle.std.proofs.Common.{◌≡◌, ℕ, List, Option, Some, ap, subst, sym, ◌∙◌}
-use Rattle.std.specs.Prelude.{IfSome, slice_get}
-use Rattle.trio_auxdir.specs.Places.{place_of as place_at_name, slot_number}
-use Rattle.trio_session.specs.Seen.{place_of, slots_shown}
+use Rattle.trio_session.proofs.Words.{◌∙◌, ◌≡◌, IfSome, List, Option, Some, ap, place_at_name, place_of, slice_get, slot_number, slots_shown, subst, sym, ℕ}
 use Rattle.trio_session.proofs.Indexed.{dir_index, index_missing, open_shown}
 use Rattle.trio_session.proofs.session.Session.place_of.Goals as goal
 

@@ -1,15 +1,5 @@
-use Rattle.std.proofs.Common.{◌≡◌, ◌+◌, ◌*◌, ◌/◌, ◌≤◌, ◌<◌, List, Some, length, ap, refl, subst, sym, ◌∙◌, arith}
-use Rattle.std.specs.Option.{is_some, option_map}
-use Rattle.trio_rights.specs.declared.kind.Kind.{Kind}
-use Rattle.trio_rights.specs.declared.kind.Kind.TheVariants.{Regular}
-use Rattle.trio_layout.specs.Chain.{Chain}
-use Rattle.trio_desk.specs.Out.{Parcel}
-use Rattle.trio_session.specs.Layout.{blocks_under, put_bytes, size_in}
-use Rattle.trio_session.specs.Seen.{SessionSeen, chain_in, put}
-use Rattle.trio_session.specs.inner.Made.{OneFile}
-use Rattle.trio_session.specs.inner.Places.{body_at, chain_at}
-use Rattle.trio_session.specs.declared.laid.FilePlace.{FilePlace}
-use Rattle.trio_session.specs.declared.laid.Laid.{Laid}
+use Rattle.trio_session.proofs.Words.{◌*◌, ◌+◌, ◌/◌, ◌<◌, ◌∙◌, ◌≡◌, ◌≤◌, Chain, FilePlace, Kind, Laid, List, OneFile, Parcel, Regular, SessionSeen, Some, ap, arith, blocks_under, body_at, chain_at, chain_in, is_some, length, option_map, put_bytes, refl, size_in, subst, sym}
+use Rattle.trio_session.specs.Seen.{put}
 use Rattle.trio_session.specs.contracts.session.Session.{the_view}
 use Rattle.trio_session.proofs.Chains.{there_some}
 use Rattle.trio_session.proofs.Edited.{Keeps, blocks_keep}

@@ -1,22 +1,5 @@
-use Rattle.std.proofs.Common.{◌≡◌, ◌<◌, ◌*◌, ◌+◌, ◌++◌, ℕ, Bool, eqb, List, None, Some, length, ap, refl, subst, sym, ◌∙◌}
-use Rattle.std.specs.Prelude.{slice_get}
-use Rattle.std.specs.Global.{Vec}
-use Rattle.std.specs.List.{position}
-use Rattle.std.specs.Option.{is_some}
-use Rattle.trio_lists.specs.Lists.{In}
-use Rattle.std.specs.Vec.{with_item}
-use Rattle.trio_page.specs.Field.{with_part}
-use Rattle.trio_layout.specs.Slot.{entry_bytes}
-use Rattle.trio_layout.specs.declared.slot.EntryPart.{EntryPart}
-use Rattle.trio_desk.specs.Out.{Parcel}
+use Rattle.trio_session.proofs.Words.{◌*◌, ◌++◌, ◌+◌, ◌<◌, ◌∙◌, ◌≡◌, Bool, EntryPart, In, IndexedDir, List, None, Parcel, SessionSeen, Some, Vec, ap, block_number, chain_in, dir_numbers, entry_bytes, eqb, every_number, filled, has_names, is_some, length, number_at, page_in, place_at_name, place_of, position, refl, slice_get, slots_of, slots_shown, subst, sym, with_item, with_part, ℕ}
 use Rattle.trio_auxdir.specs.Directory.{Directory as Index}
-use Rattle.trio_auxdir.specs.Places.{place_of as place_at_name}
-use Rattle.trio_auxdir.specs.Slots.{slots_of}
-use Rattle.trio_session.specs.Layout.{filled, page_in}
-use Rattle.trio_session.specs.Seen.{SessionSeen, block_number, chain_in, every_number, place_of, slots_shown}
-use Rattle.trio_session.specs.inner.Made.{dir_numbers, has_names}
-use Rattle.trio_session.specs.inner.Places.{number_at}
-use Rattle.trio_session.specs.declared.indexes.IndexedDir.{IndexedDir}
 use Rattle.trio_session.proofs.Found.{position-same, slice_get-found}
 use Rattle.trio_session.proofs.Indexed.{open_shown}
 use Rattle.trio_session.proofs.Kept.{kept_filled, map_set, slot_on-entry_on}

@@ -1,8 +1,5 @@
-use Rattle.std.proofs.Common.{◌≤◌, Result, Ok, Err, OnOk, refl, subst}
-use Rattle.trio_lists.specs.Lists.{In}
-use Rattle.trio_session.specs.Seen.{SessionSeen}
-use Rattle.std.specs.List.{filter}
-use Rattle.trio_session.specs.inner.Made.{dir_numbers, has_names, has_slots}
+use Rattle.trio_session.proofs.Words.{◌≤◌, Err, In, Ok, OnOk, SessionSeen, dir_numbers, filter, has_names, has_slots, refl, subst}
+use Rattle.std.proofs.Common.{Result}
 use Rattle.trio_session.proofs.Insides.{files_in}
 use Rattle.trio_session.proofs.Opens.{is_there, shows_view}
 use Rattle.trio_session.proofs.Reserved.{dirs_reserved, names_enough, names_roomier, numbers_roomier, slots_enough, slots_roomier}

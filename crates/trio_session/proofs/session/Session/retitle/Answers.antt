@@ -1,20 +1,6 @@
-use Rattle.std.proofs.Common.{◌≡◌, ◌<◌, ◌*◌, ◌+◌, ℕ, Bool, eqb, List, Option, None, Some, length, ap, refl, subst, sym, ◌∙◌}
-use Rattle.std.specs.Prelude.{slice_get}
-use Rattle.std.specs.List.{position}
-use Rattle.std.specs.Option.{is_some, option_map_or}
-use Rattle.std.specs.Vec.{with_item}
-use Rattle.trio_lists.specs.Lists.{In}
-use Rattle.trio_page.specs.Field.{with_part}
-use Rattle.trio_layout.specs.Slot.{entry_bytes}
-use Rattle.trio_layout.specs.declared.slot.EntryPart.{EntryPart}
-use Rattle.trio_auxdir.specs.declared.place.Place.{Place}
+use Rattle.trio_session.proofs.Words.{◌*◌, ◌+◌, ◌<◌, ◌∙◌, ◌≡◌, Bool, EntryPart, In, IndexedDir, List, None, Option, Place, SessionSeen, Some, ap, block_number, entry_bytes, entry_shown, eqb, has_names, is_some, length, number_at, option_map_or, page_in, place_at_name, place_of, place_shown, position, refl, renamed, retitled, slice_get, slots_shown, subst, sym, with_item, with_part, with_slot, ℕ}
 use Rattle.trio_auxdir.specs.Directory.{Directory as Index}
-use Rattle.trio_auxdir.specs.Places.{place_of as place_at_name, with_slot}
-use Rattle.trio_session.specs.Layout.{page_in, retitled}
-use Rattle.trio_session.specs.Seen.{SessionSeen, block_number, entry_shown, place_of, place_shown, renamed, retitle, slots_shown}
-use Rattle.trio_session.specs.inner.Made.{has_names}
-use Rattle.trio_session.specs.inner.Places.{number_at}
-use Rattle.trio_session.specs.declared.indexes.IndexedDir.{IndexedDir}
+use Rattle.trio_session.specs.Seen.{retitle}
 use Rattle.trio_session.specs.contracts.session.Session.{the_view}
 use Rattle.trio_session.proofs.Found.{position-same, slice_get-found}
 use Rattle.trio_session.proofs.Indexed.{open_shown}

@@ -1,9 +1,4 @@
-use Rattle.std.proofs.Common.{◌≡◌, ◌||◌, Bool, true, false, eqb, List, ap, refl, subst, sym, ◌∙◌}
-use Rattle.std.specs.List.{find, position}
-use Rattle.std.specs.Option.{is_some, option_copied, option_map}
-use Rattle.trio_lease.specs.declared.parts.HoldParts.{HoldParts}
-use Rattle.trio_session.specs.Seen.{serves}
-use Rattle.trio_session.specs.declared.made.Made.{Made}
+use Rattle.trio_session.proofs.Words.{◌||◌, ◌∙◌, ◌≡◌, Bool, HoldParts, List, Made, ap, eqb, false, find, is_some, option_copied, option_map, position, refl, serves, subst, sym, true}
 use Rattle.trio_session.proofs.Insides.{files_in, view_shows}
 use Rattle.trio_session.proofs.Seeing.{Shows, is_some-copied, serves_held, serves_made}
 use Rattle.trio_session.proofs.session.Session.serves.Goals as goal

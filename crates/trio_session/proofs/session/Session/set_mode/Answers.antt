@@ -1,16 +1,10 @@
-use Rattle.std.proofs.Common.{◌≡◌, Vec, Global, List, Some, Err, length, sym, refl, ap, ◌∙◌, subst, arith}
-use Rattle.std.specs.Prelude.{map}
-use Rattle.trio_lease.specs.Shown.{Shown}
-use Rattle.trio_lease.specs.declared.read.ReadLease.{ReadLease}
-use Rattle.trio_desk.specs.Out.{Parcel}
-use Rattle.trio_desk.specs.Edits.{nothing}
-use Rattle.trio_desk.specs.Call.{ModeSet, NotModeSet, SeenAfter, SetMode, TellsHolder}
+use Rattle.trio_session.proofs.Words.{◌∙◌, ◌≡◌, Err, Global, IsOn, List, ModeSet, NotModeSet, Parcel, ReadLease, SeenAfter, SessionSeen, SetMode, Shown, Some, ap, arith, dir_numbers, emptied, length, made_seen, map, nothing, refl, subst, sym}
+use Rattle.std.proofs.Common.{Vec}
+use Rattle.trio_desk.specs.Call.{TellsHolder}
 use Rattle.trio_desk.specs.Calls.{Made}
 use Rattle.trio_desk.specs.Ready.{IsChmod}
 use Rattle.trio_desk.specs.Refusals.{TellsCause}
-use Rattle.trio_session.specs.Seen.{SessionSeen, IsOn, emptied}
 use Rattle.trio_session.specs.contracts.session.Session.{the_view}
-use Rattle.trio_session.specs.inner.Made.{dir_numbers, made_seen}
 use Rattle.trio_session.proofs.Desks.{empty_now, on_moded, on_still}
 use Rattle.trio_session.proofs.session.Session.set_mode.Goals as goal
 use Rattle.trio_session.proofs.session.Session.set_mode.Goals.{After-set_mode}

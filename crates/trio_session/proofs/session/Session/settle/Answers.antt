@@ -1,14 +1,10 @@
-use Rattle.std.proofs.Common.{◌≡◌, Vec, Global, Ok, sym, refl, ap, ◌∙◌, subst}
-use Rattle.std.specs.Prelude.{length, map}
+use Rattle.trio_session.proofs.Words.{◌∙◌, ◌≡◌, Global, IsOn, NotSettled, Ok, ReadLease, SeenAfter, SessionSeen, Settle, Settled, ap, dir_numbers, made_seen, map, parcel_of, refl, subst, sym}
+use Rattle.std.proofs.Common.{Vec}
+use Rattle.std.specs.Prelude.{length}
 use Rattle.trio_lease.specs.Bundles.{Bundled}
-use Rattle.trio_lease.specs.declared.read.ReadLease.{ReadLease}
 use Rattle.trio_nodes.specs.declared.call.Done.{Done}
-use Rattle.trio_desk.specs.Out.{parcel_of}
-use Rattle.trio_desk.specs.Call.{SeenAfter, Settle, Settled, NotSettled}
 use Rattle.trio_desk.specs.Calls.{Made}
-use Rattle.trio_session.specs.Seen.{SessionSeen, IsOn}
 use Rattle.trio_session.specs.contracts.session.Session.{the_view}
-use Rattle.trio_session.specs.inner.Made.{dir_numbers, made_seen}
 use Rattle.trio_session.proofs.Desks.{on_still, empty_now}
 use Rattle.trio_session.proofs.session.Session.settle.Goals as goal
 use Rattle.trio_session.proofs.session.Session.settle.Goals.{After-settle}

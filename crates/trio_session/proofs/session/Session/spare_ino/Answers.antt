@@ -1,13 +1,4 @@
-use Rattle.std.proofs.Common.{◌≡◌, ◌<◌, ◌≤◌, ◌+◌, Bool, List, ap, arith, false, ℕ, eqb, get_or, length, subst, sym, true, ◌∙◌}
-use Rattle.std.specs.List.{position}
-use Rattle.std.specs.Option.{is_some, option_map_or}
-use Rattle.std.specs.Prelude.{if◌then◌else◌, slice_get}
-use Rattle.std.proofs.lemmas.List.{length-map}
-use Rattle.trio_lease.specs.declared.parts.InoParts.{InoParts}
-use Rattle.trio_lists.specs.Lists.{is_among}
-use Rattle.trio_desk.specs.Out.{ino_numbers}
-use Rattle.trio_session.specs.declared.made.Made.{Made}
-use Rattle.trio_session.specs.Seen.{SessionSeen, lower, used_numbers}
+use Rattle.trio_session.proofs.Words.{if◌then◌else◌, ◌+◌, ◌<◌, ◌∙◌, ◌≡◌, ◌≤◌, Bool, InoParts, List, Made, SessionSeen, ap, arith, eqb, false, get_or, ino_numbers, is_among, is_some, length, length-map, lower, option_map_or, position, slice_get, subst, sym, true, used_numbers, ℕ}
 use Rattle.trio_session.proofs.Found.{ino_number, is_some-at, spare_step}
 use Rattle.trio_session.proofs.Insides.{files_in, view_shows}
 use Rattle.trio_session.proofs.Seeing.{Shows, used-cleared, used-made}

@@ -1,9 +1,5 @@
-use Rattle.std.proofs.Common.{◌≡◌, ◌+◌, ◌≤◌, drop}
-use Rattle.std.specs.Prelude.{not}
-use Rattle.std.specs.List.{filter}
-use Rattle.trio_lists.specs.Lists.{is_among}
-use Rattle.trio_desk.specs.Out.{ino_numbers}
-use Rattle.trio_session.specs.Seen.{lowest_from, spare_number, used_numbers}
+use Rattle.trio_session.proofs.Words.{◌+◌, ◌≡◌, ◌≤◌, drop, filter, ino_numbers, is_among, lowest_from, not, used_numbers}
+use Rattle.trio_session.specs.Seen.{spare_number}
 use Rattle.trio_session.proofs.session.Session.spare_ino.Given as goal
 
 -- the lowest spare one of those that are left and the one so far is the lowest of all

@@ -1,22 +1,13 @@
-use Rattle.std.proofs.Common.{◌≡◌, ◌≤◌, ◌<◌, ap, sym, refl, ◌∙◌, subst, length, arith}
-use Rattle.std.proofs.lemmas.List.{length-append}
-use Rattle.trio_lease.specs.Bundles.{bundled}
-use Rattle.trio_lists.specs.Lists.{In}
-use Rattle.trio_desk.specs.Out.{Parcel, parcel_of, page_numbers, ino_numbers}
-use Rattle.trio_session.specs.Seen.{SessionSeen, IsOn, has_out}
-use Rattle.trio_session.specs.inner.Places.{AreApart}
-use Rattle.trio_session.specs.inner.Made.{AreDirs, AreMade}
-use Rattle.trio_session.specs.inner.Inside.{AreLaid}
-use Rattle.trio_session.specs.inner.Giving.{Allots, Gave, Refused, Unasked, with_given}
-use Rattle.std.specs.Prelude.{◌+◌, vec_capacity}
+use Rattle.trio_session.proofs.Words.{◌<◌, ◌∙◌, ◌≡◌, ◌≤◌, Allot, AreApart, AreDirs, AreLaid, AreMade, Gave, Given, In, IsOn, NotGiven, NotMade, OneCall, Parcel, Refused, SessionSeen, ap, arith, bundled, has_out, ino_numbers, length, length-append, page_numbers, parcel_of, refl, subst, sym, vec_capacity, with_given}
+use Rattle.trio_session.specs.inner.Giving.{Allots, Unasked}
+use Rattle.std.specs.Prelude.{◌+◌}
 use Rattle.trio_session.proofs.Allotted.{kept_given, view_given}
 use Rattle.trio_session.proofs.Kept.{files_of}
 use Rattle.trio_session.proofs.Wants.{given_apart, given_laid, given_view, given_on}
 use Rattle.trio_session.proofs.Desks.{on_still}
 use Rattle.trio_session.specs.contracts.session.Session.{the_view}
 use Rattle.trio_session.specs.Asked.{AfterWant, NoWant, TellsAllotment}
-use Rattle.trio_desk.specs.Call.{Allot, Given, NotGiven}
-use Rattle.trio_desk.specs.Calls.{OneCall, Made, NotMade}
+use Rattle.trio_desk.specs.Calls.{Made}
 use Rattle.trio_session.proofs.session.Session.want.Goals as goal
 use Rattle.trio_session.proofs.session.Session.want.Given.{Over}
 

@@ -1,9 +1,5 @@
-use Rattle.std.proofs.Common.{◌≡◌, ℕ, List, length, ◌∙◌, sym, ap, subst}
+use Rattle.trio_session.proofs.Words.{◌∙◌, ◌≡◌, AreApart, InSlot, List, ap, body_in_slot, is_some, length, shown_at, subst, sym, ℕ}
 use Rattle.std.specs.Prelude.{IsTrue}
-use Rattle.std.specs.Option.{is_some}
-use Rattle.trio_layout.specs.Entries.{body_in_slot}
-use Rattle.trio_session.specs.inner.Places.{AreApart, shown_at}
-use Rattle.trio_session.specs.declared.laid.FilePlace.TheVariants.{InSlot}
 use Rattle.trio_session.proofs.Places.{body_at-InSlot}
 use Rattle.trio_session.proofs.stock.Stock.body.Goals as goal
 

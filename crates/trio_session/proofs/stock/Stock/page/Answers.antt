@@ -1,10 +1,5 @@
-use Rattle.std.proofs.Common.{◌∙◌, sym, subst}
+use Rattle.trio_session.proofs.Words.{◌∙◌, Block, Fresh, Index, Parcel, bundled, is_some, parcel_of, sheet_at, subst, sym}
 use Rattle.std.specs.Prelude.{IsTrue}
-use Rattle.std.specs.Option.{is_some}
-use Rattle.trio_lease.specs.Bundles.{bundled}
-use Rattle.trio_desk.specs.Out.{Parcel, parcel_of}
-use Rattle.trio_session.specs.inner.Places.{sheet_at}
-use Rattle.trio_session.specs.declared.laid.PagePlace.TheVariants.{Index, Block, Fresh}
 use Rattle.trio_session.proofs.Places.{index_read, block_read, fresh_read}
 use Rattle.trio_session.proofs.stock.Stock.page.Goals as goal
 

@@ -1,10 +1,5 @@
-use Rattle.std.proofs.Common.{◌≡◌, ℕ, ◌+◌, ◌*◌, ◌∙◌, List, length, sym, ap, subst}
+use Rattle.trio_session.proofs.Words.{◌*◌, ◌+◌, ◌∙◌, ◌≡◌, AreApart, InSlot, Leased, List, ap, body_at, is_some, length, number_at, page_in, shown_at, subst, sym, with_part, ℕ}
 use Rattle.std.specs.Prelude.{IsTrue}
-use Rattle.std.specs.Option.{is_some}
-use Rattle.trio_page.specs.Field.{with_part}
-use Rattle.trio_session.specs.Layout.{page_in}
-use Rattle.trio_session.specs.inner.Places.{AreApart, body_at, number_at, shown_at}
-use Rattle.trio_session.specs.declared.laid.FilePlace.TheVariants.{InSlot, Leased}
 use Rattle.trio_session.proofs.Stays.{body_stays}
 use Rattle.trio_session.proofs.SlotEdits.{body_at-written}
 use Rattle.trio_session.proofs.stock.Stock.put_body.Goals as goal

@@ -1,12 +1,5 @@
-use Rattle.std.proofs.Common.{sym, subst}
+use Rattle.trio_session.proofs.Words.{AreApart, Fresh, Parcel, bundled, is_some, number_at, page_in, parcel_of, sheet_at, subst, sym, with_part}
 use Rattle.std.specs.Prelude.{IsTrue}
-use Rattle.std.specs.Option.{is_some}
-use Rattle.trio_page.specs.Field.{with_part}
-use Rattle.trio_lease.specs.Bundles.{bundled}
-use Rattle.trio_desk.specs.Out.{Parcel, parcel_of}
-use Rattle.trio_session.specs.Layout.{page_in}
-use Rattle.trio_session.specs.inner.Places.{AreApart, number_at, sheet_at}
-use Rattle.trio_session.specs.declared.laid.PagePlace.TheVariants.{Fresh}
 use Rattle.trio_session.proofs.Places.{put_fresh, apart_stays}
 use Rattle.trio_session.proofs.stock.Stock.put_fresh.Goals as goal
 

@@ -1,8 +1,4 @@
-use Rattle.std.proofs.Common.{◌<◌, ◌∙◌, length, sym, subst, ap}
-use Rattle.trio_lease.specs.Bundles.{bundled}
-use Rattle.trio_desk.specs.Out.{Parcel, parcel_of}
-use Rattle.trio_lease.specs.Shown.{LentFile}
-use Rattle.trio_session.specs.inner.Places.{AreApart, ino_at}
+use Rattle.trio_session.proofs.Words.{◌<◌, ◌∙◌, AreApart, LentFile, Parcel, ap, bundled, ino_at, length, parcel_of, subst, sym}
 use Rattle.trio_session.proofs.Places.{body_put, body_set, body_others, apart_body}
 use Rattle.trio_session.proofs.stock.Stock.put_lent_body.Goals as goal
 

@@ -1,7 +1,5 @@
-use Rattle.std.proofs.Common.{ap, ◌∙◌}
-use Rattle.trio_page.specs.Field.{with_number, with_part}
-use Rattle.trio_session.specs.Layout.{page_in, with_page}
-use Rattle.trio_session.specs.inner.Places.{number_at}
+use Rattle.trio_session.proofs.Words.{◌∙◌, ap, number_at, page_in, with_page, with_part}
+use Rattle.trio_page.specs.Field.{with_number}
 use Rattle.trio_session.proofs.stock.Stock.put_number.Goals as goal
 
 pub returns : goal.returns

@@ -1,9 +1,6 @@
-use Rattle.std.proofs.Common.{◌∙◌, IfOk, ap, subst, sym}
-use Rattle.trio_desk.specs.Call.{Allot, DeskSeen, allot_told}
+use Rattle.trio_shared.proofs.Words.{◌∙◌, DeskSeen, Grows, IfOk, LibNo, ap, seated, subst, sym}
+use Rattle.trio_desk.specs.Call.{Allot, allot_told}
 use Rattle.trio_desk.specs.Out.{IsFreshAllotment}
-use Rattle.trio_rights.specs.declared.rights.LibNo.{LibNo}
-use Rattle.trio_shared.specs.Seats.{seated}
-use Rattle.trio_shared.specs.inner.Found.{Grows}
 use Rattle.trio_shared.proofs.Grown.{called, desk_before, grew, is_idle, is_library, seen_after, stays_idle}
 use Rattle.trio_shared.proofs.Seats.{numbered, saw, still_seat, same_seat}
 use Rattle.trio_shared.proofs.cell.Shared.allot.Goals as goal

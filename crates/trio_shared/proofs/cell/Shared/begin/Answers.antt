@@ -1,14 +1,4 @@
-use Rattle.std.proofs.Common.{◌∙◌, None, ap, refl, subst, sym}
-use Rattle.trio_desk.specs.Call.{DeskSeen}
-use Rattle.trio_desk.specs.Out.{WasGiven, parcel_of}
-use Rattle.trio_lease.specs.Views.{bundle_in}
-use Rattle.trio_rights.specs.declared.rights.LibNo.{LibNo}
-use Rattle.trio_state.specs.State.{State}
-use Rattle.trio_ctl.specs.Answers.{begin_answer}
-use Rattle.trio_ctl.specs.Ctl.{Controller}
-use Rattle.trio_shared.specs.Moves.{TellsBeginning, TellsWhetherClosed, mark_at}
-use Rattle.trio_shared.specs.Seats.{library_of, seated}
-use Rattle.trio_shared.specs.inner.Found.{Grows}
+use Rattle.trio_shared.proofs.Words.{◌∙◌, Controller, DeskSeen, Grows, LibNo, None, State, TellsBeginning, TellsWhetherClosed, WasGiven, ap, begin_answer, bundle_in, library_of, mark_at, parcel_of, refl, seated, subst, sym}
 use Rattle.trio_shared.proofs.Grown.{desk_before, desk_same, is_idle, is_library, looked}
 use Rattle.trio_shared.proofs.TwoMoves.{begin_grows, begun_now, begun_seat, tells_beginning}
 use Rattle.trio_shared.proofs.Seats.{numbered, same_seat, saw, still_seat}

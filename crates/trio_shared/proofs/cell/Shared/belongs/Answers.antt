@@ -1,9 +1,5 @@
-use Rattle.std.proofs.Common.{◌∙◌, IsTrue, ap, refl, subst}
+use Rattle.trio_shared.proofs.Words.{◌∙◌, Belongs, IsTrue, LibNo, State, ap, library_of, refl, seated, subst}
 use Rattle.std.specs.Prelude.{◌↔◌}
-use Rattle.trio_rights.specs.declared.rights.LibNo.{LibNo}
-use Rattle.trio_state.specs.State.{State}
-use Rattle.trio_ctl.specs.Belonging.{Belongs}
-use Rattle.trio_shared.specs.Seats.{library_of, seated}
 use Rattle.trio_shared.proofs.Grown.{desk_same, grew_none, is_library, looked, stays_idle}
 use Rattle.trio_shared.proofs.Seats.{numbered, same_seat, saw, still_seat}
 use Rattle.trio_shared.proofs.cell.Shared.belongs.Goals as goal

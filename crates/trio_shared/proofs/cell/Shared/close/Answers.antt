@@ -1,10 +1,6 @@
-use Rattle.std.proofs.Common.{◌≡◌, ℕ, [], subst, sym}
+use Rattle.trio_shared.proofs.Words.{◌≡◌, Controller, IsLibrary, [], made_by, origin_of, subst, sym, ℕ}
 use mathlib.Core.List.{IsPrefix}
-use Rattle.trio_state.specs.State.{IsLibrary}
-use Rattle.trio_turn.specs.Logs.{made_by}
 use Rattle.trio_turn.specs.Seats.{OfEach, first, seen}
-use Rattle.trio_ctl.specs.Ctl.{Controller}
-use Rattle.trio_shared.specs.Left.{origin_of}
 use Rattle.trio_shared.proofs.Left.{no_other}
 use Rattle.trio_shared.proofs.cell.Shared.close.Goals as goal
 

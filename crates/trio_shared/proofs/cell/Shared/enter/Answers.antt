@@ -1,7 +1,4 @@
-use Rattle.std.proofs.Common.{◌≤◌, length, subst, sym}
-use Rattle.trio_turn.specs.Origins.{Origin}
-use Rattle.trio_turn.specs.Seats.{library}
-use Rattle.trio_shared.specs.Seats.{seated}
+use Rattle.trio_shared.proofs.Words.{◌≤◌, Origin, length, library, seated, subst, sym}
 use Rattle.trio_shared.proofs.Grown.{found}
 use Rattle.trio_shared.proofs.cell.Shared.enter.Goals as goal
 

@@ -1,11 +1,4 @@
-use Rattle.std.proofs.Common.{◌∙◌, ap, subst, sym}
-use Rattle.trio_desk.specs.Call.{DeskSeen}
-use Rattle.trio_rights.specs.declared.rights.LibNo.{LibNo}
-use Rattle.trio_shared.specs.Seats.{library_of, seated}
-use Rattle.trio_entries.specs.Handed.{handed_in}
-use Rattle.trio_ctl.specs.HandedIn.{AreMarked}
-use Rattle.trio_shared.specs.inner.Found.{Grows}
-use Rattle.trio_shared.specs.Begun.{marked}
+use Rattle.trio_shared.proofs.Words.{◌∙◌, AreMarked, DeskSeen, Grows, LibNo, ap, handed_in, library_of, marked, seated, subst, sym}
 use Rattle.trio_shared.proofs.Grown.{is_library}
 use Rattle.trio_shared.proofs.Belongs.{marked_then}
 use Rattle.trio_shared.proofs.Finish.{begun_end, desk_end, ended_all, grows_end, idle_all, looked_end}

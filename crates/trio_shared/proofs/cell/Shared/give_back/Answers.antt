@@ -1,9 +1,5 @@
-use Rattle.std.proofs.Common.{◌∙◌, ap, subst, sym}
-use Rattle.trio_desk.specs.Call.{DeskSeen, Done, GiveBack}
-use Rattle.trio_lists.specs.Lists.{In}
-use Rattle.trio_rights.specs.declared.rights.LibNo.{LibNo}
-use Rattle.trio_shared.specs.Seats.{seated}
-use Rattle.trio_shared.specs.inner.Found.{Grows}
+use Rattle.trio_shared.proofs.Words.{◌∙◌, DeskSeen, GiveBack, Grows, In, LibNo, ap, seated, subst, sym}
+use Rattle.trio_desk.specs.Call.{Done}
 use Rattle.trio_shared.proofs.Grown.{called, desk_before, grew, is_idle, is_library, seen_after, stays_idle}
 use Rattle.trio_shared.proofs.Seats.{numbered, saw, still_seat, same_seat}
 use Rattle.trio_shared.proofs.cell.Shared.give_back.Goals as goal

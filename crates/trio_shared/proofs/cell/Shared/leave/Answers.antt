@@ -1,9 +1,6 @@
-use Rattle.std.proofs.Common.{◌≡◌, ◌≢◌, ℕ, IsSome, IfSome, Option, refl, subst, sym}
+use Rattle.trio_shared.proofs.Words.{◌≡◌, Controller, IfSome, Option, library, marked, origin_of, refl, subst, sym, ℕ}
+use Rattle.std.proofs.Common.{◌≢◌, IsSome}
 use Rattle.trio_turn.specs.Logs.{GrewBy}
-use Rattle.trio_turn.specs.Seats.{library}
-use Rattle.trio_ctl.specs.Ctl.{Controller}
-use Rattle.trio_shared.specs.Begun.{marked}
-use Rattle.trio_shared.specs.Left.{origin_of}
 use Rattle.trio_shared.proofs.cell.Shared.leave.Goals as goal
 
 pub give-requires-clause-has : goal.give-requires-clause-has

@@ -1,7 +1,4 @@
-use Rattle.std.proofs.Common.{◌∙◌, refl}
-use Rattle.std.specs.Prelude.{⊤}
-use Rattle.trio_state.specs.State.{State}
-use Rattle.trio_shared.specs.Seats.{library_of, seated}
+use Rattle.trio_shared.proofs.Words.{◌∙◌, State, library_of, refl, seated, ⊤}
 use Rattle.trio_shared.proofs.Grown.{desk_same, grew_none, looked, stays_idle}
 use Rattle.trio_shared.proofs.Seats.{same_seat, saw, still_seat}
 use Rattle.trio_shared.proofs.cell.Shared.make_room.Goals as goal

@@ -1,5 +1,4 @@
-use Rattle.std.proofs.Common.{ap}
-use Rattle.trio_shared.specs.Seats.{seated}
+use Rattle.trio_shared.proofs.Words.{ap, seated}
 use Rattle.trio_shared.proofs.Grown.{desk_stays}
 use Rattle.trio_shared.proofs.Seats.{numbered}
 use Rattle.trio_shared.proofs.cell.Shared.meet.Goals as goal

@@ -1,4 +1,4 @@
-use Rattle.trio_shared.specs.Seats.{seated}
+use Rattle.trio_shared.proofs.Words.{seated}
 use Rattle.trio_shared.proofs.Releases.{as_weighed, awaited, call_back, may_end, one_call, seen_one}
 use Rattle.trio_shared.proofs.cell.Shared.release.Goals as goal
 

@@ -1,9 +1,4 @@
-use Rattle.std.proofs.Common.{◌∙◌, ap, refl, sym}
-use Rattle.std.specs.Prelude.{⊤}
-use Rattle.trio_state.specs.State.{State}
-use Rattle.trio_shared.specs.Seats.{library_of, seated}
-use Rattle.trio_lease.specs.Views.{bundle_in}
-use Rattle.trio_desk.specs.Call.{DeskSeen}
+use Rattle.trio_shared.proofs.Words.{◌∙◌, DeskSeen, State, ap, bundle_in, library_of, refl, seated, sym, ⊤}
 use Rattle.trio_shared.proofs.Belongs.{belongs_then, room_of}
 use Rattle.trio_shared.proofs.Left.{desk_is_left}
 use Rattle.trio_shared.proofs.Grown.{desk_same, grew_none, looked, stays_idle}

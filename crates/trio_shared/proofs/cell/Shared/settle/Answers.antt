@@ -1,10 +1,6 @@
-use Rattle.std.proofs.Common.{◌∙◌, ap, subst, sym}
-use Rattle.trio_desk.specs.Call.{DeskSeen, Settle, settle_told}
-use Rattle.trio_desk.specs.Out.{parcel_of}
+use Rattle.trio_shared.proofs.Words.{◌∙◌, DeskSeen, Grows, LibNo, Settle, ap, parcel_of, seated, subst, sym}
+use Rattle.trio_desk.specs.Call.{settle_told}
 use Rattle.trio_desk.specs.Ready.{Ready}
-use Rattle.trio_rights.specs.declared.rights.LibNo.{LibNo}
-use Rattle.trio_shared.specs.Seats.{seated}
-use Rattle.trio_shared.specs.inner.Found.{Grows}
 use Rattle.trio_shared.proofs.Grown.{called, desk_before, grew, is_idle, is_library, seen_after, stays_idle}
 use Rattle.trio_shared.proofs.Seats.{numbered, saw, still_seat, same_seat}
 use Rattle.trio_shared.proofs.cell.Shared.settle.Goals as goal

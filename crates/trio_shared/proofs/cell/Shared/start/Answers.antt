@@ -1,4 +1,4 @@
-use Rattle.std.proofs.Common.{◌∙◌}
+use Rattle.trio_shared.proofs.Words.{◌∙◌}
 use Rattle.trio_shared.proofs.Seats.{starts}
 use Rattle.trio_shared.proofs.cell.Shared.start.Goals as goal
 

@@ -1,14 +1,6 @@
-use Rattle.std.proofs.Common.{subst, sym}
-use Rattle.trio_desk.specs.Out.{parcel_of}
-use Rattle.trio_lease.specs.Views.{bundle_in}
+use Rattle.trio_shared.proofs.Words.{Acts, Begin, Controller, TellsWhetherClosed, begin_answer, bundle_in, given_to, out_of, parcel_of, subst, sym, underway_of, were_held}
 use Rattle.trio_state.specs.Given.{GivenTo}
-use Rattle.trio_state.specs.Moves.{Acts, Begin}
-use Rattle.trio_ctl.specs.Answers.{begin_answer}
-use Rattle.trio_ctl.specs.Ctl.{Controller, underway_of}
-use Rattle.trio_ctl.specs.Desk.{out_of}
 use Rattle.trio_ctl.specs.HandedIn.{WereHeld}
-use Rattle.trio_ctl.proofs.DeskGiven.{given_to, were_held}
-use Rattle.trio_shared.specs.Moves.{TellsWhetherClosed}
 use Rattle.trio_shared.proofs.TwoMoves.{tells_beginning, whether_closed}
 use Rattle.trio_shared.proofs.held.Held.begin.Goals as goal
 

@@ -1,15 +1,5 @@
-use Rattle.std.proofs.Common.{rules, ◌≡◌, ◌++◌, ◌∙◌, ap, subst, sym}
-use Rattle.trio_rights.specs.declared.rights.LibNo.{LibNo}
-use Rattle.trio_lease.specs.Views.{bundle_in}
-use Rattle.trio_case.specs.Cases.{case_in as case_shown}
-use Rattle.trio_state.specs.Moves.{Acts, Answered, End, IsAwaited}
-use Rattle.trio_state.specs.Step.{Release}
-use Rattle.trio_ctl.specs.Answers.{verdict_of}
-use Rattle.trio_ctl.specs.Ctl.{Controller, underway_of}
-use Rattle.trio_entries.specs.Handed.{handed_in}
-use Rattle.trio_ctl.specs.HandedIn.{AreMarked}
-use Rattle.trio_ctl.specs.Logged.{entries_made, with_bundle}
-use Rattle.trio_shared.specs.inner.Found.{EndsHere}
+use Rattle.trio_shared.proofs.Words.{◌++◌, ◌∙◌, ◌≡◌, Acts, Answered, AreMarked, Controller, End, EndsHere, IsAwaited, LibNo, Release, ap, bundle_in, case_shown, entries_made, handed_in, subst, sym, underway_of, verdict_of, with_bundle}
+use Rattle.std.proofs.Common.{rules}
 use Rattle.trio_shared.proofs.held.Held.finish.Goals as goal
 
 pub finish-requires-clause-marked : goal.finish-requires-clause-marked

@@ -1,9 +1,4 @@
-use Rattle.std.proofs.Common.{◌≡◌, ◌∙◌, ◌-◌, ◌++◌, ◌∷◌, ◌≤◌, [], get_or, drop, take, map, length, vec_len, ap, sym, subst, refl, arith}
-use Rattle.std.proofs.lemmas.List.{length-drop, take_all}
-use Rattle.std.proofs.lemmas.Option.{get_or_from_slice_get, slice_get_within}
-use Rattle.trio_survey.specs.Seen.{listed_seen}
-use Rattle.trio_survey.specs.declared.blocks.DirEntry.{DirEntry}
-use Rattle.trio_survey.specs.inner.Blocks.{entry_seen, AreNamed}
+use Rattle.trio_survey.proofs.Words.{◌++◌, ◌-◌, ◌∙◌, ◌∷◌, ◌≡◌, ◌≤◌, AreNamed, DirEntry, [], ap, arith, drop, entry_seen, get_or, get_or_from_slice_get, length, length-drop, listed_seen, map, refl, slice_get_within, subst, sym, take, take_all, vec_len}
 use Rattle.trio_survey.proofs.KeptLists.{entry_added, front_push, front_trans, name_added, read_more}
 use Rattle.trio_survey.proofs.blocks.KeptBlocks.add.Goals as goal
 

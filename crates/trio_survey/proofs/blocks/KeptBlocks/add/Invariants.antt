@@ -1,6 +1,4 @@
-use Rattle.std.proofs.Common.{◌≡◌, ◌+◌, drop, map, take, vec_len}
-use Rattle.trio_survey.specs.Seen.{listed_seen}
-use Rattle.trio_survey.specs.inner.Blocks.{entry_seen, AreNamed, GoesOn}
+use Rattle.trio_survey.proofs.Words.{◌+◌, ◌≡◌, AreNamed, GoesOn, drop, entry_seen, listed_seen, map, take, vec_len}
 use Rattle.trio_survey.proofs.blocks.KeptBlocks.add.Given as goal
 
 abbrev pub invariant-loop-listed : goal.invariant-loop-listed

@@ -1,8 +1,4 @@
-use Rattle.std.proofs.Common.{◌≡◌, ◌∙◌, ◌++◌, ◌∷◌, ◌<◌, ℕ, List, [], get_or, length, map, take, ap, arith, append_assoc, sym}
-use Rattle.std.proofs.lemmas.List.{get_or_read, map_push}
-use Rattle.trio_layout.specs.Entries.{Listed}
-use Rattle.trio_survey.specs.Seen.{listed_seen}
-use Rattle.trio_survey.specs.inner.Blocks.{entry_seen}
+use Rattle.trio_survey.proofs.Words.{◌++◌, ◌<◌, ◌∙◌, ◌∷◌, ◌≡◌, List, Listed, [], ap, append_assoc, arith, entry_seen, get_or, get_or_read, length, listed_seen, map, map_push, sym, take, ℕ}
 use Rattle.trio_survey.proofs.Naming.{IsAt, is_in, taken}
 use Rattle.trio_survey.proofs.blocks.KeptBlocks.add_listed.Goals as goal
 

@@ -1,6 +1,4 @@
-use Rattle.std.proofs.Common.{◌≡◌, ◌++◌, map, take}
-use Rattle.trio_survey.specs.Seen.{listed_seen}
-use Rattle.trio_survey.specs.inner.Blocks.{entry_seen}
+use Rattle.trio_survey.proofs.Words.{◌++◌, ◌≡◌, entry_seen, listed_seen, map, take}
 use Rattle.trio_survey.proofs.blocks.KeptBlocks.add_listed.Given as goal
 
 abbrev pub invariant-loop-entry : goal.invariant-loop-entry

@@ -1,5 +1,4 @@
-use Rattle.std.proofs.Common.{rules, ◌≡◌, ◌+◌, ◌-◌, Some, Ok, arith}
-use Rattle.trio_survey.specs.inner.Blocks.{block_kept}
+use Rattle.trio_survey.proofs.Words.{◌+◌, ◌-◌, ◌≡◌, Ok, Some, arith, block_kept, rules}
 use Rattle.trio_survey.proofs.KeptBlocks.{kept_part}
 use Rattle.trio_survey.proofs.blocks.KeptBlocks.entries_of.Goals as goal
 

@@ -1,6 +1,4 @@
-use Rattle.std.proofs.Common.{◌≡◌, ◌∙◌, Ok, Err, map, ap, sym, refl}
-use Rattle.trio_layout.specs.Entries.{entries_on}
-use Rattle.trio_survey.specs.Seen.{core_with, listed_seen}
+use Rattle.trio_survey.proofs.Words.{◌∙◌, ◌≡◌, Err, Ok, ap, core_with, entries_on, listed_seen, map, refl, sym}
 use Rattle.trio_survey.proofs.Gathers.{both-nil_left, page_entries_is}
 use Rattle.trio_survey.proofs.KeptBlocks.{goes_nowhere, good_here, others_more, parts_after, parts_more, says_more}
 use Rattle.trio_survey.proofs.blocks.KeptBlocks.keep.Goals as goal

@@ -1,7 +1,4 @@
-use Rattle.std.proofs.Common.{◌≡◌, map, take}
-use Rattle.std.specs.List.{flat_map}
-use Rattle.trio_survey.specs.Seen.{listed_seen}
-use Rattle.trio_survey.specs.inner.Blocks.{entries_kept}
+use Rattle.trio_survey.proofs.Words.{◌≡◌, entries_kept, flat_map, listed_seen, map, take}
 use Rattle.trio_survey.proofs.blocks.KeptBlocks.listed.Given as goal
 
 abbrev pub invariant-loop-block : goal.invariant-loop-block

@@ -1,4 +1,4 @@
-use Rattle.std.proofs.Common.{◌∙◌, arith}
+use Rattle.trio_survey.proofs.Words.{◌∙◌, arith}
 use Rattle.trio_survey.proofs.KeptPages.{count_more, same_more}
 use Rattle.trio_survey.proofs.kept.KeptPages.reach.Goals as goal
 

@@ -1,5 +1,5 @@
-use Rattle.std.proofs.Common.{◌≡◌, ◌≤◌, ◌+◌, ◌-◌, ℕ, None, max, slice_index_or, vec_len}
-use Rattle.trio_survey.specs.inner.Kept.{kept_count}
+use Rattle.trio_survey.proofs.Words.{◌+◌, ◌-◌, ◌≡◌, ◌≤◌, None, kept_count, vec_len, ℕ}
+use Rattle.std.proofs.Common.{max, slice_index_or}
 use Rattle.trio_survey.proofs.kept.KeptPages.reach.Given as goal
 
 abbrev pub invariant-loop-self : goal.invariant-loop-self

@@ -1,8 +1,4 @@
-use Rattle.std.proofs.Common.{◌≡◌, ◌∙◌, ◌++◌, ◌∷◌, [], None, length, sym, ap, arith}
-use Rattle.std.specs.Prelude.{slice_get}
-use Rattle.std.specs.Ordering.{nat_cmp}
-use Rattle.std.specs.Cmp.Lexicographic.{slice_cmp}
-use Rattle.std.specs.BTreeMap.{get}
+use Rattle.trio_survey.proofs.Words.{◌++◌, ◌∙◌, ◌∷◌, ◌≡◌, None, [], ap, arith, get, length, nat_cmp, slice_cmp, slice_get, sym}
 use Rattle.trio_survey.proofs.Naming.{numbered_more, slice_last}
 use Rattle.trio_survey.proofs.names.KeptNames.add.Goals as goal
 

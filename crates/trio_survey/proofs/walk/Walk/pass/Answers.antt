@@ -1,12 +1,4 @@
-use Rattle.std.proofs.Common.{◌≡◌, ◌+◌, ◌<◌, ◌++◌, Err, Ok, map, get_or, length, take, sym, ap, ◌∙◌, arith, append_assoc}
-use Rattle.std.specs.List.{flat_map}
-use Rattle.std.proofs.lemmas.List.{get_or-map, length-map}
-use Rattle.trio_layout.specs.Survey.{file_of}
-use Rattle.trio_survey.specs.Picks.{pick_of}
-use Rattle.trio_survey.specs.Seen.{met_seen}
-use Rattle.trio_survey.specs.inner.Blocks.{entries_kept}
-use Rattle.trio_survey.specs.inner.Files.{file_kept, listing_blocks}
-use Rattle.trio_survey.specs.inner.Walk.{framed}
+use Rattle.trio_survey.proofs.Words.{◌++◌, ◌+◌, ◌<◌, ◌∙◌, ◌≡◌, Err, Ok, ap, append_assoc, arith, entries_kept, file_kept, file_of, flat_map, framed, get_or, get_or-map, length, length-map, listing_blocks, map, met_seen, pick_of, sym, take}
 use Rattle.trio_survey.proofs.Fits.{file_within}
 use Rattle.trio_survey.proofs.ListedAgain.{knows_more}
 use Rattle.trio_survey.proofs.Roots.{file_rootless}

@@ -1,7 +1,4 @@
-use Rattle.std.proofs.Common.{rules, ◌≡◌, ◌+◌, false, ◌∷◌, [], map, replicate}
-use Rattle.trio_layout.specs.Survey.{root_of}
-use Rattle.trio_survey.specs.Seen.{met_seen}
-use Rattle.trio_survey.specs.inner.Walk.{framed}
+use Rattle.trio_survey.proofs.Words.{◌+◌, ◌∷◌, ◌≡◌, [], false, framed, map, met_seen, replicate, root_of, rules}
 use Rattle.trio_survey.proofs.Beginning.{stands_first}
 use Rattle.trio_survey.proofs.ListedAgain.{knows_none}
 use Rattle.trio_survey.proofs.walk.Walk.start.Goals as goal

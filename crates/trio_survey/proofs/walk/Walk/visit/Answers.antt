@@ -1,9 +1,4 @@
-use Rattle.std.proofs.Common.{◌≡◌, ◌∙◌, ◌+◌, ◌<◌, map, get_or, length, sym, ap, subst, arith}
-use Rattle.std.proofs.lemmas.List.{get_or-map, length-map}
-use Rattle.trio_survey.specs.Picks.{pick_of}
-use Rattle.trio_survey.specs.Seen.{met_seen}
-use Rattle.trio_survey.specs.inner.Again.{heads_of, IsListedBefore}
-use Rattle.trio_survey.specs.inner.Walk.{framed, Stands}
+use Rattle.trio_survey.proofs.Words.{◌+◌, ◌<◌, ◌∙◌, ◌≡◌, IsListedBefore, Stands, ap, arith, framed, get_or, get_or-map, heads_of, length, length-map, map, met_seen, pick_of, subst, sym}
 use Rattle.trio_survey.proofs.ListedAgain.{knows_again, some_there, stands_again, tabled_again}
 use Rattle.trio_survey.proofs.Tables.{met_below, met_some}
 use Rattle.trio_survey.proofs.walk.Walk.visit.Goals as goal

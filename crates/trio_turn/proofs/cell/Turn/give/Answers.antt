@@ -1,4 +1,4 @@
-use Rattle.std.proofs.Common.{ap, ◌∙◌}
+use Rattle.trio_turn.proofs.Words.{◌∙◌, ap}
 use Rattle.trio_turn.specs.Seats.{has}
 use Rattle.trio_turn.proofs.Resting.{some_of, of_some, may_count, may_pass}
 use Rattle.trio_turn.proofs.cell.Turn.give.Goals as goal

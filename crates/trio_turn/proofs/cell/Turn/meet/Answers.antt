@@ -1,4 +1,4 @@
-use Rattle.std.proofs.Common.{rules, ap, ◌∙◌}
+use Rattle.trio_turn.proofs.Words.{◌∙◌, ap, rules}
 use Rattle.trio_turn.proofs.Parts.{copies, joins}
 use Rattle.trio_turn.proofs.Closing.{resting_live, resting_looks, meets}
 use Rattle.trio_turn.proofs.cell.Turn.meet.Goals as goal

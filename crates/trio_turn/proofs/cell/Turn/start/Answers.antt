@@ -1,6 +1,5 @@
-use Rattle.std.proofs.Common.{rules, arith, ◌≡◌, ◌+◌, ◌++◌, ◌∷◌, [], ◌∙◌, subst}
+use Rattle.trio_turn.proofs.Words.{◌++◌, ◌+◌, ◌∙◌, ◌∷◌, ◌≡◌, IsNew, [], arith, rules, subst}
 use Rattle.std.proofs.lemmas.Grind.{common_steps}
-use Rattle.trio_turn.specs.Seats.{IsNew}
 use Rattle.trio_turn.proofs.Closing.{new_more}
 use Rattle.trio_turn.proofs.cell.Turn.start.Goals as goal
 

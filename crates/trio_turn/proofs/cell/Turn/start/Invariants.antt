@@ -1,6 +1,5 @@
-use Rattle.std.proofs.Common.{◌≡◌, ◌+◌, ◌-◌, ◌≤◌, [], length, vec_capacity}
-use Rattle.trio_turn.specs.inner.Steps.{dealing}
-use Rattle.trio_turn.specs.Seats.{AllNew}
+use Rattle.trio_turn.proofs.Words.{◌+◌, ◌-◌, ◌≡◌, ◌≤◌, AllNew, [], dealing, length}
+use Rattle.std.proofs.Common.{vec_capacity}
 use Rattle.trio_turn.proofs.cell.Turn.start.Given as goal
 
 abbrev pub invariant-loop-k : goal.invariant-loop-k

@@ -1,6 +1,4 @@
-use Rattle.std.proofs.Common.{rules, Some, ◌∷◌, ap, ◌∙◌, sym}
-use Rattle.atomic_table.specs.Table.{rest}
-use Rattle.trio_turn.specs.declared.view.Stage.TheVariants.{Waiting}
+use Rattle.trio_turn.proofs.Words.{◌∙◌, ◌∷◌, Some, Waiting, ap, rest, rules, sym}
 use Rattle.trio_turn.proofs.Resting.{took}
 use Rattle.trio_turn.proofs.cell.Turn.take.Goals as goal
 
