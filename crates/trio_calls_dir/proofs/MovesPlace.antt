@@ -6,7 +6,7 @@ use Rattle.std.proofs.lemmas.Bool.{and_parts}
 use Rattle.trio_auxdir.specs.Places.{first_empty}
 use Rattle.trio_layout.specs.declared.slot.SlotRead.{SlotRead}
 use Rattle.trio_layout.specs.declared.slot.SlotRead.TheVariants.{Bad, Empty, Entry}
-use Rattle.trio_laws.specs.session.SlotEdits.{moved}
+use Rattle.trio_edit_laws.specs.session.SlotEdits.{moved}
 use Rattle.trio_session.specs.Seen.{block_shown, kept_chain}
 use Rattle.trio_edit_laws.specs.DirLaws.{AsHeld, AsMade, IsMoved, LeavesMoved}
 use Rattle.trio_edit_laws.proofs.Anew.{body-made}

@@ -1,7 +1,7 @@
 -- A file gets another name in its directory.
 use Rattle.trio_calls_dir.proofs.Words.{◌++◌, ◌<◌, ◌∙◌, ◌≡◌, ArePossible, Ask, Bool, Call, Changes, ComesBy, ComesTo, Creds, DeskSeen, DoesCall, Done, EntryPart, Err, Goes, InAllShown, IsAcross, IsAlike, IsDone, IsFound, IsFree, IsRename, IsReplied, IsTree, LacksMemory, List, MatchResult, MayCall, Met, Nodes, Ok, Option, Path, Place, Rename, Replied, Result, Row, SessionSeen, Some, StaysTree, Stop, Target, Told, [], alike_room, alike_then, allot_asks, ap, applied, asked, batch_nodes, both_dirs, cond, dir_of, done_is_tree, edited, eqb, false, grant_ask, is_done, is_some, length, made_by, map, may_alike, moved, moving_needs, name_of, noted, number_made, refl, retitle, served_by, slot_growth, subst, sym, tree_stays_through, true, try_ends, walk_into, wants_of, with_changed, write_paths, ℕ}
 use Rattle.std.proofs.Common.{eq-eqb}
-use Rattle.trio_laws.specs.session.SlotEdits.{retitled}
+use Rattle.trio_edit_laws.specs.session.SlotEdits.{retitled}
 use Rattle.trio_laws.proofs.session.DirCalls.{retitles_entry}
 use Rattle.trio_edit_laws.specs.DirLaws.{LeavesRetitled}
 use Rattle.trio_edit_laws.proofs.directories.Retitled.{retitle_leaves, retitle_shows}

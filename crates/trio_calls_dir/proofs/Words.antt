@@ -34,7 +34,7 @@ pub use Rattle.trio_laws.proofs.session.DirCalls.{done_is_tree, moves_entry, nee
 pub use Rattle.trio_laws.specs.session.DirCalls.{ComesAcross, ComesInto, early_refusal, name_refusal, write_paths}
 pub use Rattle.trio_laws.specs.session.FileCalls.{gives}
 pub use Rattle.trio_laws.specs.session.Sees.{IsView}
-pub use Rattle.trio_laws.specs.session.SlotEdits.{with_changed}
+pub use Rattle.trio_edit_laws.specs.session.SlotEdits.{with_changed}
 pub use Rattle.trio_laws.specs.session.Takes.{case_in_hand}
 pub use Rattle.trio_layout.specs.Body.{block_count, body_of}
 pub use Rattle.trio_layout.specs.Chain.{Chain}

@@ -1,7 +1,8 @@
 -- What a session may do goes by neither its indexes, its look-ups and its room, nor by what else its desk has out.
-use Rattle.trio_edit_laws.proofs.Words.{◌∙◌, ◌≡◌, AreSpare, ComesToShown, DeskSeen, Done, In, IsAlike, List, MayCall, MayEdit, MayGoOn, Room, SameDesk, SessionSeen, TookMore, desk_same, in_hand, ino_numbers, spare_numbers, spare_pages, subst, sym, taking_keeps, ℕ}
+use Rattle.trio_edit_laws.proofs.Words.{◌∙◌, ◌≡◌, AreSpare, ComesToShown, DeskSeen, Done, In, IsAlike, List, MayCall, MayEdit, MayGoOn, Room, SameDesk, SessionSeen, TookMore, desk_same, in_hand, ino_numbers, spare_numbers, spare_pages, subst, sym, ℕ}
 use Rattle.trio_session.proofs.Alike.{alike_by}
 use Rattle.trio_edit_laws.proofs.Shown.{comes_now}
+use Rattle.trio_edit_laws.proofs.session.ListedPages.{taking_keeps}
 
 -- what a session keeps doesn't go by its calls either
 pub edit_but : (desk : DeskSeen) (x : SessionSeen) (is : List ℕ) (n : ℕ) (r : Room) (cs : List Done) → MayEdit desk x → MayEdit desk (record x { indexed = is; finds = n; room = r; calls = cs })

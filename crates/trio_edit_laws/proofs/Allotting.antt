@@ -1,6 +1,5 @@
 -- Pages and numbers that are wanted: what comes of it, and what an allotment leaves as it was.
-use Rattle.trio_edit_laws.proofs.Words.{◌++◌, ◌+◌, ◌∙◌, ◌∷◌, ◌≡◌, ArePossible, AreSpare, Ask, Chain, ComesToShown, DeskSeen, FreshParts, HoldParts, In, In-cases, In-is_among, In-left, In-map, In-right, InoParts, IsAlike, IsFreshAllotment, IsOn, Kind, Lent, LentFile, List, Made, MadeFile, MayCall, MayEdit, MayGoOn, NamesStay, None, NotMade, NotSettled, Ok, OneCall, Option, Result, Room, SameDesk, SeenAfter, SessionSeen, Settled, Sheet, Shown, Some, Told, TookMore, Written, [], ap, append-nil, are_new, block_shown, block_shown-open, block_shown-read, body_in, body_in_slot, bundle_of, chain_in, cleared_file, cond, entry_in, eqb, eqb-true, every_number, false, false≢true, files_out, filter-In, find, find-In, first_empty, flat_map, fresh_sheet, grant_in, growth, held_file, hold_numbers, in_hand, inl, ino_numbers, inr, is_among, is_some, kind_shown, length, length-map, made_body, made_file, map, map-append, no_chain, open_kind, option_and_then, option_map, option_map_or, option_or, page_in, page_numbers, pages_in_hand, pages_shown, pages_shown-open, pages_shown-read, place_of, position, read_file, refl, same_seen, slice_get, slice_get-In, slice_index_or, slot_bytes, slot_growth, slot_of, slots_of, slots_shown, spare_numbers, spare_pages, subst, sym, taking_keeps, true, used_numbers, with_allotted, written_file, zero_page, ℕ}
-use Rattle.std.proofs.Common.{Err}
+use Rattle.trio_edit_laws.proofs.Words.{◌++◌, ◌+◌, ◌∙◌, ◌∷◌, ◌≡◌, ArePossible, AreSpare, Ask, Chain, ComesToShown, DeskSeen, Err, FreshParts, HoldParts, In, In-cases, In-is_among, In-left, In-map, In-right, InoParts, IsAlike, IsFreshAllotment, IsOn, Kind, Lent, LentFile, List, Made, MadeFile, MayCall, MayEdit, MayGoOn, NamesStay, None, NotMade, NotSettled, Ok, OneCall, Option, Result, Room, SameDesk, SeenAfter, SessionSeen, Settled, Sheet, Shown, Some, Told, TookMore, Written, [], ap, append-nil, are_new, block_shown, block_shown-open, block_shown-read, body_in, body_in_slot, bundle_of, chain_in, cleared_file, cond, entry_in, eqb, eqb-true, every_number, false≢true, files_out, filter-In, find, find-In, first_empty, flat_map, fresh_sheet, grant_in, growth, held_file, hold_numbers, in_hand, inl, ino_numbers, inr, is_among, is_some, kind_shown, length, length-map, made_body, made_file, map, map-append, map-each, no_chain, open_kind, option_and_then, option_map, option_map_or, option_or, page_in, page_numbers, pages_in_hand, pages_shown, pages_shown-open, pages_shown-read, place_of, position, read_file, refl, same_seen, slice_get, slice_get-In, slice_index_or, slot_bytes, slot_growth, slot_of, slots_of, slots_shown, spare_numbers, spare_pages, subst, sym, true, used_numbers, with_allotted, written_file, zero_page, ℕ}
 use Rattle.std.specs.Prelude.{not}
 use Rattle.trio_lease.specs.declared.fresh.Allotted.{Allotted as AllottedPages}
 use Rattle.trio_nodes.specs.declared.answers.AllotFault.{AllotFault}
@@ -8,7 +7,6 @@ use Rattle.trio_nodes.specs.declared.answers.AllotFault.TheVariants.{NoMemory}
 use Rattle.trio_desk.specs.Call.{Allot, NotLent, Given, NotGiven, Judged, NotJudged, ModeSet, NotModeSet, Done as GivenBack}
 use Rattle.trio_desk.specs.Calls.{Call, Calls}
 use Rattle.trio_desk.specs.Out.{new_ino}
-use Rattle.trio_laws.proofs.session.Starts.{map-each}
 use Rattle.trio_session.specs.Asked.{AfterWant, Allots, IsSame, NoWant, NoneWanted, SomeWanted, TellsAllotment, allot_asks, took}
 use Rattle.trio_session.specs.Seen.{room_in}
 use Rattle.trio_edit_laws.specs.Allotting.{AllotEnds, Allotted, FilesStay, IsToldFault, IsUngiven, Wanted}
@@ -21,6 +19,7 @@ use Rattle.trio_edit_laws.proofs.directories.Mades.{find-absent, number_of}
 use Rattle.trio_edit_laws.proofs.directories.Stays.{grant-none}
 use Rattle.trio_edit_laws.proofs.TakenAllotment.{keeps_allotment}
 use Rattle.trio_session.proofs.Alike.{alike_back, alike_room, alike_then, on_alike, took_alike}
+use Rattle.trio_edit_laws.proofs.session.ListedPages.{taking_keeps}
 
 -- ---- what stays
 

@@ -1,9 +1,10 @@
 -- What an edit of one open file leaves of the others: which files are open, by which chains, with which bodies.
-use Rattle.trio_edit_laws.proofs.Words.{◌<◌, ◌∙◌, ◌≡◌, Bool, Chain, Kind, LentFile, MadeFile, None, Option, Parcel, SessionSeen, Shown, Some, Written, [], ap, arith, bare_file, body_in, cases_eq, chain_in, eqb, eqb-true, file_numbers, find, find-In, find-position, find-same, find_map, inl, inr, length, length-map, made_body, made_file, map, map-map, map_alike, no_chain, open_kind, option_map, option_map_or, option_or, place_in, position, refl, slice_get, slice_get-get_or, slice_get-map, slice_get_within, slice_index_or, slice_set, some_one, sym, with_chain, written_file, ℕ}
+use Rattle.trio_edit_laws.proofs.Words.{◌<◌, ◌∙◌, ◌≡◌, Bool, Chain, Kind, LentFile, MadeFile, None, Option, Parcel, SessionSeen, Shown, Some, Written, [], ap, arith, bare_file, body_in, cases_eq, chain_in, eqb, eqb-true, file_numbers, find, find-In, find-position, find_map, inl, inr, length, length-map, made_body, made_file, map, map-map, map_alike, no_chain, open_kind, option_map, option_map_or, option_or, place_in, position, refl, slice_get, slice_get-get_or, slice_get-map, slice_get_within, slice_index_or, slice_set, some_one, sym, with_chain, written_file, ℕ}
 use Rattle.std.proofs.lemmas.List.{get_or-set_other, get_or-set_same}
 use Rattle.trio_session.proofs.Found.{position-map}
 use Rattle.trio_edit_laws.proofs.Opens.{OpenWritten, chain-made, chain-written, chains-made, chains-written, made-written, made_file-here, made_file-other, opened, with_chain-written}
 use Rattle.trio_edit_laws.proofs.Touches.{bare_files}
+use Rattle.trio_edit_laws.proofs.session.EditedWalk.{find-same}
 
 -- the written files are as they were, but for the bodies of those of one number
 pub record FilesAnew (b b' : Parcel) (ino' : ℕ) : Type 0 where

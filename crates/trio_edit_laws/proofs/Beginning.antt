@@ -1,8 +1,7 @@
 -- A session that has nothing yet.
-use Rattle.trio_edit_laws.proofs.Words.{◌≡◌, ◌≤◌, ComesToShown, DeskSeen, HandsInAll, In, List, MayEdit, Met, None, SessionSeen, Shown, Some, [], ap, arith, case_as_stands, emptied, nothing_is_ready, refl, subst, suc, sym, zero, ℕ}
+use Rattle.trio_edit_laws.proofs.Words.{◌≡◌, ◌≤◌, ComesToShown, DeskSeen, HandsInAll, In, List, MayEdit, Met, None, SessionSeen, Shown, Some, [], ap, arith, case_as_stands, descend, emptied, fronts, nothing_is_ready, refl, subst, suc, sym, zero, ℕ}
 use native.Mathlib.Omega.{arith}
-use Rattle.trio_layout.specs.JudgedFiles.{fronts, judged_files}
-use Rattle.trio_layout.specs.Survey.{descend}
+use Rattle.trio_layout.specs.JudgedFiles.{judged_files}
 use Rattle.trio_desk.specs.Out.{OutAlike, nothing_out}
 use Rattle.trio_desk.specs.Edits.{nothing}
 use Rattle.trio_laws.proofs.session.TakenMore.{nothing_is_in_order}

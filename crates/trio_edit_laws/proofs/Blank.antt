@@ -1,7 +1,6 @@
 -- A directory that has blank pages behind its others: they list nothing.
-use Rattle.trio_edit_laws.proofs.Words.{◌++◌, ◌<◌, ◌∙◌, ◌∷◌, ◌≡◌, Core, Directory, Empty, In, List, Ok, Result, Some, [], ap, arith, body_in_slot, empty_value, entries_within, gathered, gathered_below, inl, inr, listed_at, page_of, refl, slot_bytes, slot_entries, slot_of, suc, zero, zeros, ℕ}
+use Rattle.trio_edit_laws.proofs.Words.{◌++◌, ◌<◌, ◌∙◌, ◌∷◌, ◌≡◌, Core, Directory, Empty, In, List, Ok, Result, Some, [], ap, arith, body_in_slot, both, empty_value, entries_within, gathered, gathered_below, inl, inr, listed_at, page_of, refl, slot_bytes, slot_entries, slot_of, suc, zero, zeros, ℕ}
 use Rattle.trio_page.proofs.Zeros.{number32_zeros, slice-zeros}
-use Rattle.trio_lists.specs.Lists.{both}
 use Rattle.trio_layout.specs.Entries.{entries_on}
 
 -- each slot of a page of zeros is empty

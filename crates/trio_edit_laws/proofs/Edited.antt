@@ -1,11 +1,8 @@
 -- An edit of one open file: the nodes that it shows, and that all that a session keeps holds after it.
-use Rattle.trio_edit_laws.proofs.Words.{if◌then◌else◌, ◌∙◌, ◌≡◌, ◌≢◌, AreMade, ArePossible, Becomes, Bool, Case, Chain, Core, DeskSeen, Directory, EntriesHaveRights, FileRead, HoldParts, In, In-flat, In-map, In-right, InoParts, IsUnlent, IsView, Kind, List, Listed, MadeFile, MayEdit, MayShow, Met, Nodes, Ok, Option, Regular, Row, SameRights, SessionSeen, Shown, Some, [], ap, arith, body_at, body_in, body_in_slot, body_of, body_stands, bytes_listed, case_as_stands, cases_eq, chain_in, content_of, core_in_hand, entries_within, eqb, false, file_in, find, flat_map, flat_map-same, hand_files_once, if_other, if_same, in_hand, inl, ino_numbers, inr, is_among, is_among-In, is_some, judged_files, judged_once, listed_are_in_hand, made_body, made_file, made_met, map, map-In, one_of, open_kind, page_in, page_of, pages_in, pages_within, refl, same_met, slice_get-In, some_of, subst, sym, take, true, unwrap_or, with_body_in, within_from, written_with, ℕ}
-use Rattle.trio_layout.proofs.WithinCore.{within_to}
-use Rattle.trio_laws.specs.session.FileEdits.{pages_listed}
-use Rattle.trio_laws.specs.session.JudgedEdits.{HasBodyByLease, HasBodyInSlot, HasBodyNow, IsJudgedEdit, file_beside, listed_with, met_with}
-use Rattle.trio_laws.proofs.session.FileEdits.{regular_entries}
-use Rattle.trio_laws.proofs.session.JudgedEdits.{judged_after_edit, judged_edit_shows, reads_after_edit}
-use Rattle.trio_laws.proofs.session.JudgedReads.{met_with-number}
+use Rattle.trio_edit_laws.proofs.Words.{if◌then◌else◌, ◌∙◌, ◌≡◌, ◌≢◌, AreMade, ArePossible, Becomes, Bool, Case, Chain, Core, DeskSeen, Directory, EntriesHaveRights, FileRead, HoldParts, In, In-flat, In-map, In-right, InoParts, IsJudgedEdit, IsUnlent, IsView, Kind, List, Listed, MadeFile, MayEdit, MayShow, Met, Nodes, Ok, Option, Regular, Row, SameRights, SessionSeen, Shown, Some, [], ap, arith, body_at, body_in, body_in_slot, body_of, body_stands, bytes_listed, case_as_stands, cases_eq, chain_in, content_of, core_in_hand, entries_within, eqb, false, file_in, find, flat_map, flat_map-same, hand_files_once, if_other, if_same, in_hand, inl, ino_numbers, inr, is_among, is_among-In, is_some, judged_files, judged_once, listed_with, made_body, made_file, made_met, map, map-In, met_with, one_of, open_kind, page_in, page_of, pages_in, pages_listed, pages_within, refl, regular_entries, same_met, slice_get-In, some_of, subst, sym, take, true, unwrap_or, with_body_in, within_from, within_to, written_with, ℕ}
+use Rattle.trio_edit_laws.specs.session.JudgedEdits.{HasBodyByLease, HasBodyInSlot, HasBodyNow, file_beside}
+use Rattle.trio_edit_laws.proofs.session.JudgedEdits.{judged_after_edit, judged_edit_shows, reads_after_edit}
+use Rattle.trio_edit_laws.proofs.session.JudgedReads.{met_with-number}
 use Rattle.trio_edit_laws.proofs.Anew.{made_here, made_other, none_anew}
 use Rattle.trio_edit_laws.proofs.Blank.{entries_within-blank}
 use Rattle.trio_edit_laws.proofs.Hand.{hand_page}
@@ -14,6 +11,7 @@ use Rattle.trio_edit_laws.proofs.Keeps.{IsEdit, WasMade, bodied_files, chains_no
 use Rattle.trio_edit_laws.proofs.Opens.{OpenMade, OpenWritten, opened, pages_of_chain}
 use Rattle.trio_edit_laws.proofs.Touches.{bare_files}
 use Rattle.trio_edit_laws.proofs.Whole.{OpenReads, chain_within-named, judged_reads, open_reads, own_slot, shows_after, view_then}
+use Rattle.trio_edit_laws.proofs.session.ListedPages.{listed_are_in_hand}
 
 module _ (desk : DeskSeen) (s s' : SessionSeen) (ino : ℕ) (kind : Kind) (m : MayEdit desk s) (o : open_kind s ino ≡ Some kind) (e : IsEdit desk s s' ino kind) where
   abbrev c : Case

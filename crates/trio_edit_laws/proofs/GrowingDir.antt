@@ -3,7 +3,7 @@ use Rattle.trio_edit_laws.proofs.Words.{◌%◌, ◌++◌, ◌+◌, ◌<◌, ◌
 use Rattle.std.proofs.Common.{append-nil}
 use Rattle.trio_auxdir.specs.Slots.{slots_on}
 use Rattle.trio_auxdir.proofs.PageSlots.{zeros_empty}
-use Rattle.trio_laws.proofs.session.JudgedEdits.{listed_after_judged_edit}
+use Rattle.trio_edit_laws.proofs.session.JudgedEdits.{listed_after_judged_edit}
 use Rattle.trio_session.specs.Seen.{grown}
 use Rattle.trio_edit_laws.specs.EditLaws.{GrowDirShows, IsSpare}
 use Rattle.trio_edit_laws.proofs.Chained.{apart_from}

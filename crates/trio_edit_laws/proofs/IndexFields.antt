@@ -1,5 +1,5 @@
 -- The fields of a file's index pages, by the numbers of these pages: what index pages say, and index pages that say it.
-use Rattle.trio_edit_laws.proofs.Words.{◌%◌, ◌*◌, ◌++◌, ◌+◌, ◌-◌, ◌/◌, ◌<◌, ◌^◌, ◌∙◌, ◌∷◌, ◌≡◌, ◌≤◌, Bool, Core, CoreRange, In, In-take, IsBytes, IsNamed, List, Option, Some, [], and_parts, ap, arith, bytes_eq-true, cases_lt, cond_some, drop, eqb, flat_map, get_or, get_or-In, get_or-append_right, get_or-take, get_or_append_left, get_or_past, index_count, inl, inr, is_core, length, length-append, length-drop, length-take, length-zeros, list_all, lt-ltb, min, ne_eqb, number_at, page_of, refl, some_one, subst, suc, sym, take, to_le_bytes, true, w64, wide64, with_part, zero, ℕ}
+use Rattle.trio_edit_laws.proofs.Words.{◌%◌, ◌*◌, ◌++◌, ◌+◌, ◌-◌, ◌/◌, ◌<◌, ◌^◌, ◌∙◌, ◌∷◌, ◌≡◌, ◌≤◌, Bool, Core, CoreRange, In, In-take, Index, IsBytes, IsNamed, List, Option, Some, [], and_parts, ap, arith, bytes_eq-true, cases_lt, cond_some, drop, eqb, flat_map, get_or, get_or-In, get_or-append_right, get_or-take, get_or_append_left, get_or_past, index_count, inl, inr, is_core, length, length-append, length-drop, length-take, length-zeros, list_all, lt-ltb, min, ne_eqb, number_at, page_of, refl, some_one, subst, suc, sym, take, to_le_bytes, true, w64, wide64, with_part, zero, ℕ}
 use Rattle.std.proofs.Common.{nat_lt, eq-eqb}
 use Rattle.std.proofs.lemmas.List.{get_or-drop, get_or_default}
 use Rattle.std.proofs.lemmas.List.Sums.{list_all-from_AllPass}
@@ -7,10 +7,10 @@ use Rattle.std.proofs.lemmas.Grind.{same_number_lists}
 use Rattle.trio_page.specs.Field.{with_number}
 use Rattle.trio_page.proofs.Fields.{get_or-with_part_above, get_or-with_part_below, get_or-with_part_in, length-to_le_bytes}
 use Rattle.trio_page.proofs.Cursor.{number_at-lt}
-use Rattle.trio_layout.specs.Index.{Index, index_bytes, index_of, link_fits, numbers_in}
+use Rattle.trio_layout.specs.Index.{index_bytes, index_of, link_fits, numbers_in}
 use Rattle.trio_layout.specs.inner.Fields.{AreNumbers}
 use Rattle.trio_layout.proofs.IndexPages.{found, index_value, length-numbers_in, numbers_in-at, only}
-use Rattle.trio_laws.specs.session.Chains.{NamesShare}
+use Rattle.trio_edit_laws.specs.session.Chains.{NamesShare}
 
 -- ---- bytes
 

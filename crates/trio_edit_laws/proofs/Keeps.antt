@@ -1,5 +1,5 @@
 -- An edit of one open file, written or made: what it shows, and that the session may go on.
-use Rattle.trio_edit_laws.proofs.Words.{if◌then◌else◌, ◌++◌, ◌<◌, ◌∙◌, ◌≡◌, ◌≤◌, ◌⊎◌, ArePossible, Body, Chain, ChainsRead, DeskSeen, Directory, Entry, EntryPart, In, In-find, In-left, In-right, IsInSlot, IsNamed, Kind, LentFile, List, MadeFile, MayEdit, Nodes, None, Option, ReadsBy, Row, SameRights, SessionSeen, Shown, Some, Written, [], ap, are_new, arith, block_count, body_at, body_in, body_in_slot, body_of, cases_eq, chain_in, chained, core_in_hand, eq-eqb, eqb, eqb-true, every_number, false, file_numbers, find, find-In, flat_map, get_or, get_or-In, if_other, if_same, in_hand, inl, inr, length, listed_in_hand, made_body, made_chained, made_file, map, map-In, map-append, map-fixed, one_keyed, open_kind, option_map, option_map_or, page_in, page_of, pages_in_hand, refl, slice_set, slot_bytes, slot_of, some_one, subst, sym, true, with_body_in, written_file, written_with, zeros, ℕ}
+use Rattle.trio_edit_laws.proofs.Words.{if◌then◌else◌, ◌++◌, ◌<◌, ◌∙◌, ◌≡◌, ◌≤◌, ◌⊎◌, ArePossible, Body, Chain, ChainsRead, DeskSeen, Directory, Entry, EntryPart, In, In-find, In-left, In-right, IsInSlot, IsNamed, Kind, LentFile, List, MadeFile, MayEdit, Nodes, None, Option, ReadsBy, Row, SameRights, SessionSeen, Shown, Some, Written, [], ap, are_new, arith, block_count, body_at, body_in, body_in_slot, body_of, cases_eq, chain_in, chained, core_in_hand, eq-eqb, eqb, eqb-true, every_number, false, file_numbers, find, find-In, flat_map, get_or, get_or-In, if_other, if_same, in_hand, inl, inr, length, listed_in_hand, made_body, made_chained, made_file, map, map-In, map-append, one_keyed, open_kind, option_map, option_map_or, page_in, page_of, pages_in_hand, refl, slice_set, slot_bytes, slot_of, some_one, subst, sym, true, with_body_in, written_file, written_with, zeros, ℕ}
 use Rattle.trio_surveys.proofs.Slots.{slot_by_front, with_body-body, with_body-front, with_body-other}
 use Rattle.trio_edit_laws.proofs.Anew.{FilesAnew, IsAnew, bare_anew, bare_of, body-made, body_other, chain_here, chain_other, made_here, made_none, number_is, numbers_anew, open_anew, written_body}
 use Rattle.trio_edit_laws.proofs.Chained.{apart_from, set_from, set_new}
@@ -7,6 +7,7 @@ use Rattle.trio_edit_laws.proofs.HandStays.{HandStays, page_same}
 use Rattle.trio_edit_laws.proofs.Opens.{OpenPlace, OpenWritten, length-with_chain, made-written, made_numbers-with_chain, open_apart, open_chained, open_chains, open_once, open_place, opened, pages_of_chain, with_chain-made}
 use Rattle.trio_edit_laws.proofs.Pages.{length-page_in}
 use Rattle.trio_edit_laws.proofs.Touches.{Alters, bare_files}
+use Rattle.trio_edit_laws.proofs.session.JudgedReads.{map-fixed}
 
 -- a page is in hand, and none that a file lists
 pub record IsFree (desk : DeskSeen) (s : SessionSeen) (n : ℕ) : Type 0 where

@@ -44,6 +44,7 @@ pub mod Noting
 pub mod Had
 pub mod Walkable
 pub mod directories
+pub mod session
 pub mod Allotting
 pub mod WithSlot
 mod Words

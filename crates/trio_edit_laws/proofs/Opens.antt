@@ -1,9 +1,11 @@
 -- Files that are open: where each stands among those that a session writes or made, and what stays of the others where one has another chain.
-use Rattle.trio_edit_laws.proofs.Words.{if◌then◌else◌, ◌++◌, ◌+◌, ◌-◌, ◌<◌, ◌∙◌, ◌≡◌, ◌⊎◌, Bool, Chain, In, In-flat, Kind, LentFile, List, MadeFile, None, Option, SessionSeen, Shown, Some, [], ap, are_new, arith, cases_eq, chain_in, chained, eqb, eqb-true, false, file_numbers, find, find-In, find-position, find-same, find_map, if_other, if_same, inl, inr, is_some, left_at, length, length-map, made_chained, made_file, map, map-fixed, map-map, map_alike, no_chain, once_at, one_keyed, open_kind, option_map, option_map_or, place_in, position, position-some, refl, right_at, slice_get, slice_get-In, slice_get-get_or, slice_get-map, slice_get_within, slice_index_or, slice_set, some_of, some_one, subst, sym, true, with_chain, written_file, ℕ}
+use Rattle.trio_edit_laws.proofs.Words.{if◌then◌else◌, ◌++◌, ◌+◌, ◌-◌, ◌<◌, ◌∙◌, ◌≡◌, ◌⊎◌, Bool, Chain, In, In-flat, Kind, LentFile, List, MadeFile, None, Option, SessionSeen, Shown, Some, [], ap, are_new, arith, cases_eq, chain_in, chained, eqb, eqb-true, false, file_numbers, find, find-In, find-position, find_map, if_other, if_same, inl, inr, is_some, left_at, length, length-map, made_chained, made_file, map, map-map, map_alike, no_chain, once_at, one_keyed, open_kind, option_map, option_map_or, place_in, position, position-some, refl, right_at, slice_get, slice_get-In, slice_get-get_or, slice_get-map, slice_get_within, slice_index_or, slice_set, some_of, some_one, subst, sym, true, with_chain, written_file, ℕ}
 use Rattle.std.proofs.lemmas.List.{length-set, map-set, set-append_left, set-append_right}
 use Rattle.trio_lease.proofs.Places.{set_same}
 use Rattle.trio_session.proofs.Lists.{In-slice_get, set_map}
 use Rattle.trio_edit_laws.proofs.Chained.{place_new, places_apart}
+use Rattle.trio_edit_laws.proofs.session.EditedWalk.{find-same}
+use Rattle.trio_edit_laws.proofs.session.JudgedReads.{map-fixed}
 
 -- the pages of a chain
 abbrev pub pages_of_chain : Chain → List ℕ

@@ -1,9 +1,7 @@
 -- A file that is open has, as a node that is shown, the rights of its body; a regular one the bytes that the session reads.
-use Rattle.trio_edit_laws.proofs.Words.{◌*◌, ◌∙◌, ◌≡◌, Body, Case, Chain, Core, DeskSeen, HasRights, In, In-find, In-right, IsOpen, IsView, LentFile, List, MayEdit, Met, Node, Nodes, None, Ok, Option, Regular, Row, SessionSeen, Some, [], ap, arith, bare_file, body_in, body_stands, bundle_of, bytes_in, bytes_listed, case_in_hand, chain_in, core_in_hand, eq-eqb, eqb, eqb-true, file_within, find, find-In, flat_map, flat_map-same, hand_files_once, held_by, in_hand, inl, ino_numbers, inr, judged_files, judged_once, judged_there, length, map, node_at, option_map, page_in, page_of, rights_in, same_met, sees_made, sees_written, size_in, slice_get-In, subst, sym, take, unwrap_or, written_at, ℕ}
+use Rattle.trio_edit_laws.proofs.Words.{◌*◌, ◌∙◌, ◌≡◌, Body, Case, Chain, Core, DeskSeen, HasRights, In, In-find, In-right, IsOpen, IsView, LentFile, List, MayEdit, Met, Node, Nodes, None, Ok, Option, Regular, Row, SessionSeen, Some, [], ap, arith, bare_file, body_in, body_stands, bundle_of, bytes_in, bytes_listed, bytes_now, case_in_hand, chain_in, core_in_hand, eq-eqb, eqb, eqb-true, file_within, find, find-In, flat_map, flat_map-same, hand_files_once, held_by, in_hand, inl, ino_numbers, inr, judged_files, judged_once, judged_there, length, map, node_at, option_map, page_in, page_of, pages_bytes, read_in_hand, rights_in, same_met, sees_made, sees_written, size_in, slice_get-In, subst, sym, take, unwrap_or, written_at, ℕ}
 use Rattle.std.proofs.Common.{length-take-le}
-use Rattle.trio_desk.specs.Shows.{bytes_now, pages_bytes}
-use Rattle.trio_laws.specs.session.FileEdits.{read_in_hand}
-use Rattle.trio_laws.proofs.session.JudgedReads.{file_within-alike}
+use Rattle.trio_edit_laws.proofs.session.JudgedReads.{file_within-alike}
 use Rattle.trio_laws.proofs.session.Stands.{Read}
 use Rattle.trio_edit_laws.specs.EditLaws.{SeesBytes}
 use Rattle.trio_edit_laws.proofs.Anew.{body-made, body-written}

@@ -1,11 +1,9 @@
 -- The bytes of a file that grew or was cut, and how many core pages there are.
-use Rattle.trio_edit_laws.proofs.Words.{◌*◌, ◌++◌, ◌+◌, ◌-◌, ◌<◌, ◌∙◌, ◌∷◌, ◌≡◌, ◌≤◌, CoreRange, In, List, [], and_parts, ap, append_assoc, are_new, are_new-first, arith, block_count, cases_lt, core_count, drop, drop_all, flat_map, gap, inl, inr, is_core, leb-true, length, length-append, length-map, length-take, length-zeros, map, map-In, nat_le, new_beside, refl, resized, suc, sym, take, take-append-add, take-append-le, take_all, true, zero, ℕ}
+use Rattle.trio_edit_laws.proofs.Words.{◌*◌, ◌++◌, ◌+◌, ◌-◌, ◌<◌, ◌∙◌, ◌∷◌, ◌≡◌, ◌≤◌, CoreRange, In, List, [], and_parts, ap, append_assoc, are_new, are_new-first, arith, block_count, cases_lt, core_count, drop, drop_all, flat_map, gap, inl, inr, is_core, leb-true, length, length-append, length-map, length-take, length-zeros, ltb-true, map, map-In, nat_le, new_beside, pigeons, refl, resized, suc, sym, take, take-append-add, take-append-le, take_all, true, zero, ℕ}
 use Rattle.std.specs.Prelude.{nat_lt, replicate}
-use Rattle.std.proofs.lemmas.Bool.{ltb-true}
 use Rattle.std.proofs.lemmas.List.{length-replicate, replicate-append-replicate, take-take, take_at}
 use Rattle.trio_page.specs.Field.{with_part, zeros}
 use Rattle.trio_page.proofs.Zeros.{take-zeros}
-use Rattle.trio_layout.proofs.Walks.{pigeons}
 use Rattle.trio_edit_laws.proofs.IndexFields.{AreCore}
 use Rattle.trio_edit_laws.proofs.Parts.{length-pages}
 

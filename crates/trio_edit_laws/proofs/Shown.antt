@@ -1,6 +1,5 @@
 -- What is in hand shows the nodes after its calls; and what stays of it where a desk has other things out.
-use Rattle.trio_edit_laws.proofs.Words.{◌≡◌, ArePossible, Ask, ComesToShown, DeskSeen, Done, InHand, IsInOrder, IsUntouched, LentFile, LibOut, List, MayShow, Nodes, Option, Parcel, Row, SeenAfter, Shown, TakesMore, Told, arith, batch_nodes}
-use Rattle.trio_onetree.proofs.TreeStays.{tree_stays_through}
+use Rattle.trio_edit_laws.proofs.Words.{◌≡◌, ArePossible, Ask, ComesToShown, DeskSeen, Done, InHand, IsInOrder, IsUntouched, LentFile, LibOut, List, MayShow, Nodes, Option, Parcel, Row, SeenAfter, Shown, TakesMore, Told, arith, batch_nodes, tree_stays_through}
 
 -- where calls come to what was in hand, it may show the nodes after them, whatever is possible now
 pub shown_by : (desk : DeskSeen) (h h' : InHand) (calls : List Done) (nodes : Nodes) (rows : List (Option Row))

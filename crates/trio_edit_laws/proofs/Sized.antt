@@ -1,12 +1,11 @@
 -- A body with another head and size.
-use Rattle.trio_edit_laws.proofs.Words.{◌&&◌, ◌<◌, ◌^◌, ◌∙◌, ◌≡◌, ◌≤◌, Body, CoreRange, IsBytes, Kind, List, None, Option, Some, and_from, and_parts, ap, arith, block_count, body_at, body_fits, bytes_eq, bytes_eq-true, cond, cond_some, core_count, get_or, get_or-In, get_or_past, head_fits, index_count, le-leb, length, ne_eqb, refl, size_fits, sym, to_le_bytes, true, w64, wide64, ℕ}
+use Rattle.trio_edit_laws.proofs.Words.{◌&&◌, ◌<◌, ◌^◌, ◌∙◌, ◌≡◌, ◌≤◌, Body, CoreRange, IsBytes, Kind, List, None, Option, Some, and_from, and_parts, ap, arith, block_count, body_at, body_fits, bytes_eq, bytes_eq-true, cond, cond_some, core_count, get_or, get_or-In, get_or_past, head_fits, index_count, le-leb, length, ne_eqb, refl, size_fits, sym, to_le_bytes, true, true-bytes_eq, w64, wide64, ℕ}
 use Rattle.std.proofs.Common.{nat_le, eq-eqb}
 use Rattle.std.specs.Int.{w16, w32, from_le_bytes}
 use Rattle.std.proofs.lemmas.Nat.{from_le_bytes-to_le_bytes_4, from_le_bytes-to_le_bytes_8}
 use Rattle.trio_page.specs.Field.{number_at, with_number, with_part, zeros}
 use Rattle.trio_page.proofs.Cursor.{wide32}
 use Rattle.trio_layout.specs.Body.{body_bytes, body_of}
-use Rattle.trio_layout.proofs.Reading.{true-bytes_eq}
 use Rattle.trio_session.specs.Layout.{body_sized}
 use Rattle.trio_edit_laws.proofs.IndexFields.{AreCore, small-to_le_bytes}
 

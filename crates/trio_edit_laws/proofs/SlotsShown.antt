@@ -1,5 +1,5 @@
 -- What an edit of one open file leaves of all others, and of what directories show.
-use Rattle.trio_edit_laws.proofs.Words.{if◌then◌else◌, ◌++◌, ◌<◌, ◌∙◌, ◌∷◌, ◌≡◌, ◌≢◌, Chain, DeskSeen, Directory, EntryPart, In, In-right, InoParts, Kind, List, MayEdit, None, Option, Place, Regular, SessionSeen, Shown, Some, [], ap, arith, block_shown-open, block_shown-read, chain_in, dir_pages, entry_in, entry_shown, eqb, every_number, filter, find, inl, ino_numbers, inr, is_among, map, name_in, open_kind, option_and_then, option_map, option_map_or, page_at, page_in, pages_shown-open, pages_shown-read, refl, slice_get, slice_get-In, slot_bytes, slot_of, slot_on, slots_of, slots_shown, spare_numbers, subst, sym, used_numbers, ℕ}
+use Rattle.trio_edit_laws.proofs.Words.{◌++◌, ◌<◌, ◌∙◌, ◌∷◌, ◌≡◌, ◌≢◌, Chain, DeskSeen, Directory, EntryPart, In, In-right, InoParts, Kind, List, MayEdit, None, Option, Place, Regular, SessionSeen, Shown, Some, [], ap, arith, block_shown-open, block_shown-read, chain_in, dir_pages, entry_in, entry_shown, eqb, every_number, filter, find, inl, ino_numbers, inr, is_among, map, name_in, open_kind, option_and_then, option_map, option_map_or, page_at, page_in, pages_shown-open, pages_shown-read, refl, slice_get, slice_get-In, slot_bytes, slot_of, slot_on, slots_of, slots_shown, spare_numbers, subst, sym, used_numbers, ℕ}
 use Rattle.std.specs.Prelude.{not}
 use Rattle.trio_auxdir.specs.Slots.{slots_on}
 use Rattle.trio_auxdir.proofs.PageSlots.{tabulated-same_below}

@@ -1,10 +1,9 @@
 -- Pages and numbers that a session takes leave it able to go on, and the pages are spare.
-use Rattle.trio_edit_laws.proofs.Words.{◌++◌, ◌<◌, ◌∙◌, ◌≡◌, ◌≤◌, Allotted, ArePossible, AreSpare, Bool, Bundle, ComesToShown, DeskSeen, In, In-cases, In-left, In-map, In-right, InoParts, IsFreshAllotment, IsInOrder, IsOn, IsView, JudgesSame, LibNo, LibOut, List, MadeFile, MayEdit, Nodes, Option, Row, SessionSeen, Sheet, ShowsTrees, Sizes, Takes, TookMore, [], ap, are_new, are_new-before, arith, batch_nodes, bundle_of, bundle_sheets, drop-append-le, filter, filter-all, filter-append, fresh_sheet, in_hand, inl, ino_numbers, inr, is_among, is_among-In, length-append, length-map, listed_are_in_hand, listed_in_hand, map-In, map-append, one_keyed, page_in, page_numbers, pages_in_hand, refl, sheet_at, spare_numbers, spare_pages, subst, sym, true, used_numbers, with_allotted, zero_page, zeros, ℕ}
+use Rattle.trio_edit_laws.proofs.Words.{◌++◌, ◌<◌, ◌∙◌, ◌≡◌, ◌≤◌, Allotted, ArePossible, AreSpare, Bool, Bundle, ComesToShown, DeskSeen, In, In-cases, In-left, In-map, In-right, InoParts, IsFreshAllotment, IsInOrder, IsOn, IsView, JudgesSame, LibNo, LibOut, List, MadeFile, MayEdit, Nodes, Option, Row, SessionSeen, Sheet, ShowsTrees, Sizes, Takes, TookMore, [], ap, are_new, are_new-before, arith, batch_nodes, bundle_of, bundle_sheets, drop-append-le, false_from_ne_true, filter, filter-all, filter-append, fresh_sheet, in_hand, inl, ino_numbers, inr, is_among, is_among-In, length-append, length-map, listed_in_hand, map-In, map-append, one_keyed, page_in, page_numbers, pages_in_hand, refl, sheet_at, spare_numbers, spare_pages, subst, sym, true, used_numbers, with_allotted, zero_page, zeros, ℕ}
 use Rattle.std.specs.Prelude.{not}
-use Rattle.std.proofs.lemmas.Bool.{false_from_ne_true}
-use Rattle.trio_laws.proofs.session.Fresh.{fresh_is_new}
-use Rattle.trio_laws.proofs.session.JudgedAllotments.{judged_after_allotment}
-use Rattle.trio_laws.proofs.session.ListedPages.{listed_after_allotment}
+use Rattle.trio_edit_laws.proofs.session.Fresh.{fresh_is_new}
+use Rattle.trio_edit_laws.proofs.session.JudgedAllotments.{judged_after_allotment}
+use Rattle.trio_edit_laws.proofs.session.ListedPages.{listed_after_allotment, listed_are_in_hand}
 use Rattle.trio_laws.proofs.session.TakenMore as more
 use Rattle.trio_edit_laws.specs.TakingLaws.{KeepsAllotment}
 use Rattle.trio_edit_laws.proofs.Shown.{comes_now, desk_after, order_now, shown_by}

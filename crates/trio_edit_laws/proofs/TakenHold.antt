@@ -1,9 +1,8 @@
 -- A hold that a session takes leaves it able to go on.
-use Rattle.trio_edit_laws.proofs.Words.{◌++◌, ◌∙◌, ◌∷◌, ◌≡◌, AboveIsOpen, ArePossible, Case, ComesToShown, DeskSeen, HoldParts, In, In-cases, In-find, In-flat, In-left, In-map, IsFreshLease, IsInOrder, IsLeftAlone, IsListedNow, IsOn, IsView, JudgesSame, LibOut, List, Listed, MayEdit, Met, Naming, Nodes, None, Option, Parcel, Row, SessionSeen, Shown, ShowsTrees, Some, Takes, TakesMore, TookMore, [], and_from, ap, are_new, are_new-append, body_at, body_of, case_as_stands, eq-eqb, eqb, eqb-true, file_in, file_numbers, files_out, hold_numbers, in_hand, inl, inr, is_some, judged_files, made_file, map-append, naming_of, new_beside, possible_with_less, refl, subst, sym, true, with_lease, ℕ}
+use Rattle.trio_edit_laws.proofs.Words.{◌++◌, ◌∙◌, ◌∷◌, ◌≡◌, AboveIsOpen, ArePossible, Case, ComesToShown, DeskSeen, HoldParts, In, In-cases, In-find, In-flat, In-left, In-map, IsFreshLease, IsInOrder, IsLeftAlone, IsListedNow, IsOn, IsView, JudgesSame, LibOut, List, Listed, MayEdit, Met, Naming, Nodes, None, Option, Parcel, Row, SessionSeen, Shown, ShowsTrees, Some, Takes, TakesMore, TookMore, [], and_from, ap, are_new, are_new-append, body_at, body_of, case_as_stands, eq-eqb, eqb, eqb-true, file_in, file_numbers, files_out, hold_numbers, in_hand, inl, inr, is_some, judged_files, made_file, map-append, naming_of, namings_in, new_beside, possible_with_less, refl, subst, sym, true, with_lease, ℕ}
 use Rattle.trio_lease.specs.declared.lease.Lease.TheVariants.{Hold}
-use Rattle.trio_desk.specs.Shows.{namings_in}
-use Rattle.trio_laws.proofs.session.Fresh.{fresh_is_free}
-use Rattle.trio_laws.proofs.session.JudgedTakings.{judged_after_hold}
+use Rattle.trio_edit_laws.proofs.session.Fresh.{fresh_is_free}
+use Rattle.trio_edit_laws.proofs.session.JudgedTakings.{judged_after_hold}
 use Rattle.trio_laws.proofs.session.TakenHold.{takes_hold}
 use Rattle.trio_session.specs.Layout.{page_in}
 use Rattle.trio_edit_laws.specs.TakingLaws.{IsListedBy, KeepsHold}

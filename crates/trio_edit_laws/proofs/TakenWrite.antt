@@ -4,9 +4,9 @@ use Rattle.std.proofs.Common.{slice_get, slice_index_or}
 use Rattle.std.proofs.lemmas.Grind.{flat_map-append}
 use Rattle.std.proofs.Math.Seq.{get_or-append_seam}
 use Rattle.trio_lease.specs.declared.lease.Lease.TheVariants.{Write}
-use Rattle.trio_laws.proofs.session.Chains.{named_reads}
-use Rattle.trio_laws.proofs.session.JudgedTakings.{judged_after_write}
-use Rattle.trio_laws.proofs.session.Fresh.{fresh_is_untouched}
+use Rattle.trio_edit_laws.proofs.session.Chains.{named_reads}
+use Rattle.trio_edit_laws.proofs.session.JudgedTakings.{judged_after_write}
+use Rattle.trio_edit_laws.proofs.session.Fresh.{fresh_is_untouched}
 use Rattle.trio_laws.proofs.session.LentFiles.{lent_sheet_numbers, lent_sheets}
 use Rattle.trio_laws.proofs.session.Sees.{untouched_reads}
 use Rattle.trio_laws.proofs.session.TakenWrite as write

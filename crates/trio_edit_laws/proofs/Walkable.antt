@@ -1,9 +1,8 @@
 -- What a session that may make calls shows and has in hand, and that it may with one lease more.
-use Rattle.trio_edit_laws.proofs.Words.{◌++◌, ◌||◌, ◌∙◌, ◌≡◌, AboveIsOpen, ArePossible, Chain, DeskSeen, Directory, Hold, HoldParts, In, In-cases, In-flat, In-left, In-right, IsFreshLease, IsListedNow, IsOn, IsView, Kind, Lent, LentFile, List, MadeFile, MayCall, MayShow, Node, Nodes, None, Option, Read, Rights, Row, SeenAfter, SessionSeen, Shown, Some, Write, ap, batch_nodes, body_in, false, flat_map, flat_map-In, held_file, in_hand, inl, inr, is_some, made_file, map, map-In, node_at, numbers_of_file, open_kind, option_map, option_or, pages_in_hand, pages_out, read_file, refl, rights_in, rights_of, same_seen, serves, subst, sym, true, with_lease, written_file, ℕ}
+use Rattle.trio_edit_laws.proofs.Words.{◌++◌, ◌||◌, ◌∙◌, ◌≡◌, AboveIsOpen, ArePossible, Chain, DeskSeen, Directory, Hold, HoldParts, In, In-cases, In-flat, In-left, In-right, IsFreshLease, IsListedNow, IsOn, IsView, Kind, Lent, LentFile, List, MadeFile, MayCall, MayShow, Node, Nodes, None, Option, Read, Rights, Row, SeenAfter, SessionSeen, Shown, Some, Write, ap, batch_nodes, body_in, false, flat_map, flat_map-In, held_file, in_hand, inl, inr, is_some, made_file, map, map-In, mapped, node_at, numbers_of_file, open_kind, option_map, option_or, pages_in_hand, pages_out, read_file, refl, rights_in, rights_of, same_seen, serves, subst, sym, true, with_lease, written_file, ℕ}
 use Rattle.trio_lease.specs.declared.lease.Lease.TheVariants.{Write as WriteLease, Read as ReadLease, Hold as HoldLease}
 use Rattle.trio_desk.specs.Call.{Grant}
-use Rattle.trio_laws.proofs.session.Fresh.{page_out}
-use Rattle.trio_laws.proofs.session.LentNodes.{mapped}
+use Rattle.trio_edit_laws.proofs.session.Fresh.{page_out}
 use Rattle.trio_session.specs.Seen.{has_out}
 use Rattle.trio_edit_laws.proofs.Keeps.{slot_held}
 use Rattle.trio_edit_laws.proofs.Shown.{shown_by}

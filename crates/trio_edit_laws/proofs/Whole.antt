@@ -1,21 +1,14 @@
 -- Where nodes are possible: what a session shows in their place, and that each file that is open is judged, and reads by its chain.
-use Rattle.trio_edit_laws.proofs.Words.{◌++◌, ◌∙◌, ◌≡◌, ArePossible, Becomes, Body, Case, Chain, Core, DeskSeen, FileRead, In, In-map, In-right, InHand, IsAmong, IsNamed, IsView, Kind, LentFile, List, Listed, Location, MadeFile, MayEdit, MayShow, Met, Nodes, None, Ok, Option, ReadsBy, Result, Row, SessionSeen, ShowsTrees, Some, TakesMore, [], and_parts, ap, arith, block_count, body_in, body_of, bundle_of, case_as_stands, case_in_hand, chain_in, core_in_hand, false≢true, file_in, file_within, flat_map-In, get_or, held_by, in_hand, index_count, inl, inr, is_some, judged_files, judged_there, length, list_all, listed_are_in_hand, made_body, made_file, made_met, map, map-In, met_in, one_of, open_kind, pages_in, pages_within, plain, sees_judged, slice_get-In, some_one, subst, sym, within_from, written_in, ℕ}
-use Rattle.std.proofs.Common.{is_ok}
-use Rattle.trio_rights.specs.Row.{row_in}
-use Rattle.trio_lists.proofs.Members.{is_ok-Ok, list_all-In}
-use Rattle.trio_layout.specs.Survey.{children_in}
-use Rattle.trio_layout.specs.JudgedFiles.{entries_in, judged_entries, written_met}
-use Rattle.trio_layout.specs.Rules.{entry_in_grammar}
-use Rattle.trio_layout.specs.Within.{chain_within}
-use Rattle.trio_laws.proofs.judgement.JudgedFacts.{written_body_at, written_ino_at, written_kind_at}
-use Rattle.trio_laws.proofs.session.Chains.{named_chain}
+use Rattle.trio_edit_laws.proofs.Words.{◌++◌, ◌∙◌, ◌≡◌, ArePossible, Becomes, Body, Case, Chain, Core, DeskSeen, FileRead, In, In-map, In-right, InHand, IsAmong, IsNamed, IsView, Kind, LentFile, List, Listed, Location, MadeFile, MayEdit, MayShow, Met, Nodes, None, Ok, Option, ReadsBy, Result, Row, SessionSeen, ShowsTrees, Some, TakesMore, [], and_parts, ap, arith, block_count, body_in, body_of, bundle_of, case_as_stands, case_in_hand, chain_in, chain_within, children_in, core_in_hand, entries_in, entry_in_grammar, false≢true, file_in, file_within, flat_map-In, get_or, held_by, in_hand, index_count, inl, inr, is_ok, is_ok-Ok, is_some, judged_entries, judged_files, judged_there, length, list_all, list_all-In, made_body, made_file, made_met, map, map-In, met_in, one_of, open_kind, pages_in, pages_within, plain, row_in, sees_judged, slice_get-In, some_one, start_judged, start_to, subst, sym, within_from, written_in, written_ino_at, written_kind_at, written_met, ℕ}
+use Rattle.trio_laws.proofs.judgement.JudgedFacts.{written_body_at}
+use Rattle.trio_edit_laws.proofs.session.Chains.{named_chain}
 use Rattle.trio_laws.proofs.session.Climbing.{own_parent}
-use Rattle.trio_laws.proofs.session.EditedSlots.{entry-stands}
+use Rattle.trio_edit_laws.proofs.session.EditedSlots.{entry-stands}
 use Rattle.trio_laws.proofs.session.Stands.{Read}
-use Rattle.trio_laws.proofs.session.Starts.{start_judged, start_to}
 use Rattle.trio_laws.proofs.session.TakenHold.{judged_listed}
 use Rattle.trio_edit_laws.proofs.Anew.{body-made, body-written}
 use Rattle.trio_edit_laws.proofs.Opens.{OpenMade, OpenWritten, opened}
+use Rattle.trio_edit_laws.proofs.session.ListedPages.{listed_are_in_hand}
 
 -- ---- what is shown
 

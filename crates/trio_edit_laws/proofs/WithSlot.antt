@@ -1,5 +1,5 @@
 -- A directory that has no empty slot grows by a block of them.
-use Rattle.trio_edit_laws.proofs.Words.{◌%◌, ◌++◌, ◌+◌, ◌/◌, ◌<◌, ◌∙◌, ◌∷◌, ◌≡◌, ◌≤◌, AreSpare, AreWithinLimits, ComesToShown, DeskSeen, Directory, Done, EntryPart, GetsSlots, In, InoParts, IsOpenDir, LentFile, List, MadeFile, MayGoOn, NamesStay, None, Option, Place, SessionSeen, Shown, Some, TakesMore, [], ap, arith, block_count, body_in, cases_eq, chain_in, cond, drop, empty_shown, entry_shown, eq-eqb, eqb, every_number, find, first_slot, growth, in_hand, inl, ino_numbers, inr, is_none, is_some, kind_shown, length, length-drop, length-map, made_file, map, option_map, option_or, page_in, page_numbers, place_at, place_of, place_shown, read_file, refl, replicate, size_in, slot_growth, slot_with, slots_of, slots_shown, spare_numbers, spare_pages, subst, suc, sym, taking_keeps, true, ℕ}
+use Rattle.trio_edit_laws.proofs.Words.{◌%◌, ◌++◌, ◌+◌, ◌/◌, ◌<◌, ◌∙◌, ◌∷◌, ◌≡◌, ◌≤◌, AreSpare, AreWithinLimits, ComesToShown, DeskSeen, Directory, Done, EntryPart, GetsSlots, In, InoParts, IsOpenDir, LentFile, List, MadeFile, MayGoOn, NamesStay, None, Option, Place, SessionSeen, Shown, Some, TakesMore, [], ap, arith, block_count, body_in, cases_eq, chain_in, cond, drop, empty_shown, entry_shown, eq-eqb, eqb, every_number, find, first_slot, growth, in_hand, inl, ino_numbers, inr, is_none, is_some, kind_shown, length, length-drop, length-map, made_file, map, option_map, option_or, page_in, page_numbers, place_at, place_of, place_shown, read_file, refl, replicate, size_in, slot_growth, slot_with, slots_of, slots_shown, spare_numbers, spare_pages, subst, suc, sym, true, ℕ}
 use Rattle.std.proofs.Math.ListN.{drop_of_length-le}
 use Rattle.trio_auxdir.proofs.Kept.{place_of-empties}
 use Rattle.trio_session.specs.Seen.{grown}
@@ -10,6 +10,7 @@ use Rattle.trio_edit_laws.proofs.directories.Slotted.{spot}
 use Rattle.trio_edit_laws.proofs.GrowingDir.{grow_dir_shows}
 use Rattle.trio_session.proofs.Alike.{calls-grown, placed-grown}
 use Rattle.trio_session.specs.Deeds.{with_slot}
+use Rattle.trio_edit_laws.proofs.session.ListedPages.{taking_keeps}
 
 drop-spent : (xs : List ℕ) (k more : ℕ) → length (drop k xs) ≡ more → drop (k + more) xs ≡ []
 drop-spent xs k more e = drop_of_length-le xs (omega (arith, length-drop k xs, e))

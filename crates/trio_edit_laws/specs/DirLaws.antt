@@ -22,7 +22,7 @@ use Rattle.trio_desk.specs.Contents.{AreWithinLimits, rights_in}
 use Rattle.trio_desk.specs.Edits.{MayShow}
 use Rattle.trio_desk.specs.Out.{ino_numbers}
 use Rattle.trio_laws.specs.session.Takes.{Becomes}
-use Rattle.trio_laws.specs.session.SlotEdits.{KeepsTree, moved, retitled, with_changed}
+use Rattle.trio_edit_laws.specs.session.SlotEdits.{KeepsTree, moved, retitled, with_changed}
 use Rattle.trio_session.specs.Seen.{MadeFile, SessionSeen, IsOpenDir, block_shown, body_in, chain_in, children_shown, clear, cleared_file, empty_shown, entry_count, entry_shown, fill, grant_in, held_file, in_hand, made_body, made_file, number_shown, open_kind, place_shown, retitle, slots_shown, spare_numbers, spare_pages}
 use Rattle.trio_edit_laws.specs.Written.{MayEdit}
 use Rattle.trio_session.specs.Deeds.{names_here}

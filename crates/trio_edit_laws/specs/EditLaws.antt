@@ -16,7 +16,7 @@ use Rattle.trio_desk.specs.Ready.{ArePossible}
 use Rattle.trio_desk.specs.Edits.{MayShow}
 use Rattle.trio_laws.specs.session.Takes.{Becomes}
 use Rattle.trio_laws.specs.session.FileEdits.{with_content}
-use Rattle.trio_laws.specs.session.Listed.{listed_in_hand}
+use Rattle.trio_edit_laws.specs.session.Listed.{listed_in_hand}
 use Rattle.trio_session.specs.Layout.{growth, page_in, size_in}
 use Rattle.trio_session.specs.Seen.{SessionSeen, IsOpen, IsOpenDir, body_in, chain_in, cut, entry_shown, grown, in_hand, open_kind, put, slots_shown, spare_numbers, spare_pages}
 use Rattle.trio_edit_laws.specs.Written.{MayEdit, bytes_in, chained}

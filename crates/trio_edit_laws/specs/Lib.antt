@@ -1,3 +1,4 @@
+pub mod session
 pub mod Written
 pub mod EditLaws
 pub mod TakingLaws

@@ -23,7 +23,7 @@ use Rattle.trio_desk.specs.Contents.{rights_in}
 use Rattle.trio_desk.specs.Edits.{MayShow}
 use Rattle.trio_desk.specs.Out.{Parcel, ino_numbers}
 use Rattle.trio_desk.specs.Ready.{ArePossible, HandsInAll}
-use Rattle.trio_laws.specs.session.Chains.{IsNamed}
+use Rattle.trio_edit_laws.specs.session.Chains.{IsNamed}
 use Rattle.trio_laws.specs.session.FileEdits.{core_in_hand}
 use Rattle.trio_laws.specs.session.Takes.{IsInOrder, case_as_stands, pages_in_hand}
 use Rattle.trio_laws.specs.session.Sees.{AboveIsOpen, IsLeftAlone}

@@ -25,7 +25,6 @@ pub use Rattle.trio_desk.specs.Ready.{ArePossible, Ready, bundle_of, lent_files,
 pub use Rattle.trio_desk.specs.Shows.{Naming, Shows, bytes_now, bytes_read, made_by, naming_of, namings, namings_in, node_left, node_listed, node_now, pages_bytes, placed, with_bytes}
 pub use Rattle.trio_layout.proofs.EntryNumbers.{AreInodes, if_ok_at, is_inode, within_fit}
 pub use Rattle.trio_layout.proofs.QueueLaws.{met_by}
-pub use Rattle.trio_layout.proofs.Reading.{true-bytes_eq}
 pub use Rattle.trio_layout.proofs.Walks.{fronts_keep, fronts_listed, fronts_new, fronts_tree, numbers-flat, pigeons, starts_met}
 pub use Rattle.trio_layout.proofs.WithinCore.{rest_of, within_from, within_to}
 pub use Rattle.trio_layout.specs.Accept.{is_accepted, next}
@@ -71,7 +70,7 @@ pub use Rattle.trio_lists.proofs.New.{are_new-before, are_new-fewer, are_new-fir
 pub use Rattle.trio_lists.proofs.Sorting.{in_sorted, sorted_in, sorted_new}
 pub use Rattle.trio_lists.proofs.Tabulated.{tabulated-get, tabulated-length, tabulated-past, tabulated-same}
 pub use Rattle.trio_lists.specs.Counting.{count_up}
-pub use Rattle.trio_lists.specs.Lists.{In, are_new, both, gathered, gathered_below, is_among, result_map, result_then, tabulated, there_or}
+pub use Rattle.trio_lists.specs.Lists.{In, are_new, both, gathered, is_among, result_map, result_then, tabulated, there_or}
 pub use Rattle.trio_lists.specs.Sorting.{inserted_by, sorted_by}
 pub use Rattle.trio_nodes.proofs.NodeFacts.{with_node-else, with_node-same}
 pub use Rattle.trio_nodes.specs.After.{batch_nodes, bytes_in, call_nodes, lacks_room, moded_node, moded_nodes, put_within, raw_bytes, raw_node, raw_nodes, with_blocks}
@@ -141,7 +140,7 @@ pub use Rattle.trio_surveys.proofs.OwnFiles.{lent_settled, place_from, place_par
 pub use Rattle.trio_surveys.proofs.Owned.{index_apart, page_owner, pages_are, pages_new, sound_parts}
 pub use Rattle.trio_surveys.proofs.PageSlots.{pages_same}
 pub use Rattle.trio_surveys.proofs.Picked.{all_listed, bodies_are, file_put, listed_no_root, page_put_is, survey_put}
-pub use Rattle.trio_surveys.proofs.Places.{Placed, below_from, gathered_from, gathers_directory, placed_from}
+pub use Rattle.trio_surveys.proofs.Places.{below_from, gathered_from, gathers_directory, placed_from}
 pub use Rattle.trio_surveys.proofs.Putting.{put_on, with_bodies-get}
 pub use Rattle.trio_surveys.proofs.Reached.{child_met, child_parent, met_cases, no_root_listed, reached_met, survey_reached}
 pub use Rattle.trio_surveys.proofs.RowsLaw.{met_same, row_there}
@@ -163,11 +162,8 @@ pub use Rattle.trio_laws.specs.history.Recorded.{BesideFits, CallFits, IsMarked,
 pub use Rattle.trio_laws.specs.history.Replays.{ReplaysFrom}
 pub use Rattle.trio_laws.specs.history.Stands.{blocks_of, bytes_of, bytes_of_sheets, name_in, name_of, node_by, node_in, node_of, nodes_of, past_of, size_of, standing_of, writer_of}
 pub use Rattle.trio_laws.specs.history.ToldLaws.{note_of, notes_of}
-pub use Rattle.trio_laws.specs.session.FileEdits.{bare_file, bytes_listed, core_in_hand, files_in_hand, pages_listed, read_in_hand, with_body, with_content}
-pub use Rattle.trio_laws.specs.session.JudgedEdits.{IsJudgedEdit, content_of, listed_with, met_with}
-pub use Rattle.trio_laws.specs.session.Listed.{JudgesSame, listed_in_hand}
+pub use Rattle.trio_laws.specs.session.FileEdits.{bare_file, bytes_listed, core_in_hand, read_in_hand, with_body}
 pub use Rattle.trio_laws.specs.session.Others.{NoHoldOnRoot}
 pub use Rattle.trio_laws.specs.session.Sees.{IsView}
 pub use Rattle.trio_laws.specs.session.Settles.{IsMoment, WasHeld}
-pub use Rattle.trio_laws.specs.session.SlotEdits.{IsEmptyFile, IsFreeName, SlotWrite, body_after, body_before, naming_after, slot_after, slot_before}
-pub use Rattle.trio_laws.specs.session.Takes.{Becomes, IsInOrder, IsUntouched, Takes, case_as_stands, case_in_hand, pages_in_hand, with_allotment, with_write}
+pub use Rattle.trio_laws.specs.session.Takes.{IsInOrder, IsUntouched, Takes, case_as_stands, case_in_hand, with_allotment, with_write}

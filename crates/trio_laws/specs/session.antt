@@ -9,8 +9,3 @@ pub mod FileEdits
 pub mod Sees
 pub mod FileCalls
 pub mod DirCalls
-pub mod Chains
-pub mod Listed
-pub mod Named
-pub mod SlotEdits
-pub mod JudgedEdits

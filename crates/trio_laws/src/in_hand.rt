@@ -1,7 +1,6 @@
 //! The laws of what a session has in hand: the body of each function is empty, and its contract is
 //! the law.
 
-ghost use Rattle.trio_laws.specs.session.Chains.{BytesCut, BytesGrow, BytesMany, BytesPut, NamedReads, ReadsNamed, SharesStay};
 ghost use Rattle.trio_laws.specs.session.FileCalls.{
   DoneByBytes,
   EntersBy,
@@ -11,20 +10,8 @@ ghost use Rattle.trio_laws.specs.session.FileCalls.{
   StatsDirectory,
   WalksBy,
 };
-ghost use Rattle.trio_laws.specs.session.FileEdits.{FileEditShows};
-ghost use Rattle.trio_laws.specs.session.Listed.{
-  JudgedAfterAllotment,
-  JudgedAfterHold,
-  JudgedAfterWrite,
-  ListedAfterAllotment,
-  ListedAfterEdit,
-  ListedAfterHold,
-  ListedAfterWrite,
-  ListedAreInHand,
-  TakingKeeps,
-};
 ghost use Rattle.trio_laws.specs.session.Sees.{SeesEntryRights, SeesJudged, SeesLease, SeesLent, SeesMade, SeesRoot, SeesUntouched, SeesWritten, UntouchedReads};
-ghost use Rattle.trio_laws.specs.session.Takes.{BecomesThrough, FreshIsFree, FreshIsNew, FreshIsUntouched, NothingIsInOrder, TakesAllotment, TakesHold, TakesReads, TakesWrite};
+ghost use Rattle.trio_laws.specs.session.Takes.{BecomesThrough, NothingIsInOrder, TakesAllotment, TakesHold, TakesReads, TakesWrite};
 
 /// A session begins in order.
 pub fn begins_in_order()
@@ -56,40 +43,6 @@ pub fn takes_allotment()
     ensures law { TakesAllotment }
 {}
 
-/// What calls come to is what is shown after a taking too.
-pub fn taking_keeps()
-    ensures law { TakingKeeps }
-{}
-
-/// Which pages the judged files list, and how takings and edits change that.
-pub fn lists_pages()
-    ensures hand { ListedAreInHand }
-    ensures write { ListedAfterWrite }
-    ensures hold { ListedAfterHold }
-    ensures allotment { ListedAfterAllotment }
-    ensures edit { ListedAfterEdit }
-{}
-
-/// Which files are judged after more was taken, and what they read.
-pub fn judges_taken()
-    ensures write { JudgedAfterWrite }
-    ensures hold { JudgedAfterHold }
-    ensures allotment { JudgedAfterAllotment }
-{}
-
-/// What a desk gives is none of what is in hand: a write lease, a hold, and allotted pages.
-pub fn fresh_is_none_in_hand()
-    ensures writes { FreshIsUntouched }
-    ensures holds { FreshIsFree }
-    ensures pages { FreshIsNew }
-{}
-
-/// Where one written regular file is edited, that file alone of the nodes that are shown has other
-/// bytes: those that it now reads.
-pub fn file_edit_shows()
-    ensures law { FileEditShows }
-{}
-
 /// What leases show, what the session's own directories read and what its written files read is
 /// true of the nodes that it shows.
 pub fn sees_nodes()
@@ -118,17 +71,4 @@ pub fn decides_file_calls()
     ensures bytes { DoneByBytes }
     ensures directory { StatsDirectory }
     ensures room { RefusedForRoom }
-{}
-
-/// A regular file reads by its index pages, each of which names its share of the blocks, and a share
-/// stays however the chain grows or is cut behind it; and the bytes of blocks that grow, are cut or are
-/// put.
-pub fn chains_read()
-    ensures named { ReadsNamed }
-    ensures reads { NamedReads }
-    ensures stay { SharesStay }
-    ensures many { BytesMany }
-    ensures cut { BytesCut }
-    ensures grow { BytesGrow }
-    ensures put { BytesPut }
 {}

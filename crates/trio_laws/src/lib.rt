@@ -2,7 +2,7 @@
 //! and what follows of releases and of the files of others (`docs/DEFINITIONS.md`); and of the history
 //! beside the state, for which nodes a state stands, which entry an event and its answer make, and how a
 //! log replays (`specs/history/`); and of honest sessions, what leases show, that others leave it true,
-//! that what is ready is accepted, and what takings, edits, walks and calls show (`specs/session/`).
+//! that what is ready is accepted, and what takings, walks and calls show (`specs/session/`).
 //!
 //! `specs/` holds what the laws speak of beside the definitions below, and `proofs/` their proofs.
 #![tactic(auto)]
@@ -12,7 +12,6 @@ pub mod dir_calls;
 pub mod ends;
 pub mod histories;
 pub mod in_hand;
-pub mod judged_edits;
 pub mod known;
 pub mod laws;
 pub mod moves;
@@ -20,5 +19,4 @@ pub mod notes;
 pub mod outs;
 pub mod rules;
 pub mod sessions;
-pub mod slot_edits;
 pub mod told;

@@ -1,6 +1,6 @@
 -- What is judged after slots were written: the files that the session made, and the rights that the entries show.
 use Rattle.trio_edit_laws.proofs.Words.{◌∙◌, ◌≡◌, ArePossible, AreSlotWrites, Case, DeskSeen, FileRead, HasRights, In, InoParts, IsJudgedMade, IsView, List, Listed, MadeFile, MayEdit, Met, Naming, Nodes, Ok, Option, Row, SessionSeen, SlotWrite, Some, among_cases, ap, arith, case_as_stands, cases_eq, file_in, hand_files_once, in_hand, inl, ino_numbers, inr, is_some, judged_files, judged_once, made_body, made_file, made_met, map, map-In, node_at, rights_in, same_met, subst, sym, true, ℕ}
-use Rattle.trio_laws.specs.session.SlotEdits.{IsAfter, IsMadeBy}
+use Rattle.trio_edit_laws.specs.session.SlotEdits.{IsAfter, IsMadeBy}
 use Rattle.trio_edit_laws.proofs.HandStays.{takes_more}
 use Rattle.trio_edit_laws.proofs.Whole.{judged_reads, view_then}
 use Rattle.trio_edit_laws.proofs.directories.Stays.{KeepsJudged, WritesDirs, hand_stays}

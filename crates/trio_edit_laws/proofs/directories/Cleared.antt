@@ -1,8 +1,8 @@
 -- The slot of a name is cleared.
-use Rattle.trio_edit_laws.proofs.Words.{◌*◌, ◌++◌, ◌<◌, ◌∙◌, ◌∷◌, ◌≡◌, ◌≢◌, ◌≤◌, ◌⊎◌, AreSlotWrites, Chain, Changes, DeskSeen, Directory, Empty, Entry, EntryPart, HasSlot, HoldParts, In, In-cases, In-left, In-map, In-right, IsInSlot, IsUnlent, IsView, Kind, LeavesFiles, List, MadeFile, MayEdit, Nodes, None, Option, Place, Row, SessionSeen, SlotWrite, Some, StaysTree, [], ap, append-nil, append_assoc, are_new, arith, block_number, body-else, cases_eq, chain_in, chained, cleared_file, cleared_slot, empty_value, entry_count, entry_in, entry_on-cleared, entry_shown, eqb, eqb-true, every_number, filter, filter-In, find, find-In, find-append, flat_map, flat_map-append, grant_in, held_file, hold_numbers, in_hand, inl, ino_numbers, inr, is_some, length, length-zeros, made_body, made_file, map, map-append, not, number-cleared, number_shown, only, open_kind, option_map_or, option_or, page_in, place_shown, refl, slot_bytes, slot_bytes-else, slot_of, slots_of, slots_shown, subst, sym, true, with_node, with_part, zeros, ℕ}
-use Rattle.trio_laws.specs.session.SlotEdits.{IsClear, IsHeldIn, IsMade}
-use Rattle.trio_laws.proofs.session.FilesRemoved.{after_clear, clear_shows as law}
-use Rattle.trio_laws.proofs.session.SlotCases.{none_not}
+use Rattle.trio_edit_laws.proofs.Words.{◌*◌, ◌++◌, ◌<◌, ◌∙◌, ◌∷◌, ◌≡◌, ◌≢◌, ◌≤◌, ◌⊎◌, AreSlotWrites, Chain, Changes, DeskSeen, Directory, Empty, Entry, EntryPart, HasSlot, HoldParts, In, In-cases, In-left, In-map, In-right, IsInSlot, IsUnlent, IsView, Kind, LeavesFiles, List, MadeFile, MayEdit, Nodes, None, Option, Place, Row, SessionSeen, SlotWrite, Some, StaysTree, [], ap, append-nil, append_assoc, are_new, arith, block_number, body-else, cases_eq, chain_in, chained, cleared_file, cleared_slot, empty_value, entry_count, entry_in, entry_on-cleared, entry_shown, eqb, eqb-true, every_number, filter, filter-In, find, find-In, find-append, flat_map, flat_map-append, grant_in, held_file, hold_numbers, in_hand, inl, ino_numbers, inr, is_some, length, length-zeros, made_body, made_file, map, map-append, not, number-cleared, number_shown, open_kind, option_map_or, option_or, page_in, place_shown, refl, slot_bytes, slot_bytes-else, slot_of, slots_of, slots_shown, subst, sym, true, with_node, with_part, zeros, ℕ}
+use Rattle.trio_edit_laws.specs.session.SlotEdits.{IsClear, IsHeldIn, IsMade}
+use Rattle.trio_edit_laws.proofs.session.FilesRemoved.{after_clear, clear_shows as law}
+use Rattle.trio_edit_laws.proofs.session.SlotCases.{none_not, only}
 use Rattle.trio_session.specs.Seen.{children_shown, clear, without_made}
 use Rattle.trio_edit_laws.specs.DirLaws.{ClearLeaves, ClearShows, LeavesCleared}
 use Rattle.trio_edit_laws.proofs.Chained.{apart_from}

@@ -1,12 +1,11 @@
 -- A new file is put into the first empty slot of a directory.
-use Rattle.trio_edit_laws.proofs.Words.{if◌then◌else◌, ◌&&◌, ◌*◌, ◌++◌, ◌<◌, ◌∙◌, ◌∷◌, ◌≡◌, ◌≤◌, ◌⊎◌, AreSlotWrites, AreWithinLimits, Bad, Body, Bool, Chain, Changes, CoreRange, DeskSeen, Directory, EditsSlotIn, Empty, Entry, EntryPart, HasSlot, In, In-cases, In-is_among, In-left, In-map, In-right, InHand, InoParts, IsEntry, IsInSlot, IsOpenDir, IsTree, IsUnlent, IsView, IsWhole, Kind, LeavesFiles, List, MadeFile, MayEdit, Met, Naming, Nodes, None, Option, Place, Row, SessionSeen, Shows, SlotRead, SlotWrite, Some, StaysTree, [], and_from, and_parts, ap, append-nil, append_assoc, are_new, arith, block_number, body-else, body-filled, body_in_slot, body_in_slot-filled, body_sized, body_stands, case_as_stands, cases_eq, chain_in, chained, cleared_file, cond, edits_filled, empty_shown, entry-filled, entry_bytes, entry_fits, entry_in, entry_on, entry_value, eq-eqb, eqb, eqb-true, every_number, false, false≢true, filled, filter, filter-In, filter-same, flat_map-append, grant_in, held_file, in_hand, inl, ino_numbers, inr, is_allotted, is_among, is_among-not, is_name, is_some, le-leb, leb, length, length-entry_bytes, length-with_part, lt-ltb, ltb, made_body, made_file, made_is_judged, made_met, map, map-append, met_in, named_so, naming_after, naming_of, ne_eqb, no_chain, not, only, open_kind, option_map_or, page_in, page_in-with_page_same, parcel_case, place_shown, plain, read_file, refl, slot_bytes, slot_bytes-else, slot_of, spare_numbers, subst, sym, true, used_numbers, with_node, with_part, written_file, ℕ}
+use Rattle.trio_edit_laws.proofs.Words.{if◌then◌else◌, ◌&&◌, ◌*◌, ◌++◌, ◌<◌, ◌∙◌, ◌∷◌, ◌≡◌, ◌≤◌, ◌⊎◌, AreSlotWrites, AreWithinLimits, Bad, Body, Bool, Chain, Changes, CoreRange, DeskSeen, Directory, EditsSlotIn, Empty, Entry, EntryPart, HasSlot, In, In-cases, In-is_among, In-left, In-map, In-right, InHand, InoParts, IsEntry, IsInSlot, IsOpenDir, IsTree, IsUnlent, IsView, IsWhole, Kind, LeavesFiles, List, MadeFile, MayEdit, Met, Naming, Nodes, None, Option, Place, Row, SessionSeen, Shows, SlotRead, SlotWrite, Some, StaysTree, [], and_from, and_parts, ap, append-nil, append_assoc, are_new, arith, block_number, body-else, body-filled, body_in_slot, body_in_slot-filled, body_sized, body_stands, case_as_stands, cases_eq, chain_in, chained, cleared_file, cond, edits_filled, empty_shown, entry-filled, entry_bytes, entry_fits, entry_in, entry_on, entry_value, eq-eqb, eqb, eqb-true, every_number, false, false≢true, filled, filter, filter-In, filter-same, flat_map-append, grant_in, held_file, in_hand, inl, ino_numbers, inr, is_allotted, is_among, is_among-not, is_name, is_some, le-leb, leb, length, length-entry_bytes, length-with_part, lt-ltb, ltb, made_body, made_by, made_file, made_met, map, map-append, met_in, naming_after, naming_of, ne_eqb, no_chain, not, open_kind, option_map_or, page_in, page_in-with_page_same, parcel_case, place_shown, plain, read_file, refl, slot_bytes, slot_bytes-else, slot_of, spare_numbers, subst, sym, true, used_numbers, with_node, with_part, written_file, ℕ}
 use Rattle.std.proofs.Common.{length-append}
 use Rattle.trio_lists.proofs.Filters.{filter-filter}
 use Rattle.trio_layout.specs.Body.{body_of}
-use Rattle.trio_desk.specs.Shows.{made_by}
-use Rattle.trio_laws.specs.session.SlotEdits.{IsFill, filled as nodes_filled}
-use Rattle.trio_laws.proofs.session.FilesMade.{after_fill, fill_shows as law}
-use Rattle.trio_laws.proofs.session.Named.{named_is_read}
+use Rattle.trio_edit_laws.specs.session.SlotEdits.{IsFill, filled as nodes_filled}
+use Rattle.trio_edit_laws.proofs.session.FilesMade.{after_fill, fill_shows as law}
+use Rattle.trio_edit_laws.proofs.session.Named.{made_is_judged, named_is_read}
 use Rattle.trio_session.specs.Seen.{fill, placed_made}
 use Rattle.trio_session.proofs.SlotBytes.{entry_fits-every}
 use Rattle.trio_edit_laws.specs.DirLaws.{FillLeaves, FillShows, IsEmptyBody, LeavesFilled, node_made}
@@ -22,6 +21,7 @@ use Rattle.trio_edit_laws.proofs.directories.Places.{IsEmptyPlace, empty_place, 
 use Rattle.trio_edit_laws.proofs.directories.Sees.{r, slot_good, slot_wide}
 use Rattle.trio_edit_laws.proofs.directories.Stays.{EditsDirs, IsAsBefore, IsDirBlock, IsNewFile, WritesDirs, body_else, chain_else, no_grant, open_else, unlent_still}
 use Rattle.trio_edit_laws.proofs.directories.Writes.{WritesSlot, block_whole, body-written_slot, length-slot_with_part, slot_bytes-written, slot_with_part, with_part-slot, write_of, slot_writes}
+use Rattle.trio_edit_laws.proofs.session.SlotCases.{named_so}
 
 -- a slot without an entry is empty
 pub empty_from : (x : SlotRead) → entry_in x ≡ None → (x ≡ Bad → ⊥) → x ≡ Empty

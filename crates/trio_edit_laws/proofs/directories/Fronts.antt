@@ -1,5 +1,5 @@
 -- The front of one slot of an open directory is written: a slot is cleared, or its entry gets another name.
-use Rattle.trio_edit_laws.proofs.Words.{◌&&◌, ◌*◌, ◌<◌, ◌∙◌, ◌∷◌, ◌≡◌, ◌≢◌, ◌≤◌, ◌⊎◌, Bad, Bool, DeskSeen, Directory, EditsSlotIn, Empty, Entry, EntryPart, In, InHand, IsView, IsWhole, List, Listed, MadeFile, MayEdit, Naming, Nodes, Option, Row, SessionSeen, Some, [], ap, arith, body_in_slot, bytes_eq, case_as_stands, cases_eq, chain_in, cond, entry_bytes, entry_fits, entry_names, eqb, every_number, in_hand, inl, inr, length, length-with_part, made_is_judged, made_met, met_in, naming_of, open_kind, page_in, page_in-with_page_same, plain, refl, slot_bytes, some_one, subst, sym, take, true, with_part, with_part_in, ℕ}
+use Rattle.trio_edit_laws.proofs.Words.{◌&&◌, ◌*◌, ◌<◌, ◌∙◌, ◌∷◌, ◌≡◌, ◌≢◌, ◌≤◌, ◌⊎◌, Bad, Bool, DeskSeen, Directory, EditsSlotIn, Empty, Entry, EntryPart, In, InHand, IsView, IsWhole, List, Listed, MadeFile, MayEdit, Naming, Nodes, Option, Row, SessionSeen, Some, [], ap, arith, body_in_slot, bytes_eq, case_as_stands, cases_eq, chain_in, cond, entry_bytes, entry_fits, eqb, every_number, in_hand, inl, inr, length, length-with_part, made_met, met_in, naming_of, open_kind, page_in, page_in-with_page_same, plain, refl, slot_bytes, some_one, subst, sym, take, true, with_part, with_part_in, ℕ}
 use Rattle.trio_layout.specs.Slot.{entry_at, slot_of}
 use Rattle.trio_session.proofs.SlotBytes.{IsInSlot}
 use Rattle.trio_session.proofs.SlotEdits.{edits_with_part}
@@ -7,6 +7,7 @@ use Rattle.trio_edit_laws.proofs.Touches.{touches_page}
 use Rattle.trio_edit_laws.proofs.directories.Sees.{listed, listed_on, r}
 use Rattle.trio_edit_laws.proofs.directories.Stays.{IsDirBlock, WritesDirs}
 use Rattle.trio_edit_laws.proofs.directories.Writes.{WritesSlot, block_whole, body-written_slot, length-slot_with_part, slot_bytes-written, slot_with_part, with_part-slot}
+use Rattle.trio_edit_laws.proofs.session.Named.{entry_names, made_is_judged}
 
 -- ---- entries
 

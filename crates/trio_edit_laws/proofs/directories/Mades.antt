@@ -1,6 +1,6 @@
 -- Lists of files that were made, where one is added or taken out.
-use Rattle.trio_edit_laws.proofs.Words.{◌++◌, ◌∙◌, ◌∷◌, ◌≡◌, ◌⊎◌, Bool, In, In-cases, In-find, In-left, In-map, In-right, List, MadeFile, None, Option, Some, [], ap, are_new, are_new-first, arith, cases_eq, cond, eq-eqb, eqb, eqb-true, false, false≢true, filter, filter-In, filter-all, find, find-In, find-append, inl, inr, map, map-In, ne_eqb, new_between, not, option_or, refl, subst, sym, true, ℕ}
-use Rattle.trio_lists.proofs.Filters.{In-filter, filter-none}
+use Rattle.trio_edit_laws.proofs.Words.{◌++◌, ◌∙◌, ◌∷◌, ◌≡◌, ◌⊎◌, Bool, In, In-cases, In-filter, In-find, In-left, In-map, In-right, List, MadeFile, None, Option, Some, [], ap, are_new, are_new-first, arith, cases_eq, cond, eq-eqb, eqb, eqb-true, false, false≢true, filter, filter-In, filter-all, find, find-In, find-append, inl, inr, map, map-In, ne_eqb, new_between, not, option_or, refl, subst, sym, true, ℕ}
+use Rattle.trio_lists.proofs.Filters.{filter-none}
 use Rattle.trio_edit_laws.proofs.Chained.{apart_from, apart_to}
 
 abbrev pub number_of : MadeFile → ℕ

@@ -1,5 +1,5 @@
 -- An entry of a file that is held goes to another directory.
-use Rattle.trio_edit_laws.proofs.Words.{◌++◌, ◌∙◌, ◌∷◌, ◌≡◌, Chain, Changes, DeskSeen, EntryPart, HasRights, HoldParts, In, In-map, IsInSlot, IsView, Kind, LeavesMoved, List, MadeFile, MayEdit, Nodes, None, Option, Place, Row, SessionSeen, Some, StaysTree, [], ap, append-nil, arith, body_in_slot, clear, eqb, eqb-true, every_number, false, fill, filter, find-In, held_file, in_hand, inl, ino_numbers, inr, is_among-not, made_file, map, moved, named_so, naming_after, node_at, page_in, refl, rights_in, slot_of, some_one, subst, sym, with_changed, ℕ}
+use Rattle.trio_edit_laws.proofs.Words.{◌++◌, ◌∙◌, ◌∷◌, ◌≡◌, Chain, Changes, DeskSeen, EntryPart, HasRights, HoldParts, In, In-map, IsInSlot, IsView, Kind, LeavesMoved, List, MadeFile, MayEdit, Nodes, None, Option, Place, Row, SessionSeen, Some, StaysTree, [], ap, append-nil, arith, body_in_slot, clear, eqb, eqb-true, every_number, false, fill, filter, find-In, held_file, in_hand, inl, ino_numbers, inr, is_among-not, made_file, map, moved, naming_after, node_at, page_in, refl, rights_in, slot_of, some_one, subst, sym, with_changed, ℕ}
 use Rattle.trio_edit_laws.proofs.Keeps.{made_at}
 use Rattle.trio_edit_laws.proofs.directories.After.{OthersStay}
 use Rattle.trio_edit_laws.proofs.directories.Changes.{changes_by}
@@ -11,6 +11,7 @@ use Rattle.trio_edit_laws.proofs.directories.MovedBetween.{move_at}
 use Rattle.trio_edit_laws.proofs.directories.Places.{IsNamedPlace}
 use Rattle.trio_edit_laws.proofs.directories.Sees.{listed, listed_on, r}
 use Rattle.trio_edit_laws.proofs.directories.Stays.{EditsDirs, WritesDirs, body_else, chain_else, open_else, unlent_still}
+use Rattle.trio_edit_laws.proofs.session.SlotCases.{named_so}
 
 module _ (desk : DeskSeen) (s : SessionSeen) (dir dir2 : ℕ) (place place2 : Place) (e : EntryPart) (old name : List ℕ) (kind : Kind) (body : List ℕ)
     (q : MoveNeeds desk s dir dir2 place place2 e old name body) (h : HoldParts) (unmade : made_file s e.ino ≡ None) (old_number : In e.ino (ino_numbers s.parcel.inodes) → ⊥)

@@ -1,5 +1,5 @@
 -- An entry of a file that was made goes to another directory.
-use Rattle.trio_edit_laws.proofs.Words.{◌++◌, ◌∙◌, ◌∷◌, ◌≡◌, ◌⊎◌, Chain, Changes, DeskSeen, Directory, EntryPart, In, In-cases, In-is_among, In-left, In-map, In-right, IsInSlot, IsUnlent, IsView, Kind, LeavesMoved, List, MadeFile, MayEdit, Met, Nodes, None, Option, Place, Row, SessionSeen, Some, StaysTree, [], ap, append-nil, append_assoc, are_new, arith, body_in, cases_eq, chain_in, chained, clear, cond, eq-eqb, eqb, eqb-true, every_number, fill, filter, filter-In, filter-append, find, find-append, flat_map, flat_map-append, in_hand, inl, ino_numbers, inr, is_some, made_body, made_file, made_met, map, map-In, map-append, met_in, moved, named_so, no_chain, not, open_kind, option_map_or, plain, refl, slot_of, subst, sym, true, with_changed, ℕ}
+use Rattle.trio_edit_laws.proofs.Words.{◌++◌, ◌∙◌, ◌∷◌, ◌≡◌, ◌⊎◌, Chain, Changes, DeskSeen, Directory, EntryPart, In, In-cases, In-is_among, In-left, In-map, In-right, IsInSlot, IsUnlent, IsView, Kind, LeavesMoved, List, MadeFile, MayEdit, Met, Nodes, None, Option, Place, Row, SessionSeen, Some, StaysTree, [], ap, append-nil, append_assoc, are_new, arith, body_in, cases_eq, chain_in, chained, clear, cond, eq-eqb, eqb, eqb-true, every_number, fill, filter, filter-In, filter-append, find, find-append, flat_map, flat_map-append, in_hand, inl, ino_numbers, inr, is_some, made_body, made_file, made_met, map, map-In, map-append, met_in, moved, no_chain, not, open_kind, option_map_or, plain, refl, slot_of, subst, sym, true, with_changed, ℕ}
 use Rattle.trio_edit_laws.proofs.Anew.{body-made}
 use Rattle.trio_edit_laws.proofs.Chained.{apart_from}
 use Rattle.trio_edit_laws.proofs.Keeps.{made_at, made_once}
@@ -16,6 +16,7 @@ use Rattle.trio_edit_laws.proofs.directories.MovedBetween.{move_at}
 use Rattle.trio_edit_laws.proofs.directories.Places.{IsEmptyPlace, IsNamedPlace}
 use Rattle.trio_edit_laws.proofs.directories.Sees.{listed_on, r}
 use Rattle.trio_edit_laws.proofs.directories.Stays.{EditsDirs, WritesDirs, body_else, chain_else, open_else, unlent_still}
+use Rattle.trio_edit_laws.proofs.session.SlotCases.{named_so}
 
 module _ (desk : DeskSeen) (s : SessionSeen) (dir dir2 : ℕ) (place place2 : Place) (e : EntryPart) (old name : List ℕ) (kind : Kind) (body : List ℕ)
     (q : MoveNeeds desk s dir dir2 place place2 e old name body) (x : MadeFile) (found : made_file s e.ino ≡ Some x) (kind_is : kind ≡ x.kind)

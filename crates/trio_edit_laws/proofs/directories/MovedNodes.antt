@@ -1,8 +1,8 @@
 -- What an entry that goes to another directory shows, whether its file was made or is held.
 use Rattle.trio_edit_laws.proofs.Words.{◌∙◌, ◌∷◌, ◌≡◌, AreSlotWrites, DeskSeen, Empty, Entry, EntryPart, IsSlotWrite, IsTree, IsView, Kind, List, MadeFile, MayEdit, Nodes, Option, Place, Row, SessionSeen, Shows, SlotWrite, Some, StaysTree, [], ap, are_new, arith, entry_in, in_hand, moved, naming_after, page_in, parcel_case, slot_bytes, slot_of, subst, sym, true, with_changed, ℕ}
-use Rattle.trio_laws.specs.session.SlotEdits.{IsMove, TakesBody}
-use Rattle.trio_laws.proofs.session.FilesMoved.{after_move, move_shows as law}
-use Rattle.trio_laws.proofs.session.SlotCases.{either}
+use Rattle.trio_edit_laws.specs.session.SlotEdits.{IsMove, TakesBody}
+use Rattle.trio_edit_laws.proofs.session.FilesMoved.{after_move, move_shows as law}
+use Rattle.trio_edit_laws.proofs.session.SlotCases.{either}
 use Rattle.trio_edit_laws.proofs.directories.After.{IsListedThen}
 use Rattle.trio_edit_laws.proofs.directories.Changes.{Turns}
 use Rattle.trio_edit_laws.proofs.directories.Filled.{empty_from}

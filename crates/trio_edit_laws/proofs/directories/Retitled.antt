@@ -1,7 +1,7 @@
 -- An entry of a directory gets another name.
-use Rattle.trio_edit_laws.proofs.Words.{◌&&◌, ◌*◌, ◌∙◌, ◌∷◌, ◌≡◌, ◌≤◌, AreSlotWrites, Chain, Changes, DeskSeen, Directory, Entry, EntryPart, HasRights, HasSlot, In, IsEntry, IsInSlot, IsView, LeavesFiles, List, MadeFile, MayEdit, Met, Nodes, None, Option, Place, Row, SessionSeen, SlotWrite, Some, StaysTree, [], and_from, and_parts, ap, arith, body-else, body_in_slot, chain_in, entry_bytes, entry_fits, entry_in, entry_shown, entry_value, every_number, in_hand, inl, ino_numbers, inr, is_name, is_some, leb, length, length-entry_bytes, ltb, made_body, made_file, named_so, naming_after, node_at, open_kind, page_in, place_shown, refl, rights_in, slot_bytes, slot_bytes-else, slot_of, subst, sym, true, with_changed, with_part, ℕ}
-use Rattle.trio_laws.specs.session.SlotEdits.{IsRetitle, retitled as node_retitled}
-use Rattle.trio_laws.proofs.session.FilesRenamed.{after_retitle, retitle_shows as law}
+use Rattle.trio_edit_laws.proofs.Words.{◌&&◌, ◌*◌, ◌∙◌, ◌∷◌, ◌≡◌, ◌≤◌, AreSlotWrites, Chain, Changes, DeskSeen, Directory, Entry, EntryPart, HasRights, HasSlot, In, IsEntry, IsInSlot, IsView, LeavesFiles, List, MadeFile, MayEdit, Met, Nodes, None, Option, Place, Row, SessionSeen, SlotWrite, Some, StaysTree, [], and_from, and_parts, ap, arith, body-else, body_in_slot, chain_in, entry_bytes, entry_fits, entry_in, entry_shown, entry_value, every_number, in_hand, inl, ino_numbers, inr, is_name, is_some, leb, length, length-entry_bytes, ltb, made_body, made_file, naming_after, node_at, open_kind, page_in, place_shown, refl, rights_in, slot_bytes, slot_bytes-else, slot_of, subst, sym, true, with_changed, with_part, ℕ}
+use Rattle.trio_edit_laws.specs.session.SlotEdits.{IsRetitle, retitled as node_retitled}
+use Rattle.trio_edit_laws.proofs.session.FilesRenamed.{after_retitle, retitle_shows as law}
 use Rattle.trio_session.specs.Layout.{retitled}
 use Rattle.trio_session.specs.Seen.{retitle}
 use Rattle.trio_session.proofs.SlotBytes.{entry-retitled}
@@ -16,6 +16,7 @@ use Rattle.trio_edit_laws.proofs.directories.Places.{IsNamedPlace, free_name, na
 use Rattle.trio_edit_laws.proofs.directories.Sees.{entry_made, listed, listed_on, r, slot_wide}
 use Rattle.trio_edit_laws.proofs.directories.Stays.{EditsDirs, WritesDirs, body_else, chain_else, open_else, unlent_still}
 use Rattle.trio_edit_laws.proofs.directories.Writes.{WritesSlot, write_of, slot_writes}
+use Rattle.trio_edit_laws.proofs.session.SlotCases.{named_so}
 
 -- what a retitle is given
 pub record RetitleNeeds (desk : DeskSeen) (s : SessionSeen) (dir' : ℕ) (place' : Place) (e' : EntryPart) (old' new' : List ℕ) : Type 0 where

@@ -1,13 +1,12 @@
 -- What a session sees of a directory that it has open, by the entries that this reads.
-use Rattle.trio_edit_laws.proofs.Words.{◌%◌, ◌/◌, ◌<◌, ◌∙◌, ◌≡◌, Bad, Chain, Core, DeskSeen, Directory, Entry, EntryPart, HasRights, In, In-right, InHand, IsView, Kind, LentFile, List, Listed, MadeFile, MayEdit, Met, Node, Nodes, None, Ok, Option, Place, Rights, Row, SessionSeen, Shown, SlotRead, Some, [], among_cases, ap, arith, bare_file, block_shown, body_in, body_in_slot, bytes_eq, case_in_hand, chain_in, cond, core_in_hand, dir_pages, entries_where, entries_within, entry_count, entry_in, entry_names, entry_on, entry_shown, every_number, find, find_map, gathered, gathered_below, get_or, in_hand, inl, ino_numbers, inr, is_some, length, length-map, made_file, made_is_judged, map, map-map, met_in, node_at, number_shown, open_kind, option_and_then, option_map, option_map_or, option_or, page_at, page_in, page_of, pages_shown, place_at, place_of, place_shown, plain, read_file, refl, result_then-Ok, rights_in, rights_of, sees_judged, sees_made, sees_written, slice_get, slice_get-In, slice_get-get_or, slice_get-map, slot_bytes, slot_entries, slot_of, slot_wider, slot_with, slots_of, slots_shown, subst, sym, true, within_from, written_at, ℕ}
-use Rattle.trio_rights.specs.declared.rights.Mode.{Mode}
-use Rattle.trio_layout.specs.Entries.{entries_on, with_names_apart}
+use Rattle.trio_edit_laws.proofs.Words.{◌%◌, ◌/◌, ◌<◌, ◌∙◌, ◌≡◌, Bad, Chain, Core, DeskSeen, Directory, Entry, EntryPart, HasRights, In, In-right, InHand, IsView, Kind, LentFile, List, Listed, MadeFile, MayEdit, Met, Mode, Node, Nodes, None, Ok, Option, Place, Rights, Row, SessionSeen, Shown, SlotRead, Some, [], among_cases, ap, arith, bare_file, block_shown, body_in, body_in_slot, bytes_eq, case_in_hand, chain_in, cond, core_in_hand, dir_pages, entries_where, entries_within, entry_count, entry_in, entry_on, entry_shown, every_number, find, find_map, gathered, gathered_below, get_or, in_hand, inl, ino_numbers, inr, is_some, length, length-map, made_file, map, map-map, met_in, node_at, number_shown, open_kind, option_and_then, option_map, option_map_or, option_or, page_at, page_in, page_of, pages_shown, place_at, place_of, place_shown, plain, read_file, refl, result_then-Ok, rights_in, rights_of, sees_judged, sees_made, sees_written, slice_get, slice_get-In, slice_get-get_or, slice_get-map, slot_bytes, slot_entries, slot_of, slot_wider, slot_with, slots_of, slots_shown, subst, sym, true, with_names_apart, within_from, written_at, ℕ}
+use Rattle.trio_layout.specs.Entries.{entries_on}
 use Rattle.trio_auxdir.specs.Places.{place_of as place_at_name}
 use Rattle.trio_nodes.specs.Nodes.{count_in, find_named, names_in}
 use Rattle.trio_surveys.proofs.Places.{below_has, gathered_has}
 use Rattle.trio_laws.specs.session.Sees.{Lists}
 use Rattle.trio_laws.proofs.session.DirNames.{names_in_order}
-use Rattle.trio_laws.proofs.session.Named.{entries_are_in_slots, written_is_judged}
+use Rattle.trio_edit_laws.proofs.session.Named.{entries_are_in_slots, entry_names, made_is_judged, written_is_judged}
 use Rattle.trio_laws.proofs.session.Spares.{shown_spares}
 use Rattle.trio_edit_laws.specs.DirLaws.{SeesDirectory}
 use Rattle.trio_edit_laws.proofs.Anew.{body-made, body-written}

@@ -1,13 +1,12 @@
 -- The entries of a directory by its slots: those that it lists, and what a look-up finds among them.
-use Rattle.trio_edit_laws.proofs.Words.{◌%◌, ◌*◌, ◌++◌, ◌+◌, ◌/◌, ◌<◌, ◌∙◌, ◌∷◌, ◌≡◌, Bad, Bool, Core, Directory, EntryPart, In, In-flat, In-left, In-right, List, Listed, Location, None, Ok, Option, SlotRead, Some, [], ap, arith, body_in_slot, bytes_eq, cases_eq, cond, entries_where, entries_within, entry_in, entry_on, every_number, false, filter, find, flat_map, gathered, gathered_below, get_or, get_or_from_slice_get, inl, inr, is_some, length, length-take-le, listed_at, map, map-append, name_in, option_and_then, option_map, page_of, refl, result_then-Ok, slice_get, slice_get-map, slice_get_within, slot_bytes, slot_entries, slot_of, slot_on, slot_wider, slot_with, slots_of, subst, suc, sym, take, true, zero, ℕ}
+use Rattle.trio_edit_laws.proofs.Words.{◌%◌, ◌*◌, ◌++◌, ◌+◌, ◌/◌, ◌<◌, ◌∙◌, ◌∷◌, ◌≡◌, Bad, Bool, Core, Directory, EntryPart, In, In-flat, In-left, In-right, List, Listed, Location, None, Ok, Option, SlotRead, Some, [], ap, arith, body_in_slot, both-Ok, bytes_eq, cases_eq, cond, entries_where, entries_within, entry_in, entry_on, every_number, false, filter, find, flat_map, gathered, gathered_below, get_or, get_or_from_slice_get, inl, inr, is_some, length, length-take-le, listed_at, map, map-append, name_in, option_and_then, option_map, page_of, refl, result_then-Ok, slice_get, slice_get-map, slice_get_within, slot_bytes, slot_entries, slot_of, slot_on, slot_wider, slot_with, slots_of, subst, suc, sym, take, true, unless_repeated, zero, ℕ}
 use Rattle.std.proofs.Common.{length-append}
 use Rattle.std.specs.List.{filter_map}
 use Rattle.std.proofs.lemmas.List.Concat.{get_or-flat_map}
 use Rattle.std.proofs.lemmas.List.Elements.{filter_map-append}
 use Rattle.trio_lists.specs.Lists.{tabulated}
-use Rattle.trio_lists.proofs.Members.{both-Ok}
 use Rattle.trio_lists.proofs.Tabulated.{tabulated-get, tabulated-length}
-use Rattle.trio_layout.specs.Entries.{entries_on, unless_repeated}
+use Rattle.trio_layout.specs.Entries.{entries_on}
 use Rattle.trio_auxdir.specs.Slots.{slots_on}
 use Rattle.trio_auxdir.proofs.SlotLists.{slot_there}
 use Rattle.trio_session.specs.Deeds.{slots_of_page}

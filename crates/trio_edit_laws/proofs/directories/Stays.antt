@@ -1,5 +1,5 @@
 -- An edit of slots in the pages of directories: what stays of all that is in hand, and of the files that are open.
-use Rattle.trio_edit_laws.proofs.Words.{if◌then◌else◌, ◌++◌, ◌∙◌, ◌≡◌, ◌≤◌, ◌⊎◌, ArePossible, Becomes, Body, Chain, ChainsRead, DeskSeen, Directory, EntriesHaveRights, Hold, HoldParts, In, In-left, In-right, InoParts, IsInSlot, IsJudgedMade, IsNamed, IsUnlent, Kind, LentFile, List, MadeFile, MayEdit, Met, Nodes, None, Option, Read, ReadsBy, Row, SessionSeen, Shown, Some, Write, Written, [], ap, are_new, arith, body_in, body_of, case_as_stands, cases_eq, chain_in, chained, core_in_hand, find, get_or, get_or-In, grant_in, held_file, in_hand, inl, ino_numbers, inr, is_some, judged_files, length, made_body, made_file, map, map-fixed, no_chain, open_kind, option_map, option_map_or, page_of, place_in, read_file, refl, slice_index_or, subst, sym, true, written_file, ℕ}
+use Rattle.trio_edit_laws.proofs.Words.{if◌then◌else◌, ◌++◌, ◌∙◌, ◌≡◌, ◌≤◌, ◌⊎◌, ArePossible, Becomes, Body, Chain, ChainsRead, DeskSeen, Directory, EntriesHaveRights, Hold, HoldParts, In, In-left, In-right, InoParts, IsInSlot, IsJudgedMade, IsNamed, IsUnlent, Kind, LentFile, List, MadeFile, MayEdit, Met, Nodes, None, Option, Read, ReadsBy, Row, SessionSeen, Shown, Some, Write, Written, [], ap, are_new, arith, body_in, body_of, case_as_stands, cases_eq, chain_in, chained, core_in_hand, find, get_or, get_or-In, grant_in, held_file, in_hand, inl, ino_numbers, inr, is_some, judged_files, length, made_body, made_file, map, no_chain, open_kind, option_map, option_map_or, page_of, place_in, read_file, refl, slice_index_or, subst, sym, true, written_file, ℕ}
 use Rattle.trio_edit_laws.proofs.Anew.{FilesAnew, bare_anew, bare_of, kind_anew, number_is, numbers_anew, place_anew}
 use Rattle.trio_edit_laws.proofs.Chained.{apart_from}
 use Rattle.trio_edit_laws.proofs.HandStays.{HandStays, chains_beside, hands_in_all, is_on, left_alone, page_same, takes_more, well_given, within_pages}
@@ -7,6 +7,7 @@ use Rattle.trio_edit_laws.proofs.Keeps.{place_of_open}
 use Rattle.trio_edit_laws.proofs.Opens.{open_apart, open_once}
 use Rattle.trio_edit_laws.proofs.Touches.{Touches, bare_files}
 use Rattle.trio_edit_laws.proofs.Whole.{shows_after}
+use Rattle.trio_edit_laws.proofs.session.JudgedReads.{map-fixed}
 
 -- ---- grants
 

@@ -1,5 +1,5 @@
 -- A slot of an open directory that is written, as the laws of slots have it.
-use Rattle.trio_edit_laws.proofs.Words.{◌*◌, ◌++◌, ◌+◌, ◌-◌, ◌<◌, ◌∙◌, ◌∷◌, ◌≡◌, ◌≤◌, AreSlotWrites, Chain, DeskSeen, Directory, In, In-right, IsSlotWrite, IsView, IsWhole, List, MayEdit, Nodes, Option, Row, SessionSeen, SlotWrite, Some, [], ap, append_assoc, arith, body_in_slot, chain_in, drop, drop-append-le, drop-drop, in_hand, length, length-drop, length-take-le, length-with_part, only, open_kind, page_in, pages_in_hand, refl, slice_range, slot_bytes, subst, sym, take, ℕ}
+use Rattle.trio_edit_laws.proofs.Words.{◌*◌, ◌++◌, ◌+◌, ◌-◌, ◌<◌, ◌∙◌, ◌∷◌, ◌≡◌, ◌≤◌, AreSlotWrites, Chain, DeskSeen, Directory, In, In-right, IsSlotWrite, IsView, IsWhole, List, MayEdit, Nodes, Option, Row, SessionSeen, SlotWrite, Some, [], ap, append_assoc, arith, body_in_slot, chain_in, drop, drop-append-le, drop-drop, in_hand, length, length-drop, length-take-le, length-with_part, open_kind, page_in, pages_in_hand, refl, slice_range, slot_bytes, subst, sym, take, ℕ}
 use Rattle.std.proofs.Common.{length-append}
 use Rattle.std.proofs.lemmas.List.{take-append-drop}
 use Rattle.trio_page.specs.Field.{with_part}
@@ -11,6 +11,7 @@ use Rattle.trio_edit_laws.proofs.Opens.{open_chained}
 use Rattle.trio_edit_laws.proofs.Pages.{length-page_in}
 use Rattle.trio_edit_laws.proofs.directories.Sees.{r, there}
 use Rattle.trio_edit_laws.proofs.directories.Stays.{WritesDirs, hand_stays, core_same, reads_same}
+use Rattle.trio_edit_laws.proofs.session.SlotCases.{only}
 
 -- ---- bytes
 

@@ -1,24 +1,19 @@
--- A written regular file is edited: of the nodes that are shown it alone has other bytes.
-use Rattle.std.specs.Prelude.{◌≡◌, ℕ, ◌==◌, List, [], ◌++◌, map, take, None, Ok, if◌then◌else◌, Result, IsTrue}
+-- A file as it stands in hand, and nodes with other bytes of a file.
+use Rattle.std.specs.Prelude.{ℕ, ◌==◌, List, [], take, None, if◌then◌else◌, Result}
 use Rattle.std.specs.Option.{option_map}
-use Rattle.trio_rights.specs.declared.kind.Kind.TheVariants.{Regular}
 use Rattle.trio_rights.specs.Bundle.{Written}
-use Rattle.trio_lists.specs.Lists.{In, are_new}
-use Rattle.trio_layout.specs.declared.body.Body.{Body}
-use Rattle.trio_layout.specs.Body.{body_at}
-use Rattle.trio_layout.specs.Core.{Core, Location, page_of}
-use Rattle.trio_layout.specs.Survey.{FileRead, Met, pages_in}
+use Rattle.trio_layout.specs.Core.{Core, Location}
+use Rattle.trio_layout.specs.Survey.{FileRead}
 use Rattle.trio_layout.specs.Case.{bundle_core}
 use Rattle.trio_layout.specs.Within.{file_within}
-use Rattle.trio_layout.specs.JudgedFiles.{judged_files, pages_within, written_at}
-use Rattle.trio_lease.specs.Shown.{Shown, LentFile}
+use Rattle.trio_layout.specs.JudgedFiles.{written_at}
+use Rattle.trio_lease.specs.Shown.{Shown}
 use Rattle.trio_nodes.specs.declared.node.Node.{Node}
 use Rattle.trio_nodes.specs.Nodes.{Nodes, node_at, with_node}
 use Rattle.trio_desk.specs.Call.{DeskSeen}
 use Rattle.trio_desk.specs.Shows.{pages_bytes}
-use Rattle.trio_desk.specs.Ready.{lent_files}
 use Rattle.trio_desk.specs.Edits.{InHand}
-use Rattle.trio_laws.specs.session.Takes.{IsInOrder, Becomes, case_as_stands, pages_in_hand}
+use Rattle.trio_laws.specs.session.Takes.{case_as_stands}
 
 -- ---- files as they stand
 
@@ -34,15 +29,7 @@ bare_file f = record { ino = f.ino; kind = f.kind; body = f.body; index = []; bl
 abbrev pub read_in_hand : DeskSeen → InHand → Written → Result FileRead Location
 read_in_hand desk h w = file_within (core_in_hand desk h) (written_at w None)
 
--- the numbers, kinds and bodies of the written files
-abbrev pub files_in_hand : InHand → List Written
-files_in_hand h = map (λ f. bare_file f.stands) h.parcel.writes
-
--- the index pages and the blocks of a file that was read
-abbrev pub pages_listed : FileRead → List ℕ
-pages_listed f = f.chain.index ++ f.chain.blocks
-
--- the bytes that it has
+-- the bytes of a file that was read
 abbrev pub bytes_listed : Core → FileRead → List ℕ
 bytes_listed core f = take f.body.size (pages_bytes core f.chain.blocks)
 
@@ -59,40 +46,3 @@ with_content ino bytes nodes = with_node nodes ino (option_map (node_with bytes)
 -- the file with this body, where it has this number
 abbrev pub with_body : ℕ → List ℕ → Written → Written
 with_body ino body w = if w.ino == ino then record w { body = body } else w
-
--- the mode, the uid and the gid are the same
-pub record SameRights (a b : Body) : Type 0 where
-  pub mode : a.mode.0 ≡ b.mode.0
-  pub uid : a.uid ≡ b.uid
-  pub gid : a.gid ≡ b.gid
-
--- One written regular file, of the number and kind that were lent, gets another body, and pages that it lists before or after get other bytes. It reads then with the rights
--- that it had, and with pages that are in hand, each once, and that no other judged file lists. All else in hand is as it was.
-pub record IsFileEdit (desk : DeskSeen) (h h' : InHand) (f : LentFile) (body : List ℕ) (file : FileRead) : Type 0 where
-  pub written : In f h.parcel.writes
-  pub kind : f.stands.kind ≡ Regular
-  pub number_lent : f.stands.ino ≡ f.lent.ino
-  pub kind_lent : f.stands.kind ≡ f.lent.kind
-  pub files : files_in_hand h' ≡ map (with_body f.stands.ino body) (files_in_hand h)
-  pub pages : pages_in_hand h' ≡ pages_in_hand h
-  pub lent : lent_files h'.parcel.writes ≡ lent_files h.parcel.writes
-  pub holds : h'.parcel.holds ≡ h.parcel.holds
-  pub inodes : h'.parcel.inodes ≡ h.parcel.inodes
-  pub back : h'.back ≡ h.back
-  pub reads : read_in_hand desk h' (record (bare_file f.stands) { body = body }) ≡ Ok file
-  pub rights : SameRights file.body (body_at f.stands.body)
-  pub own : (page : ℕ) → In page (pages_listed file) → In page (pages_in_hand h)
-  pub once : IsTrue (are_new [] (pages_listed file))
-  pub apart :
-      (x : Met) (page : ℕ) → In x (judged_files (case_as_stands desk h)) → (x.ino ≡ f.stands.ino → ⊥)
-      → In page (pages_within (case_as_stands desk h) x) → In page (pages_listed file) → ⊥
-  pub bytes :
-      (page : ℕ) → (In page (pages_in (read_in_hand desk h (bare_file f.stands))) → ⊥) → (In page (pages_listed file) → ⊥)
-      → page_of (core_in_hand desk h') page ≡ page_of (core_in_hand desk h) page
-
--- Then the nodes that are shown have the bytes that the file now reads.
-abbrev pub FileEditShows : Type 0
-FileEditShows =
-    (desk : DeskSeen) (h h' : InHand) (f : LentFile) (body : List ℕ) (file : FileRead)
-    → IsInOrder desk h → IsFileEdit desk h h' f body file
-    → Becomes desk h h' (with_content f.stands.ino (bytes_listed (core_in_hand desk h') file))

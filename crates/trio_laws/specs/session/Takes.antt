@@ -10,8 +10,7 @@ use Rattle.trio_lease.specs.declared.parts.HoldParts.{HoldParts}
 use Rattle.trio_nodes.specs.declared.call.Done.{Done}
 use Rattle.trio_nodes.specs.Nodes.{Nodes}
 use Rattle.trio_nodes.specs.Tree.{IsTree}
-use Rattle.trio_lease.specs.declared.lease.Lease.TheVariants.{Write, Hold}
-use Rattle.trio_desk.specs.Out.{IsFreshAllotment, IsFreshLease, IsWellLent, WasGiven, file_numbers, hold_numbers, numbers_of_file, page_numbers}
+use Rattle.trio_desk.specs.Out.{IsWellLent, file_numbers, hold_numbers, numbers_of_file, page_numbers}
 use Rattle.trio_desk.specs.Call.{DeskSeen}
 use Rattle.trio_desk.specs.Among.{IsAmong}
 use Rattle.trio_desk.specs.Shows.{naming_of}
@@ -117,25 +116,3 @@ TakesAllotment =
     (desk : DeskSeen) (h : InHand) (given : Allotted) → IsInOrder desk h
     → IsTrue (are_new (pages_in_hand h) (page_numbers given.pages.items))
     → Takes desk h (with_allotment h given)
-
--- ---- what the desk gives
-
--- What is in hand was given, so a write lease that the desk gives now is untouched, and its pages are none in hand.
-abbrev pub FreshIsUntouched : Type 0
-FreshIsUntouched =
-    (desk : DeskSeen) (h : InHand) (ino : ℕ) (f : LentFile)
-    → WasGiven desk.out h.parcel → IsFreshLease desk.lib ino desk.sizes desk.out (Write f) → IsUntouched desk h f
-
--- A hold that it gives is on a file that is neither held nor written.
-abbrev pub FreshIsFree : Type 0
-FreshIsFree =
-    (desk : DeskSeen) (h : InHand) (ino : ℕ) (k : HoldParts)
-    → WasGiven desk.out h.parcel → IsFreshLease desk.lib ino desk.sizes desk.out (Hold k)
-    → (In k.ino (hold_numbers h.parcel.holds) → ⊥) × (In k.ino (file_numbers h.parcel.writes) → ⊥)
-
--- The pages that it allots are none in hand.
-abbrev pub FreshIsNew : Type 0
-FreshIsNew =
-    (desk : DeskSeen) (h : InHand) (given : Allotted)
-    → WasGiven desk.out h.parcel → IsFreshAllotment desk.lib desk.sizes desk.out given
-    → IsTrue (are_new (pages_in_hand h) (page_numbers given.pages.items))

@@ -1,5 +1,0 @@
-use Rattle.trio_laws.proofs.session.ListedPages.{taking_keeps}
-use Rattle.trio_laws.proofs.in_hand.taking_keeps.Goals as goal
-
-pub returns : goal.returns
-returns c = record { law = taking_keeps }

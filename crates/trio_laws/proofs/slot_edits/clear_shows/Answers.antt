@@ -1,5 +1,0 @@
-use Rattle.trio_laws.proofs.session.FilesRemoved.{after_clear, clear_shows}
-use Rattle.trio_laws.proofs.slot_edits.clear_shows.Goals as goal
-
-pub returns : goal.returns
-returns c = record { law = clear_shows; after = after_clear }

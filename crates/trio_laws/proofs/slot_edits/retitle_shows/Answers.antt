@@ -1,5 +1,0 @@
-use Rattle.trio_laws.proofs.session.FilesRenamed.{after_retitle, retitle_shows}
-use Rattle.trio_laws.proofs.slot_edits.retitle_shows.Goals as goal
-
-pub returns : goal.returns
-returns c = record { law = retitle_shows; after = after_retitle }
