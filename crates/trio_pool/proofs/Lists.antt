@@ -4,12 +4,6 @@ use mathlib.Core.Option.{some, some-injective, some-ne-none}
 use lib.ListN.{get_elem?}
 use Rattle.crossbeam_queue.proofs.Lists.{at_set}
 
--- the one that is put there is there
-pub set_at : {A : Type 0} (l : List A) (i : ℕ) (v w : A) → get_elem? l i ≡ some v → get_elem? (set l i w) i ≡ some w
-set_at [] i v w e = absurd (some-ne-none v (sym e))
-set_at (a ∷ l) zero v w e = refl
-set_at (a ∷ l) (suc i) v w e = set_at l i v w e
-
 -- one of two lists that were put together has it
 pub at_append : {A : Type 0} (l m : List A) (k : ℕ) (a : A) → get_elem? (l ++ m) k ≡ some a → (get_elem? l k ≡ some a) ⊎ ((i : ℕ) × (get_elem? m i ≡ some a))
 at_append [] m k a e = inr (k, e)

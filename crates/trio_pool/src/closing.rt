@@ -1,6 +1,6 @@
 //! The end of a pool: all passes joined into one, which takes what is left.
 
-ghost use Rattle.std.specs.Prelude.{◌≡◌, ℕ, ◌+◌, ◌<◌, [], ◌∷◌, ◌++◌, length, vec_capacity, Some};
+ghost use Rattle.std.specs.Prelude.{◌≡◌, ◌+◌, ◌<◌, [], ◌∷◌, ◌++◌, length, vec_capacity, Some};
 ghost use Rattle.crossbeam_queue.specs.Passes.{view, IsPassOf};
 ghost use Rattle.trio_pool.specs.Jobs.{with_case};
 ghost use Rattle.trio_pool.specs.Views.{account, view_of};

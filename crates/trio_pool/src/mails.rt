@@ -1,6 +1,6 @@
 //! The calls of the mails.
 
-ghost use Rattle.std.specs.Prelude.{◌≡◌, ◌≤◌, ◌<◌, ℕ, ◌↔◌, length, IsTrue, Some, None, IfOk, IfErr, IfSome};
+ghost use Rattle.std.specs.Prelude.{◌≡◌, ◌≤◌, ◌↔◌, length, IsTrue, IfOk, IfErr, IfSome};
 ghost use Rattle.trio_pool.specs.Mails.{IsTokenOf, library_count, IsForMails, AllFor};
 ghost use Rattle.trio_pool.specs.inner.Mail.{IsSameToken};
 

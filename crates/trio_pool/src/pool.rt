@@ -1,6 +1,6 @@
 //! The calls of the pool.
 
-ghost use Rattle.std.specs.Prelude.{◌≡◌, ◌<◌, ◌≤◌, ℕ, List, [], ◌∷◌, ◌++◌, length, IfOk, IfErr, MatchResult};
+ghost use Rattle.std.specs.Prelude.{◌≡◌, ◌≤◌, List, [], ◌∷◌, ◌++◌, length, IfOk, IfErr, MatchResult};
 ghost use Rattle.trio_pool.specs.declared.job.Job.{Job};
 ghost use Rattle.trio_pool.specs.Jobs.{case_job, stop_job, case_count, cases_of};
 ghost use Rattle.trio_pool.specs.Passes.{queue_capacity, pass_count, number, fulls, sent, took, count_up, IsOf, IsSamePass, HeldJobs, IsTake, OfEach, AllNew, EveryPass, AreOneLine};

@@ -1,6 +1,6 @@
 //! What a worker does.
 
-ghost use Rattle.std.specs.Prelude.{◌≡◌, ◌≤◌, ℕ, List, ◌++◌};
+ghost use Rattle.std.specs.Prelude.{◌≡◌, ◌≤◌, List, ◌++◌};
 ghost use Rattle.trio_pool.specs.declared.job.Job.{Job};
 ghost use Rattle.trio_pool.specs.Jobs.{AreCasesAndStop};
 ghost use Rattle.trio_pool.specs.Passes.{fulls, sent, took, IsOf, IsSamePass};
