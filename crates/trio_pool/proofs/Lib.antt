@@ -1,0 +1,12 @@
+mod Lists
+mod Jobs
+mod Keeps
+mod Parts
+mod Whole
+mod Owed
+mod Passing
+mod Ends
+mod MailKeeps
+mod MailFit
+mod LineLaws
+mod Words
