@@ -1,5 +1,6 @@
 -- What is seen of a registry or a controller of which little has changed.
-use Rattle.trio_ctl.proofs.Words.{◌+◌, ◌∙◌, ◌≡◌, ◌≤◌, Controller, Creds, Kept, KeptUnderway, List, Opened, Registered, State, Store, ap, arith, grants_in, state_of, subst, underway_of, ℕ}
+use Rattle.trio_ctl.proofs.Words.{◌+◌, ◌∙◌, ◌≡◌, ◌≤◌, Controller, Creds, Kept, KeptUnderway, List, Opened, Registered, State, Store, ap, arith, grants_in, state_of, subst, underway_of, ℕ, CoreRange, Entry, HasHistory, Image, Logged, Notes, Option, Outline, Sizes, length, refl, sizes_of, sym}
+use Rattle.trio_ctl.proofs.Ends.{after_begin}
 
 -- a kept state is kept as it is seen
 pub kept_is : {a b : Registered} → a ≡ b → Kept a.state → Kept b.state
@@ -34,3 +35,24 @@ seen_kept e kept = subst (λ (x : Controller). Kept x.state) e kept
 -- and so is what is underway
 pub seen_underway : {a b : Controller} → a ≡ b → KeptUnderway (underway_of a) → KeptUnderway (underway_of b)
 seen_underway e kept = subst (λ (x : Controller). KeptUnderway (underway_of x)) e kept
+
+-- the history is as before where the log has only more places
+pub more_places : (first : Image) (s : State) (begun : List (Option Outline)) (promised : ℕ) (log log' : Logged) (notes : Notes) → HasHistory first s begun promised log notes → log'.entries ≡ log.entries → log.room ≤ log'.room → HasHistory first s begun promised log' notes
+more_places first s begun promised log log' notes h same grows =
+    let long = ap (λ (es : List Entry). length es) same in
+    let room = h.room in
+    after_begin first s s begun begun promised promised log log' notes h refl h.underway same (omega (arith, long, room, grows))
+
+-- and where what is seen of the registry is the same
+pub same_history : (first : Image) (s s' : State) (begun begun' : List (Option Outline)) (promised promised' : ℕ) (log : Logged) (notes : Notes) → HasHistory first s begun promised log notes → s' ≡ s → begun' ≡ begun → promised' ≡ promised → HasHistory first s' begun' promised' log notes
+same_history first s s' begun begun' promised promised' log notes h state others entries =
+    subst (λ (t : State). HasHistory first t begun' promised' log notes) (sym state)
+    (subst (λ (b : List (Option Outline)). HasHistory first s b promised' log notes) (sym others)
+    (subst (λ (n : ℕ). HasHistory first s begun n log notes) (sym entries) h))
+
+abbrev sized : CoreRange → ℕ → Sizes
+sized range inodes = record { range = range; inodes = inodes }
+
+-- the sizes that are asked for are those of the state
+pub sized_so : (range : CoreRange) (inodes : ℕ) (s : State) → range ≡ s.home.core.range → inodes ≡ s.home.core.inodes → sized range inodes ≡ sizes_of s
+sized_so range inodes s ranges counts = ap (λ r. sized r inodes) ranges ∙ ap (λ n. sized s.home.core.range n) counts

@@ -60,10 +60,10 @@ invariant_of-self-in-Ok-copied_file c =
     ∙ ap (λ (g : OpenGrant). record { key = key; grant = g }) (grant_made i.store i.first_core i.grants i.files.items i.libs.items i.history i.begun.items c.self.invariant Read c.args.lib c.args.ino r live free c.settled_body.result body) in
     let pages = c.copied_file.ensures.pages ∙ c.settled_body.ensures.pages in
     let rest = ap (λ (t : Store). record t { home = c.copied_file.new.home }) c.settled_body.ensures.rest in
-    let more = c.in-Ok-push.ensures.items ∙ ap (λ fs. fs ++ copy.0 ∷ []) c.in-Ok-reserve.ensures.items in
+    let more = c.push_reserved.ensures.items ∙ ap (λ fs. fs ++ copy.0 ∷ []) c.in-Ok-reserve.ensures.items in
     let counted = ap (λ (n : Entries). n.made) c.enter_with_promise.ensures in
     let put = subst (λ n. AllBelow n i.grants → c.admit.new.grants ≡ i.grants ++ (key, record { lib = c.args.lib; ino = c.args.ino; kind = Read; entry = n }) ∷ []) (next_is c.requires.entry c.self.view_is) c.in-Ok-admit.ensures.opened in
-    plain_controlled i.store i.first_core i.grants i.files.items i.libs.items i.history i.begun.items c.self.invariant Read refl c.args.lib c.args.ino r live free key copy.0 _ c.admit.new.grants c.push.new.self.items c.enter_with_promise.new.self made pages rest more counted 0 refl may put c.in-Ok-admit.ensures.new_key (ap (λ (n : Entries). n.promised) c.enter_with_promise.ensures)
+    plain_controlled i.store i.first_core i.grants i.files.items i.libs.items i.history i.begun.items c.self.invariant Read refl c.args.lib c.args.ino r live free key copy.0 _ c.admit.new.grants c.push_reserved.new.self.items c.enter_with_promise.new.self made pages rest more counted 0 refl may put c.in-Ok-admit.ensures.new_key (ap (λ (n : Entries). n.promised) c.enter_with_promise.ensures)
 
 pub invariant_of-self-in-Err-copied_file : goal.invariant_of-self-in-Err-copied_file
 invariant_of-self-in-Err-copied_file c =
@@ -71,8 +71,8 @@ invariant_of-self-in-Err-copied_file c =
     let rest = ap (λ (t : Store). record t { home = c.copied_file.new.home }) c.settled_body.ensures.rest in
     controlled_still i.store i.first_core i.grants i.files.items i.libs.items i.history i.begun.items c.self.invariant _ c.end.new.self c.reserve.new.self.items rest (c.copied_file.ensures.pages ∙ c.settled_body.ensures.pages) (c.end.ensures.ended ∙ c.in-Ok-admit.ensures.rest) c.in-Ok-reserve.ensures.items
 
-pub returns-in-Ok-push : goal.returns-in-Ok-push
-returns-in-Ok-push c =
+pub returns-in-Ok-copied_file : goal.returns-in-Ok-copied_file
+returns-in-Ok-copied_file c =
     let i = c.self.inside in
     let r = as_row c.args.row.now in
     let live = subst (λ (v : State). row_at v.home c.args.ino ≡ Some r) (sym (state_is c.self.view_is)) c.requires.live in
@@ -92,12 +92,12 @@ returns-in-Ok-push c =
     ∙ ap (λ (g : OpenGrant). record { key = key; grant = g }) (grant_made i.store i.first_core i.grants i.files.items i.libs.items i.history i.begun.items c.self.invariant Read c.args.lib c.args.ino r live free c.settled_body.result body) in
     let pages = c.copied_file.ensures.pages ∙ c.settled_body.ensures.pages in
     let rest = ap (λ (t : Store). record t { home = c.copied_file.new.home }) c.settled_body.ensures.rest in
-    let more = c.in-Ok-push.ensures.items ∙ ap (λ fs. fs ++ copy.0 ∷ []) c.in-Ok-reserve.ensures.items in
+    let more = c.push_reserved.ensures.items ∙ ap (λ fs. fs ++ copy.0 ∷ []) c.in-Ok-reserve.ensures.items in
     let counted = ap (λ (n : Entries). n.made) c.enter_with_promise.ensures in
     record {
       step =
           rw (← (state_is c.self.view_is))
-          (plain_step i.store i.first_core i.grants i.files.items i.libs.items i.history i.begun.items c.self.invariant Read refl c.args.lib c.args.ino r live free key copy.0 _ c.admit.new.grants c.push.new.self.items c.enter_with_promise.new.self made pages rest more counted 0 refl may);
+          (plain_step i.store i.first_core i.grants i.files.items i.libs.items i.history i.begun.items c.self.invariant Read refl c.args.lib c.args.ino r live free key copy.0 _ c.admit.new.grants c.push_reserved.new.self.items c.enter_with_promise.new.self made pages rest more counted 0 refl may);
       lease =
           rw (← (state_is c.self.view_is))
           (ap ReadLent (c.in-Ok-copied_file.ensures.lease ∙ ap (λ (o : Opened). shown_of o.grant) made));
@@ -158,3 +158,6 @@ returns-in-Err-copied_file c =
       unpromised = ap (λ (x : Registered). x.promised) c.self.view_is;
       floor = looked_again c.self.view_is c.settled_body.ensures.floor c.copied_file.ensures.floor;
     }
+
+pub push_reserved-requires : goal.push_reserved-requires
+push_reserved-requires c = (let room = c.in-Ok-reserve.ensures.ok in omega (arith, room))

@@ -30,10 +30,10 @@ invariant_of-self-2 c =
     let first = rw c.copied.ensures at c.of.ensures in
     let made = first ∙ ap (λ n. H n c.settled_body.result c.children.result) (next_is c.requires.entry c.self.view_is) ∙ ap (λ b. H i.history.made b c.children.result) body ∙ ap (H i.history.made at_home) counted_children in
     let rest = ap (λ (t : Store). record t { home = c.settled_body.new.store.home }) c.settled_body.ensures.rest in
-    let more = c.in-Ok-push.ensures.items ∙ ap (λ fs. fs ++ file ∷ []) c.in-Ok-reserve.ensures.items in
+    let more = c.push_reserved.ensures.items ∙ ap (λ fs. fs ++ file ∷ []) c.in-Ok-reserve.ensures.items in
     let counted = ap (λ (n : Entries). n.made) c.enter.ensures in
     let put = subst (λ n. AllBelow n i.grants → c.admit.new.grants ≡ i.grants ++ (key, record { lib = c.args.lib; ino = c.args.ino; kind = Hold; entry = n }) ∷ []) (next_is c.requires.entry c.self.view_is) c.in-Ok-admit.ensures.opened in
-    plain_controlled i.store i.first_core i.grants i.files.items i.libs.items i.history i.begun.items c.self.invariant Hold refl c.args.lib c.args.ino r live free key file _ c.admit.new.grants c.push.new.self.items c.enter.new.self made c.settled_body.ensures.pages c.settled_body.ensures.rest more counted c.children.result counted_children may put c.in-Ok-admit.ensures.new_key (ap (λ (n : Entries). n.promised) c.enter.ensures)
+    plain_controlled i.store i.first_core i.grants i.files.items i.libs.items i.history i.begun.items c.self.invariant Hold refl c.args.lib c.args.ino r live free key file _ c.admit.new.grants c.push_reserved.new.self.items c.enter.new.self made c.settled_body.ensures.pages c.settled_body.ensures.rest more counted c.children.result counted_children may put c.in-Ok-admit.ensures.new_key (ap (λ (n : Entries). n.promised) c.enter.ensures)
 
 pub returns : goal.returns
 returns c =
@@ -51,13 +51,13 @@ returns c =
     let first = rw c.copied.ensures at c.of.ensures in
     let made = first ∙ ap (λ n. H n c.settled_body.result c.children.result) (next_is c.requires.entry c.self.view_is) ∙ ap (λ b. H i.history.made b c.children.result) body ∙ ap (H i.history.made at_home) counted_children in
     let rest = ap (λ (t : Store). record t { home = c.settled_body.new.store.home }) c.settled_body.ensures.rest in
-    let more = c.in-Ok-push.ensures.items ∙ ap (λ fs. fs ++ file ∷ []) c.in-Ok-reserve.ensures.items in
+    let more = c.push_reserved.ensures.items ∙ ap (λ fs. fs ++ file ∷ []) c.in-Ok-reserve.ensures.items in
     let counted = ap (λ (n : Entries). n.made) c.enter.ensures in
     let P : ℕ → List ℕ → ℕ → HoldParts = λ n b m. record { lib = c.args.lib; ino = c.args.ino; kind = r.kind; entry = n; parent = r.parent; body = b; children = m } in
     record {
       step =
           rw (← (state_is c.self.view_is))
-          (plain_step i.store i.first_core i.grants i.files.items i.libs.items i.history i.begun.items c.self.invariant Hold refl c.args.lib c.args.ino r live free key file _ c.admit.new.grants c.push.new.self.items c.enter.new.self made c.settled_body.ensures.pages c.settled_body.ensures.rest more counted c.of-2.result.children (ap (λ (h : HoldParts). h.children) c.of-2.ensures ∙ counted_children) may);
+          (plain_step i.store i.first_core i.grants i.files.items i.libs.items i.history i.begun.items c.self.invariant Hold refl c.args.lib c.args.ino r live free key file _ c.admit.new.grants c.push_reserved.new.self.items c.enter.new.self made c.settled_body.ensures.pages c.settled_body.ensures.rest more counted c.of-2.result.children (ap (λ (h : HoldParts). h.children) c.of-2.ensures ∙ counted_children) may);
       lease =
           rw (← (state_is c.self.view_is))
           (ap HoldLent (c.of-2.ensures ∙ ap (λ n. P n c.settled_body.result c.children.result) (next_is c.requires.entry c.self.view_is) ∙ ap (λ b. P i.history.made b c.children.result) body ∙ ap (P i.history.made (settled_body (settled (state_of i.store i.first_core (grants_in i.files.items) i.libs.items i.history.made)) c.args.ino)) counted_children));
@@ -102,3 +102,6 @@ returns-in-Err c =
       promised = ap (λ (x : Registered). x.promised) c.self.view_is;
       floor = looked_is c.self.view_is;
     }
+
+pub push_reserved-requires : goal.push_reserved-requires
+push_reserved-requires c = (let room = c.in-Ok-reserve.ensures.ok in omega (arith, room))
