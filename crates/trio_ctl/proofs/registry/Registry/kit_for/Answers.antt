@@ -1,4 +1,4 @@
-use Rattle.trio_ctl.proofs.Words.{◌∙◌, ◌≡◌, CoreRange, HasKit, IfOk, Sizes, State, ap, arith, grants_in, sizes_of, state_of, subst, ℕ}
+use Rattle.trio_ctl.proofs.Words.{◌∙◌, ◌≡◌, HasKit, IfOk, State, ap, arith, grants_in, state_of, subst}
 use Rattle.trio_ctl.specs.Kits.{TakesOne}
 use Rattle.trio_ctl.proofs.Views.{state_is}
 use Rattle.trio_ctl.proofs.Seen.{sized_so}

@@ -3,7 +3,7 @@ use Rattle.trio_lease.specs.declared.lease.Lease.TheVariants.{Hold as HoldLent}
 use Rattle.trio_ctl.proofs.Views.{next_is, state_is}
 use Rattle.trio_ctl.proofs.Granting.{refused_step, stands_somewhere, body_is, plain_controlled, plain_step, controlled_still}
 use Rattle.trio_tables.specs.Tables.{child_count}
-use Rattle.trio_ctl.proofs.Seen.{looked_again, looked_is, state_still}
+use Rattle.trio_ctl.proofs.Seen.{looked_is, state_still}
 use Rattle.trio_ctl.proofs.registry.Registry.lend_hold.Goals as goal
 
 pub settled_body-requires : goal.settled_body-requires
