@@ -53,3 +53,4 @@ pub mod Serving
 pub mod Spending
 pub mod Keeping
 mod Words
+mod Seen

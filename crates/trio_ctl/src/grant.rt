@@ -144,10 +144,7 @@ impl Registry {
                     checkpoint,
                     lease,
                 } = loan;
-                let Ok(()) = self.files.push(file) else {
-                    lease.discard();
-                    unreachable!()
-                };
+                self.files.push_reserved(file);
                 self.store.checkpoints[ino as usize] = Some(checkpoint);
                 self.history.enter(entry);
                 Ok(Lease::Write(lease))

@@ -72,9 +72,7 @@ impl Registry {
             children: self.store.rows.children(ino),
         };
         let lent = Lent::Hold(copied(&parts));
-        let Ok(()) = self.files.push(OpenFile::of(key, lent, lib, ino)) else {
-            unreachable!()
-        };
+        self.files.push_reserved(OpenFile::of(key, lent, lib, ino));
         self.history.enter(entry);
         Ok(Lease::Hold(HoldLease::of(parts)))
     }

@@ -50,11 +50,17 @@ impl Kit {
     ) -> Result<Kit, NoMemory>
         ensures { IfOk result (IsKit size core) }
     {
-        Ok(Kit {
-            case: CaseMemory::with(alloc, size)?,
-            room: RoomMemory::with(alloc, size, core, numbers)?,
-            draft: DraftMemory::with(alloc, size)?,
-        })
+        let case = CaseMemory::with(alloc, size)?;
+        let Ok(room) = RoomMemory::with(alloc, size, core, numbers) else {
+            drop(case);
+            return Err(NoMemory);
+        };
+        let Ok(draft) = DraftMemory::with(alloc, size) else {
+            drop(room);
+            drop(case);
+            return Err(NoMemory);
+        };
+        Ok(Kit { case, room, draft })
     }
 
     /// Memory for the release of just this bundle, of an image with these core pages and so many inode

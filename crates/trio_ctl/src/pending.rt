@@ -67,14 +67,16 @@ impl Model for Judged {
 
 impl Drop for Pending {
     fn drop(self) {
-        let Pending { case, room: _ } = self;
+        let Pending { room, case } = self;
+        drop(room);
         case.into_bundle().discard();
     }
 }
 
 impl Drop for Judged {
     fn drop(self) {
-        let Judged { case, verdict: _ } = self;
+        let Judged { case, verdict } = self;
+        drop(verdict);
         case.into_bundle().discard();
     }
 }

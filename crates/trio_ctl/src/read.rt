@@ -65,10 +65,7 @@ impl Registry {
         match copied_file(self.alloc, &mut self.store.home, range, &asked, key) {
             Ok(copy) => {
                 let (file, lease) = copy;
-                let Ok(()) = self.files.push(file) else {
-                    lease.discard();
-                    unreachable!()
-                };
+                self.files.push_reserved(file);
                 self.history.enter_with_promise(entry);
                 Ok(Lease::Read(lease))
             }

@@ -1,8 +1,9 @@
-use Rattle.trio_ctl.proofs.Words.{◌++◌, ◌∙◌, ◌∷◌, Allot, Controller, Entry, IsLibrary, Kept, List, Logged, State, Step, [], allot_answer, ap, append-nil, arith, inr, length, refl, subst, sym, vec_len}
+use Rattle.trio_ctl.proofs.Words.{◌++◌, ◌∙◌, ◌∷◌, Allot, Controller, Entry, IsLibrary, Kept, List, Logged, State, Step, [], allot_answer, ap, append-nil, arith, inr, length, refl, subst, sym, vec_len, image_in}
 use Rattle.trio_nodes.specs.declared.entry.Entry.TheVariants as entry
 use Rattle.trio_ctl.proofs.Recording.{after_call, allot_entries, next_entry, one_room, same_room}
 use Rattle.trio_ctl.proofs.Spending.{longer, spends_entry, spends_places}
 use Rattle.trio_ctl.proofs.Views.{seen_idle, seen_state}
+use Rattle.trio_ctl.proofs.Seen.{more_places}
 use Rattle.trio_ctl.proofs.ctl.Ctl.allot.Goals as goal
 
 pub allot-result-requires-clause-entry : goal.allot-result-requires-clause-entry
@@ -114,3 +115,13 @@ returns-in_default-allot_told c =
       was_kept = subst Kept seen c.self.invariant.0.all.kept;
       kept = c.allot-result.ensures.kept;
     }
+
+pub invariant_of-self-in_default-with : goal.invariant_of-self-in_default-with
+invariant_of-self-in_default-with c =
+    let i = c.self.inside in
+    (more_places (image_in i.first.value.superblock i.first.value.pages) i.registry.state i.registry.begun i.registry.promised i.log c.make_places.new.log i.notes c.self.invariant.0 c.make_places.ensures.kept c.make_places.ensures.grows, c.self.invariant.1)
+
+pub invariant_of-self : goal.invariant_of-self
+invariant_of-self c =
+    let i = c.self.inside in
+    (more_places (image_in i.first.value.superblock i.first.value.pages) i.registry.state i.registry.begun i.registry.promised i.log c.make_places.new.log i.notes c.self.invariant.0 c.make_places.ensures.kept c.make_places.ensures.grows, c.self.invariant.1)

@@ -6,6 +6,7 @@ use Rattle.trio_ctl.proofs.Keeping.{has_both, has_place, spare_here, spare_there
 use Rattle.trio_ctl.proofs.Spending.{spends_places, spends_so}
 use Rattle.trio_ctl.proofs.Recording.{next_entry}
 use Rattle.trio_ctl.proofs.Views.{seen_idle, seen_state}
+use Rattle.trio_ctl.proofs.Seen.{more_places, seen_underway}
 use Rattle.trio_ctl.proofs.ctl.Ctl.begin.Goals as goal
 
 pub begin-requires-clause-entry : goal.begin-requires-clause-entry
@@ -110,3 +111,30 @@ returns-clause-spends c =
     let long = ap (λ (es : List Entry). length es) c.make_places.ensures.kept in
     let more = c.in-Ok-begin.ensures.promised in
     spends_so c.self.inside.log c.self.inside.registry.promised (vec_len c.self.inside.spares.kits) c.self.inside.spares.bytes (ap (λ (x : Controller). x.spare) c.self.view_is) 1 c.make_places.new.log c.begin.new.self.promised (vec_len c.begin.new.spares.kits) c.begin.new.spares.bytes (omega (arith, long, more)) c.make_places.ensures.grows c.begin.ensures.takes.kits c.begin.ensures.takes.bytes
+
+pub returns-clause-was_kept : goal.returns-clause-was_kept
+returns-clause-was_kept c = seen_underway c.self.view_is c.self.invariant.0.underway
+
+pub returns-in-Err-clause-was_kept : goal.returns-in-Err-clause-was_kept
+returns-in-Err-clause-was_kept c = seen_underway c.self.view_is c.self.invariant.0.underway
+
+pub returns-in_default-clause-was_kept : goal.returns-in_default-clause-was_kept
+returns-in_default-clause-was_kept c = seen_underway c.self.view_is c.self.invariant.0.underway
+
+pub invariant_of-self : goal.invariant_of-self
+invariant_of-self c =
+    let i = c.self.inside in
+    (more_places (image_in i.first.value.superblock i.first.value.pages) i.registry.state i.registry.begun i.registry.promised i.log c.make_places.new.log i.notes c.self.invariant.0 c.make_places.ensures.kept c.make_places.ensures.grows, c.self.invariant.1)
+
+pub returns-in-Err-clause-kept : goal.returns-in-Err-clause-kept
+returns-in-Err-clause-kept c =
+    let i = c.self.inside in
+    let b = bundle_in c.args.bundle in
+    let u : Underway = underway_at i.registry in
+    let seen : u ≡ underway_of c.args.self.now = ap underway_of c.self.view_is in
+    let library = subst (λ (v : State). IsLibrary v.creds c.args.lib.0) (sym (seen_state c.self.view_is)) c.requires.library in
+    let given = subst (λ (v : State). GivenTo v c.args.lib.0 b) (sym (seen_state c.self.view_is)) c.requires.given in
+    let idle = seen_idle c.args.lib.0 c.self.view_is c.requires.idle in
+    let answer = begin_answer c.begin.result (λ back. back.1) in
+    let kept : KeptUnderway (underway_at c.begin.new.self) = acts_keep u (Begin c.args.lib.0 b) answer (underway_at c.begin.new.self) c.self.invariant.0.underway (library, idle, given) c.begin.ensures.begins in
+    kept

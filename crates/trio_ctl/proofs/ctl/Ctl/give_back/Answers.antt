@@ -1,6 +1,8 @@
-use Rattle.trio_ctl.proofs.Words.{Back, Done, HasGrant, Read, State, refl, subst, sym}
+use Rattle.trio_ctl.proofs.Words.{Back, Done, HasGrant, Read, State, refl, subst, sym, Controller, ap, arith, vec_len}
 use Rattle.trio_ctl.proofs.Recording.{after_call, grants_library, next_entry, promised_room}
 use Rattle.trio_ctl.proofs.Views.{seen_idle, seen_state}
+use Rattle.trio_ctl.proofs.Seen.{seen_kept}
+use Rattle.trio_ctl.proofs.Spending.{spends_entry}
 use Rattle.trio_ctl.proofs.ctl.Ctl.give_back.Goals as goal
 
 pub give_back-requires-clause-entry : goal.give_back-requires-clause-entry
@@ -16,3 +18,11 @@ invariant_of-self c =
           (rw c.push.ensures (promised_room i.log.entries _ i.registry.promised c.give_back.new.self.promised i.log.room c.self.invariant.0.room c.give_back.ensures.promised)),
       c.self.invariant.1,
     )
+
+pub returns-clause-was_kept : goal.returns-clause-was_kept
+returns-clause-was_kept c = seen_kept c.self.view_is c.self.invariant.0.all.kept
+
+pub returns-clause-spends : goal.returns-clause-spends
+returns-clause-spends c =
+    let few = c.give_back.ensures.promised in
+    spends_entry c.self.inside.log c.self.inside.registry.promised (vec_len c.self.inside.spares.kits) c.self.inside.spares.bytes (ap (λ (x : Controller). x.spare) c.self.view_is) 0 c.self.inside.log c.push.new.self c.give_back.new.self.promised _ refl (omega arith) c.push.ensures (omega (arith, few))

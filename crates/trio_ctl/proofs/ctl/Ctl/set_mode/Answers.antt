@@ -1,11 +1,12 @@
-use Rattle.trio_ctl.proofs.Words.{◌++◌, ◌+◌, ◌∙◌, ◌∷◌, ◌≡◌, AreLent, Controller, Entry, Err, Happens, IsLibrary, Kept, List, Logged, ModeSet, NotModeSet, Ok, SetMode, Shown, State, TellsChmod, [], all_back, ap, append-nil, arith, back_entries, busy_holder, desk_of, length, length-append, mode_fault, out_of, refl, row_at, subst, sym, vec_len, ℕ}
+use Rattle.trio_ctl.proofs.Words.{◌++◌, ◌+◌, ◌∙◌, ◌∷◌, ◌≡◌, AreLent, Controller, Entry, Err, Happens, IsLibrary, Kept, List, Logged, ModeSet, NotModeSet, Ok, SetMode, Shown, State, TellsChmod, [], all_back, ap, append-nil, arith, back_entries, busy_holder, desk_of, length, length-append, mode_fault, out_of, refl, row_at, subst, sym, vec_len, ℕ, image_in, length-map, Some}
 use Rattle.trio_nodes.specs.declared.answers.ModeFault.TheVariants.{Busy, NoMemory}
 use Rattle.trio_nodes.specs.declared.entry.Entry.TheVariants as entry
 use Rattle.trio_ctl.proofs.LeasesBack.{all_back_is, are_back, backs_whose}
-use Rattle.trio_ctl.proofs.ModeCalls.{busy_told, fault_told, free_at, happens_moded, happens_refused, happens_wants, moded_history, moded_logs, moded_room, plain_call, plain_refusal, plain_told, refused_history}
+use Rattle.trio_ctl.proofs.ModeCalls.{busy_told, fault_told, free_at, happens_moded, happens_refused, happens_wants, moded_history, moded_logs, moded_room, plain_call, plain_refusal, plain_told, refused_history, refused_logs}
 use Rattle.trio_ctl.proofs.Recording.{next_entry, one_room}
-use Rattle.trio_ctl.proofs.Spending.{longer, spends_places}
+use Rattle.trio_ctl.proofs.Spending.{longer, spends_places, spends_entry, spends_so}
 use Rattle.trio_ctl.proofs.Views.{seen_idle, seen_state}
+use Rattle.trio_ctl.proofs.Seen.{more_places, seen_kept}
 use Rattle.trio_ctl.proofs.ctl.Ctl.set_mode.Goals as goal
 
 pub make_mode_room-requires : goal.make_mode_room-requires
@@ -285,3 +286,56 @@ pub returns-in-Some-fault-clause-unspent : goal.returns-in-Some-fault-clause-uns
 returns-in-Some-fault-clause-unspent c = λ same.
     let was = ap (λ (es : List Entry). length es) (c.make_places.ensures.kept ∙ ap (λ (x : Controller). x.log) c.self.view_is) in
     longer c.args.self.now.log c.make_places.new.log.entries _ _ (ap (λ (l : Logged). l.entries) c.push.ensures) (omega (arith, was)) same
+
+pub returns-clause-was_kept : goal.returns-clause-was_kept
+returns-clause-was_kept c = seen_kept c.self.view_is c.self.invariant.0.all.kept
+
+pub returns-in-Some-fault-clause-was_kept : goal.returns-in-Some-fault-clause-was_kept
+returns-in-Some-fault-clause-was_kept c = seen_kept c.self.view_is c.self.invariant.0.all.kept
+
+pub invariant_of-self-in_default-make_mode_room : goal.invariant_of-self-in_default-make_mode_room
+invariant_of-self-in_default-make_mode_room c =
+    let i = c.self.inside in
+    (more_places (image_in i.first.value.superblock i.first.value.pages) i.registry.state i.registry.begun i.registry.promised i.log c.make_places.new.log i.notes c.self.invariant.0 c.make_places.ensures.kept c.make_places.ensures.grows, c.self.invariant.1)
+
+pub invariant_of-self : goal.invariant_of-self
+invariant_of-self c =
+    let i = c.self.inside in
+    (more_places (image_in i.first.value.superblock i.first.value.pages) i.registry.state i.registry.begun i.registry.promised i.log c.make_places.new.log i.notes c.self.invariant.0 c.make_places.ensures.kept c.make_places.ensures.grows, c.self.invariant.1)
+
+pub returns-in-Some-fault-clause-spends : goal.returns-in-Some-fault-clause-spends
+returns-in-Some-fault-clause-spends c =
+    let few = c.refuse_mode.ensures.promised in
+    spends_entry c.self.inside.log c.self.inside.registry.promised (vec_len c.self.inside.spares.kits) c.self.inside.spares.bytes (ap (λ (x : Controller). x.spare) c.self.view_is) 1 c.make_places.new.log c.push.new.self c.refuse_mode.new.self.promised _ c.make_places.ensures.kept c.make_places.ensures.grows c.push.ensures (omega (arith, few))
+
+pub returns-in-Some-fault-clause-logs : goal.returns-in-Some-fault-clause-logs
+returns-in-Some-fault-clause-logs c =
+    let i = c.self.inside in
+    let s = i.registry.state in
+    let lib = c.args.lib in
+    let back = c.args.back.items in
+    let f = c.in-Some-fault.fault in
+    let row = row_at s.home c.args.ino in
+    let at = sym (ap (λ (l : List Shown). mode_fault (all_back s lib l) lib.0 c.args.ino c.args.mode row) c.deref.ensures.value) ∙ sym c.mode_fault-fault.ensures in
+    let fault = subst (λ (v : State). mode_fault (all_back v lib back) lib.0 c.args.ino c.args.mode row ≡ Some f) (seen_state c.self.view_is) (at ∙ c.in-Some-fault.is) in
+    let none = ap busy_holder (sym c.in-Some-fault.is) ∙ sym c.busy_holder.ensures ∙ c.in_default.is in
+    refused_logs c.args.self.now _ lib c.args.ino c.args.mode back c.args.call f row fault (plain_told f none)
+    (ap (λ (l : Logged). l.entries) c.push.ensures ∙ ap (λ (l : List Entry). l ++ entry.Mode lib c.args.ino c.args.mode (Err f) c.args.call ∷ []) (c.make_places.ensures.kept ∙ ap (λ (x : Controller). x.log) c.self.view_is))
+    (ap (λ (x : Controller). x.first) c.self.view_is)
+    (c.refuse_mode.ensures.begun ∙ ap (λ (x : Controller). x.begun) c.self.view_is)
+
+pub returns-clause-spends : goal.returns-clause-spends
+returns-clause-spends c =
+    let mid = c.give_back_all.new.log in
+    let back = c.args.back.items in
+    let long = ap (λ (es : List Entry). length es) c.make_places.ensures.kept in
+    let backs = ap (λ (es : List Entry). length es) c.give_back_all.ensures.log ∙ length-append c.make_places.new.log.entries (back_entries c.args.lib back) in
+    let each = length-map back (λ (f : Shown). entry.Back c.args.lib f.ino) in
+    let one = ap (λ (l : Logged). length l.entries) c.push-2.ensures ∙ length-append mid.entries (entry.Mode c.args.lib c.args.ino c.args.mode (Ok tt) c.args.call ∷ []) in
+    let less = c.give_back_all.ensures.promised in
+    let same = c.change_mode.ensures.promised in
+    let grows = c.make_places.ensures.grows in
+    let stays = c.give_back_all.ensures.room in
+    let pushed = ap (λ (l : Logged). l.room) c.push-2.ensures in
+    spends_so c.self.inside.log c.self.inside.registry.promised (vec_len c.self.inside.spares.kits) c.self.inside.spares.bytes (ap (λ (x : Controller). x.spare) c.self.view_is) 1 c.push-2.new.self c.change_mode.new.self.promised (vec_len c.self.inside.spares.kits) c.self.inside.spares.bytes
+    (omega (arith, long, backs, each, one, less, same)) (omega (arith, grows, stays, pushed)) (omega arith) refl

@@ -9,6 +9,7 @@ use Rattle.trio_ctl.proofs.Recording.{next_entry, one_room}
 use Rattle.trio_ctl.proofs.RecordedReleases.{are_noted, whole_is}
 use Rattle.trio_ctl.proofs.Settling.{after_settle, back_in_turn, case_then, judgeable_then, lent_reads, moment, not_settled_seen, places_then, room_then, settled_then}
 use Rattle.trio_ctl.proofs.Views.{seen_idle, seen_state}
+use Rattle.trio_ctl.proofs.Seen.{more_places}
 use Rattle.trio_ctl.proofs.ctl.Ctl.settle.Goals as goal
 
 pub judged-requires-clause-entry : goal.judged-requires-clause-entry
@@ -259,3 +260,8 @@ invariant_of-self-in-Err c =
       after_begin first i.registry.state i.registry.state i.registry.begun i.registry.begun i.registry.promised i.registry.promised i.log c.make_places.new.log i.notes h refl h.underway c.make_places.ensures.kept (omega (arith, long, room, grows)),
       spare_there i.registry.state first c.judged.new.spares h.sizes c.judged.ensures.takes.spare,
     )
+
+pub invariant_of-self : goal.invariant_of-self
+invariant_of-self c =
+    let i = c.self.inside in
+    (more_places (image_in i.first.value.superblock i.first.value.pages) i.registry.state i.registry.begun i.registry.promised i.log c.make_places.new.log i.notes c.self.invariant.0 c.make_places.ensures.kept c.make_places.ensures.grows, c.self.invariant.1)

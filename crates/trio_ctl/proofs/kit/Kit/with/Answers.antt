@@ -4,7 +4,7 @@ use Rattle.trio_ctl.proofs.kit.Kit.with.Goals as goal
 
 pub returns : goal.returns
 returns c = λ z b fits core. record {
-  case = c.in_ok-with.ensures b fits;
-  room = λ k bundle range inodes. c.in_ok-with-2.ensures k (subst (λ x. IsWithin x c.args.size) (sym bundle) fits) (ap core_count range ∙ core);
-  draft = c.in_ok-with-3.ensures b fits;
+  case = c.in_ok-case.ensures b fits;
+  room = λ k bundle range inodes. c.in-Ok.ensures k (subst (λ x. IsWithin x c.args.size) (sym bundle) fits) (ap core_count range ∙ core);
+  draft = c.in-Ok-with.ensures b fits;
 }

@@ -4,6 +4,7 @@ use Rattle.trio_allot.proofs.Taking.{numbers_given}
 use Rattle.trio_ctl.proofs.Views.{state_is}
 use Rattle.trio_ctl.proofs.Allotting.{free_home, given_controlled, given_step, logged_controlled, logged_is, numbers_placed, pages_placed, raised_by_above, refused_step, still, unchanged_controlled}
 use Rattle.trio_ctl.proofs.Outs.{pages_given, without_is}
+use Rattle.trio_ctl.proofs.Seen.{kept_is}
 use Rattle.trio_ctl.proofs.registry.Registry.allot.Goals as goal
 
 pub take-given-requires-clause-page_count : goal.take-given-requires-clause-page_count
@@ -68,3 +69,30 @@ returns-in-NoMemory-clause-step c =
     let kept = rw c.in-Err.is at c.take-given.ensures.kept in
     let same = still c.self.inside.store c.self.inside.first_core c.self.inside.grants c.self.inside.files.items c.self.inside.libs.items c.self.inside.history c.self.inside.begun.items c.self.invariant _ refl kept.1 kept.0 in
     inr (refl, ap allot_fault_answer c.in-NoMemory.is, ap (λ (t : Store). state_of t i.first_core (grants_in i.files.items) i.libs.items i.history.made) same ∙ state_is c.self.view_is)
+
+pub returns-in_default-clause-was_kept : goal.returns-in_default-clause-was_kept
+returns-in_default-clause-was_kept c = kept_is c.self.view_is c.self.invariant.stored.kept
+
+pub returns-in_default-clause-kept : goal.returns-in_default-clause-kept
+returns-in_default-clause-kept c = kept_is c.self.view_is c.self.invariant.stored.kept
+
+pub returns-in-NoPages-clause-was_kept : goal.returns-in-NoPages-clause-was_kept
+returns-in-NoPages-clause-was_kept c = kept_is c.self.view_is c.self.invariant.stored.kept
+
+pub returns-in-NoMemory-clause-was_kept : goal.returns-in-NoMemory-clause-was_kept
+returns-in-NoMemory-clause-was_kept c = kept_is c.self.view_is c.self.invariant.stored.kept
+
+pub returns-in-NoPages-clause-kept : goal.returns-in-NoPages-clause-kept
+returns-in-NoPages-clause-kept c =
+    let i = c.self.inside in
+    let kept = rw c.in-Err.is at c.take-given.ensures.kept in
+    let after = record i.store { home = c.take-given.new.home; allotments = c.take-given.new.self } in
+    let same = still i.store i.first_core i.grants i.files.items i.libs.items i.history i.begun.items c.self.invariant after refl kept.1 kept.0 in
+    (logged_controlled i.store i.first_core i.grants i.files.items i.libs.items i.history i.begun.items c.self.invariant after _ same c.enter-in-NoPages.ensures).stored.kept
+
+pub returns-in-NoMemory-clause-kept : goal.returns-in-NoMemory-clause-kept
+returns-in-NoMemory-clause-kept c =
+    let i = c.self.inside in
+    let kept = rw c.in-Err.is at c.take-given.ensures.kept in
+    let after = record i.store { home = c.take-given.new.home; allotments = c.take-given.new.self } in
+    (unchanged_controlled i.store i.first_core i.grants i.files.items i.libs.items i.history i.begun.items c.self.invariant after (still i.store i.first_core i.grants i.files.items i.libs.items i.history i.begun.items c.self.invariant after refl kept.1 kept.0)).stored.kept

@@ -1,6 +1,7 @@
-use Rattle.trio_ctl.proofs.Words.{◌∙◌, ◌≡◌, Grant, Hold, Kept, Read, Some, State, Write, ap, as_row, option_map, row_at, step_kept, subst, sym}
+use Rattle.trio_ctl.proofs.Words.{◌∙◌, ◌≡◌, Grant, Hold, Kept, Read, Some, State, Write, ap, as_row, option_map, row_at, step_kept, subst, sym, grant_answer, GrantKind, Step}
 use Rattle.trio_ctl.proofs.Views.{state_is}
 use Rattle.trio_ctl.proofs.Granting.{denied_step, kept_either, where_refused}
+use Rattle.trio_ctl.proofs.Seen.{kept_is}
 use Rattle.trio_ctl.proofs.registry.Registry.grant.Goals as goal
 
 pub returns-in_default-clause-kept : goal.returns-in_default-clause-kept
@@ -34,3 +35,30 @@ returns-in-Write-clause-unpromised c = where_refused c.lend_file.result c.lend_f
 
 pub returns-in-Hold-clause-unpromised : goal.returns-in-Hold-clause-unpromised
 returns-in-Hold-clause-unpromised c = where_refused c.lend_hold.result c.lend_hold.ensures.promised
+
+pub returns-in_default-clause-was_kept : goal.returns-in_default-clause-was_kept
+returns-in_default-clause-was_kept c = kept_is c.self.view_is c.self.invariant.stored.kept
+
+pub returns-in-Some-denial-clause-was_kept : goal.returns-in-Some-denial-clause-was_kept
+returns-in-Some-denial-clause-was_kept c = kept_is c.self.view_is c.self.invariant.stored.kept
+
+pub returns-in-Read-clause-was_kept : goal.returns-in-Read-clause-was_kept
+returns-in-Read-clause-was_kept c = kept_is c.self.view_is c.self.invariant.stored.kept
+
+pub returns-in-Write-clause-was_kept : goal.returns-in-Write-clause-was_kept
+returns-in-Write-clause-was_kept c = kept_is c.self.view_is c.self.invariant.stored.kept
+
+pub returns-in-Hold-clause-was_kept : goal.returns-in-Hold-clause-was_kept
+returns-in-Hold-clause-was_kept c = kept_is c.self.view_is c.self.invariant.stored.kept
+
+pub returns-in-Read-clause-step : goal.returns-in-Read-clause-step
+returns-in-Read-clause-step c =
+    subst (λ (k : GrantKind). Step c.args.self.now.state (Grant c.args.lib.0 c.args.ino k) (grant_answer c.lend_copies.result) c.lend_copies.new.self.state) (sym c.in-Read.is) c.lend_copies.ensures.step
+
+pub returns-in-Write-clause-step : goal.returns-in-Write-clause-step
+returns-in-Write-clause-step c =
+    subst (λ (k : GrantKind). Step c.args.self.now.state (Grant c.args.lib.0 c.args.ino k) (grant_answer c.lend_file.result) c.lend_file.new.self.state) (sym c.in-Write.is) c.lend_file.ensures.step
+
+pub returns-in-Hold-clause-step : goal.returns-in-Hold-clause-step
+returns-in-Hold-clause-step c =
+    subst (λ (k : GrantKind). Step c.args.self.now.state (Grant c.args.lib.0 c.args.ino k) (grant_answer c.lend_hold.result) c.lend_hold.new.self.state) (sym c.in-Hold.is) c.lend_hold.ensures.step

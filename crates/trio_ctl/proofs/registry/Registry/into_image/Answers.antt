@@ -1,7 +1,9 @@
-use Rattle.trio_ctl.proofs.Words.{◌∙◌, IsVerified, Pages, State, Superblock, ap, arith, length, settled, stored_pages, subst, superblock_at_home, superblock_facts, superblock_for, sym}
+use Rattle.trio_ctl.proofs.Words.{◌∙◌, IsVerified, Pages, State, Superblock, ap, arith, length, settled, stored_pages, subst, superblock_at_home, superblock_facts, superblock_for, sym, Registered, refl}
 use Rattle.trio_ctl.proofs.Views.{state_is}
 use Rattle.trio_ctl.proofs.AtHome.{at_home, same_settled, state_at_home, writer_is}
 use Rattle.trio_ctl.proofs.Storing.{stored_count, stored_tables, stored_verified, tells, tells_alike}
+use Rattle.trio_ctl.proofs.Seen.{kept_is, looked_more, state_still}
+use Rattle.trio_ctl.proofs.Granting.{controlled_still}
 use Rattle.trio_ctl.proofs.registry.Registry.into_image.Goals as goal
 
 pub returns-in-Some-clause-answer : goal.returns-in-Some-clause-answer
@@ -55,8 +57,28 @@ returns-clause-answer c =
     rw (← (state_is c.ctl.view_is))
     (sym (writer_is s.store s.first_core s.grants s.files.items s.libs.items s.history s.begun.items c.ctl.invariant) ∙ sym c.writer.ensures ∙ c.in_default.is)
 
-pub returns-in_default-moved_pages-clause-answer : goal.returns-in_default-moved_pages-clause-answer
-returns-in_default-moved_pages-clause-answer c =
+pub returns-clause-kept : goal.returns-clause-kept
+returns-clause-kept c = kept_is c.ctl.view_is c.ctl.invariant.stored.kept
+
+pub returns-in-Some-clause-kept : goal.returns-in-Some-clause-kept
+returns-in-Some-clause-kept c = kept_is c.ctl.view_is c.ctl.invariant.stored.kept
+
+pub invariant_of-ctl : goal.invariant_of-ctl
+invariant_of-ctl c =
     let s = c.ctl.inside in
-    rw (← (state_is c.ctl.view_is))
-    (sym (writer_is s.store s.first_core s.grants s.files.items s.libs.items s.history s.begun.items c.ctl.invariant) ∙ sym c.writer.ensures ∙ c.in_default.is)
+    controlled_still s.store s.first_core s.grants s.files.items s.libs.items s.history s.begun.items c.ctl.invariant _ s.grants s.files.items refl c.in_default-moved_pages.ensures.home refl refl
+
+pub returns-in_default-moved_pages : goal.returns-in_default-moved_pages
+returns-in_default-moved_pages c =
+    let s = c.ctl.inside in
+    record {
+      answer =
+          rw (← (state_is c.ctl.view_is))
+          (sym (writer_is s.store s.first_core s.grants s.files.items s.libs.items s.history s.begun.items c.ctl.invariant) ∙ sym c.writer.ensures ∙ c.in_default.is);
+      image = tt;
+      back = state_still s.store (record s.store { home = c.moved_pages.new.home }) s.first_core s.files.items s.files.items s.libs.items s.history.made refl c.in_default-moved_pages.ensures.home refl ∙ state_is c.ctl.view_is;
+      begun = ap (λ (x : Registered). x.begun) c.ctl.view_is;
+      promised = ap (λ (x : Registered). x.promised) c.ctl.view_is;
+      floor = looked_more c.ctl.view_is c.moved_pages.ensures.floor;
+      kept = kept_is c.ctl.view_is c.ctl.invariant.stored.kept;
+    }

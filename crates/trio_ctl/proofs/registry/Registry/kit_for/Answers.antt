@@ -1,14 +1,8 @@
-use Rattle.trio_ctl.proofs.Words.{◌∙◌, ◌≡◌, CoreRange, HasKit, IfOk, Sizes, State, ap, arith, grants_in, sizes_of, state_of, subst, ℕ}
+use Rattle.trio_ctl.proofs.Words.{◌∙◌, ◌≡◌, HasKit, IfOk, State, ap, arith, grants_in, state_of, subst}
 use Rattle.trio_ctl.specs.Kits.{TakesOne}
 use Rattle.trio_ctl.proofs.Views.{state_is}
+use Rattle.trio_ctl.proofs.Seen.{sized_so}
 use Rattle.trio_ctl.proofs.registry.Registry.kit_for.Goals as goal
-
-abbrev sized : CoreRange → ℕ → Sizes
-sized range inodes = record { range = range; inodes = inodes }
-
--- the sizes that are asked for are those of the state
-sized_so : (range : CoreRange) (inodes : ℕ) (s : State) → range ≡ s.home.core.range → inodes ≡ s.home.core.inodes → sized range inodes ≡ sizes_of s
-sized_so range inodes s ranges counts = ap (λ r. sized r inodes) ranges ∙ ap (λ n. sized s.home.core.range n) counts
 
 pub returns-clause-kit : goal.returns-clause-kit
 returns-clause-kit c =

@@ -1,6 +1,7 @@
 use Rattle.trio_ctl.proofs.Words.{◌∙◌, ◌≡◌, ComesBack, HasRoom, None, Registered, Some, State, ap, bundle_in, lowest_parted, parted_hold, refl, subst, sym}
 use Rattle.trio_ctl.proofs.PartedHolds.{parted_is}
 use Rattle.trio_ctl.proofs.Views.{state_is}
+use Rattle.trio_ctl.proofs.Seen.{kept_is}
 use Rattle.trio_ctl.proofs.registry.Registry.taken_in.Goals as goal
 
 pub returns-in-Some-clause-fault : goal.returns-in-Some-clause-fault
@@ -27,3 +28,15 @@ returns-clause-closed c = λ ok.
 pub returns-clause-places : goal.returns-clause-places
 returns-clause-places c = λ ok.
     subst (λ (x : Registered). HasRoom (record { made = x.state.entries; promised = x.promised }) 1) c.self.view_is c.in-Ok.ensures.room
+
+pub returns-clause-kept : goal.returns-clause-kept
+returns-clause-kept c = kept_is c.self.view_is c.self.invariant.stored.kept
+
+pub returns-in_default-kit_for-clause-kept : goal.returns-in_default-kit_for-clause-kept
+returns-in_default-kit_for-clause-kept c = kept_is c.self.view_is c.self.invariant.stored.kept
+
+pub returns-in-Some-clause-kept : goal.returns-in-Some-clause-kept
+returns-in-Some-clause-kept c = kept_is c.self.view_is c.self.invariant.stored.kept
+
+pub returns-in_default-make_room-clause-kept : goal.returns-in_default-make_room-clause-kept
+returns-in_default-make_room-clause-kept c = kept_is c.self.view_is c.self.invariant.stored.kept
