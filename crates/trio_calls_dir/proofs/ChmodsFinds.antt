@@ -4,7 +4,7 @@ use Rattle.std.proofs.Common.{◌||◌}
 use Rattle.trio_nodes.specs.Apply.{of_node}
 use Rattle.trio_walk.specs.declared.met.Rights.{Rights}
 use Rattle.trio_walk.specs.declared.walks.WalkEnd.TheVariants.{Busy, NoMemory}
-use Rattle.trio_calls_dir.proofs.Walked.{way_may}
+use Rattle.trio_calls_dir.proofs.Walkable.{way_may}
 use Rattle.trio_walk.proofs.Possible.{same_seen}
 
 -- ---- the tree's own call

@@ -1,14 +1,14 @@
 -- One try of a change of mode, from its search on.
-use Rattle.trio_calls_dir.proofs.Words.{◌++◌, ◌<◌, ◌∙◌, ◌∷◌, ◌≡◌, ◌≢◌, ◌≤◌, Applied, AreAsked, ArePossible, Ask, At, BadMode, Busy, BusyGrant, BusyMode, Call, Calls, Chmod, ChmodTry, ComesSo, Creds, Denied, DeniedGrant, DeskSeen, Done, EndsBy, EndsHandedIn, EndsModed, Exists, Finds, Grant, HasNothing, HasReadsAlone, Holder, In, InAllShown, IntoItself, IsAlike, IsBusyWalk, IsChmod, IsDir, IsRefusal, IsRefusedAs, IsReplied, IsReply, IsRetold, LeavesBy, List, Made, MayCall, MayWalk, Mode, ModeFault, NamesOther, Needed, NoGrantMemory, NoInodes, NoMemory, NoModeMemory, NoSpace, NoWalkMemory, Nodes, NotDir, NotEmpty, NotFound, NotLent, NotLive, NotMade, NotOwner, NotSettled, OneCall, Option, OthersHold, Outcome, Parcel, Path, RefusesSo, Replied, Reply, Row, SameDesk, SessionSeen, Settled, Told, TooLarge, TriesCall, TryEnd, TryEnds, WalkEnd, Walked, [], alike_then, ap, append-nil, applied, arith, asked, asks_lent, batch_nodes, calls_then, chmod_needs, comes_of, cond, emptied, false, given_all, grant_ask, hand_in_ask, inl, inr, is_done, lent_call, lib_same, map, map-append, mode_ask, moment_possible, need_of, possible_then, refl, refused, served_by, shows_root, subst, sym, try_end, ℕ}
+use Rattle.trio_calls_dir.proofs.Words.{◌++◌, ◌<◌, ◌∙◌, ◌∷◌, ◌≡◌, ◌≢◌, ◌≤◌, Applied, AreAsked, ArePossible, Ask, At, BadMode, Busy, BusyGrant, BusyMode, Call, Calls, Chmod, ChmodTry, ComesSo, Creds, Denied, DeniedGrant, DeskSeen, Done, EndsBy, EndsHandedIn, EndsModed, Exists, Finds, Grant, HasNothing, HasReadsAlone, Holder, In, InAllShown, IntoItself, IsAlike, IsBusyWalk, IsChmod, IsDir, IsRefusal, IsRefusedAs, IsReplied, IsReply, IsRetold, LeavesBy, List, Made, MayCall, MayWalk, Mode, ModeFault, NamesOther, Needed, NoGrantMemory, NoInodes, NoMemory, NoModeMemory, NoSpace, NoWalkMemory, Nodes, NotDir, NotEmpty, NotFound, NotLent, NotLive, NotMade, NotOwner, NotSettled, OneCall, Option, OthersHold, Outcome, Parcel, Path, RefusesSo, Replied, Reply, Row, SameDesk, SessionSeen, Settled, Told, TooLarge, TriesCall, TryEnd, TryEnds, WalkEnd, Walked, [], alike_then, ap, append-nil, applied, arith, asked, batch_nodes, calls_then, chmod_needs, comes_of, cond, emptied, false, given_all, grant_ask, hand_in_ask, inl, inr, is_done, lent_call, lib_same, map, map-append, mode_ask, moment_possible, need_of, possible_then, refl, refused, served_by, shows_root, subst, sym, try_end, ℕ}
 use Rattle.trio_rights.specs.declared.rights.LibNo.{LibNo}
 use Rattle.trio_nodes.specs.After.{lacks_room}
 use Rattle.trio_desk.specs.Calls as desk_calls
 use Rattle.trio_desk.specs.Refusals.{HasModeCause, HasMoment}
 use Rattle.trio_calls_dir.specs.Chmods.{AsksSo, BreaksOff, ChmodTried, Comes, EndsAs, EndsDenied, HandsIn, SetsMode, TriedSo, lent_to}
 use Rattle.trio_walk.specs.declared.attempts.TryEnd.TheVariants.{NoMemory as NoMemoryTry}
-use Rattle.trio_calls_dir.proofs.Ends.{same_asks}
-use Rattle.trio_calls_dir.proofs.Others.{nothing_own}
-use Rattle.trio_calls_dir.proofs.Walked.{way_alike}
+use Rattle.trio_walk.proofs.Stops.{way_asks}
+use Rattle.trio_walk.proofs.OwnBusy.{nothing_own}
+use Rattle.trio_walk.proofs.Ways.{way_went}
 use Rattle.trio_calls_dir.proofs.ChmodsFaults.{comes_live, comes_owned}
 
 -- ---- the session
@@ -106,19 +106,12 @@ module _ {D : Type 0} (called : D → Ask → Told → D → Type 0) (seen : D �
   all = lent_to s given
 
   alike : IsAlike all s1
-  alike = way_alike called seen d s w.more w.last d1 s1 may w.way walks
+  alike = (way_went called seen d s w.more w.last d1 s1 w.way).alike
 
   -- what is true of it
   pub finds : (nodes : Nodes) (rows : List (Option Row)) → ArePossible (seen d1) s1.parcel s1.reads nodes rows → Finds (seen d1) s path mode end (map need_of w.more ++ w.need) nodes
   finds nodes rows p =
       subst (Finds (seen d1) s path mode end (map need_of w.more ++ w.need)) (ap (λ (cs : List Done). batch_nodes (seen d1).creds cs nodes) alone.calls) (w.shown nodes rows p)
-
-  asks_are : map grant_ask (map need_of w.more ++ w.need) ≡ map (λ (c : desk_calls.Call). c.ask) (given ++ w.last)
-  asks_are =
-      map-append grant_ask (map need_of w.more) w.need
-      ∙ ap (λ l. l ++ map grant_ask w.need) (asks_lent w.more)
-      ∙ ap (λ l. map (λ (c : desk_calls.Call). c.ask) given ++ l) (same_asks end w.last w.need w.ends)
-      ∙ sym (map-append (λ (c : desk_calls.Call). c.ask) given w.last)
 
   tried_so : (desk : DeskSeen) → SameDesk (seen d1) desk → (nodes : Nodes) (rows : List (Option Row)) → ArePossible desk all.parcel all.reads nodes rows
       → TriedSo desk.creds s path mode (comes_of end) (map (λ (c : desk_calls.Call). c.ask) (given ++ w.last)) nodes
@@ -129,7 +122,7 @@ module _ {D : Type 0} (called : D → Ask → Told → D → Type 0) (seen : D �
       subst (λ (k : Creds). TriedSo k s path mode (comes_of end) (map (λ (c : desk_calls.Call). c.ask) (given ++ w.last)) nodes) (sym same.creds)
       (record {
         so = v.so;
-        asks = subst (λ l. AsksSo (comes_of end) l (map grant_ask wanted)) asks_are (asks_so end (map need_of w.more ++ w.need) wanted v.asks);
+        asks = subst (λ l. AsksSo (comes_of end) l (map grant_ask wanted)) (way_asks end w.more w.last w.need w.ends) (asks_so end (map need_of w.more ++ w.need) wanted v.asks);
       })
 
   broken_so : (desk : DeskSeen) → SameDesk (seen d1) desk → (nodes : Nodes) (rows : List (Option Row)) → ArePossible desk all.parcel all.reads nodes rows

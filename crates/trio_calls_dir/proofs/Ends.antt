@@ -1,11 +1,13 @@
 -- How a try ends by a refusal, or by a walk that comes to no file.
-use Rattle.trio_calls_dir.proofs.Words.{◌++◌, ◌<◌, ◌∙◌, ◌≡◌, AfterTry, AllotFault, AreAsked, ArePossible, Ask, AskedBy, At, Busy, Call, ComesBy, Creds, Denied, DeniedGrant, DeskSeen, Done, EndsBy, Err, Exists, Goes, Grant, InAllShown, IntoItself, IsAlike, IsBusyWalk, IsDir, IsNames, IsNotBusy, IsNumber, IsOfDir, IsRefusal, IsRefusedAs, IsReplied, IsReply, IsStopped, LacksMemory, LeavesHere, List, MatchResult, MayCall, MayWalk, Needed, NoAllotMemory, NoFreeInodes, NoGrantMemory, NoInodes, NoMemory, NoPages, NoSpace, NoWalkMemory, Nodes, NotDir, NotEmpty, NotFound, NotLent, Ok, Option, Outcome, Replied, Reply, Result, Row, SessionSeen, Stop, StopsBy, Target, Told, TooLarge, TryEnds, WalkEnd, Walked, [], alike_room, alike_then, allot_asks, allot_reply, ap, append-nil, append_assoc, applied, as_lent, asked, asked_beside, asks_from, asks_lent, batch_nodes, cond, false, given_all, grant_ask, inl, inr, is_done, length, lent_call, map, map-append, may_alike, need_of, noted, number_made, numbers_for, pages_for, refl, served_by, subst, sym, took, true, try_ends, wants_of, without_file}
+use Rattle.trio_calls_dir.proofs.Words.{◌++◌, ◌<◌, ◌∙◌, ◌≡◌, AfterTry, AllotFault, AreAsked, ArePossible, Ask, AskedBy, At, Busy, Call, ComesBy, Creds, Denied, DeskSeen, Done, Err, Exists, Goes, InAllShown, IntoItself, IsAlike, IsBusyWalk, IsDir, IsNames, IsNotBusy, IsNumber, IsOfDir, IsRefusal, IsRefusedAs, IsReplied, IsReply, IsStopped, LacksMemory, LeavesHere, List, MatchResult, MayCall, MayWalk, Needed, NoAllotMemory, NoFreeInodes, NoInodes, NoMemory, NoPages, NoSpace, NoWalkMemory, Nodes, NotDir, NotEmpty, NotFound, Ok, Option, Outcome, Replied, Reply, Result, Row, SessionSeen, Stop, StopsBy, Target, Told, TooLarge, TryEnds, WalkEnd, Walked, Went, [], alike_room, allot_asks, allot_reply, ap, append-nil, append_assoc, applied, as_lent, asked, asked_beside, asks_from, batch_nodes, cond, false, grant_ask, inl, inr, is_done, length, lent_call, map, map-append, may_alike, need_of, noted, number_made, numbers_for, pages_for, refl, served_by, subst, sym, took, true, try_ends, wants_of, without_file}
 use Rattle.trio_nodes.specs.Apply.{Apply}
 use Rattle.trio_nodes.specs.After.{call_nodes}
 use Rattle.trio_desk.specs.Calls as desk_calls
 use Rattle.trio_calls_dir.specs.declared.replies.Replied as replied
-use Rattle.trio_calls_dir.proofs.Then.{asked_append}
-use Rattle.trio_calls_dir.proofs.Walked.{way_alike, way_calls, way_may, way_more, way_same}
+use Rattle.trio_walk.proofs.Agreeing.{asked_beside-append}
+use Rattle.trio_walk.proofs.Stops.{by_refusal, refusal_ends, short_refusal, short_walk, way_asks}
+use Rattle.trio_calls_dir.proofs.Walkable.{way_may}
+use Rattle.trio_walk.proofs.Ways.{passes_none, way_went, went_alike}
 use Rattle.trio_edit_laws.proofs.Noting.{may_looked as note_look}
 
 -- ---- the note
@@ -74,16 +76,12 @@ module _ {D : Type 0} (called : D → Ask → Told → D → Type 0) (seen : D �
     target = no_target;
     given = [];
     last = [];
-    each = λ c i. absurd i;
-    made = refl;
+    passes = passes_none called seen d s s' alike;
     ends = inl refl;
     leaves = alike;
     numbered = refl;
-    calls = calls_are;
-    same = record { lib = refl; creds = refl; sizes = refl; root = refl };
     comes = λ nodes rows p. tt;
     asks = λ nodes rows p. (asks_from s (needs (batch_nodes (seen d).creds s'.calls nodes)) (batch_nodes (seen d).creds s'.calls nodes) (seen d).creds call no_target s, refl);
-    more = possible_back;
     after = may_alike (seen d) s s' alike may;
   }
 
@@ -98,18 +96,14 @@ module _ {D : Type 0} (called : D → Ask → Told → D → Type 0) (seen : D �
         target = no_target;
         given = [];
         last = [];
-        each = λ c i. absurd i;
-        made = refl;
+        passes = passes_none called seen d s s' alike;
         ends = q.ends;
         leaves = q.leaves (seen d).creds no_target s s' alike;
         numbered = q.number s;
-        calls = calls_are;
-        same = record { lib = refl; creds = refl; sizes = refl; root = refl };
         comes = λ nodes rows p. comes_none (batch_nodes (seen d).creds s'.calls nodes) (seen d).creds call no_target reply (undone nodes rows p);
         asks = λ nodes rows p.
             ap (λ l. map grant_ask (asked (served_by s) l) ++ wants_of (batch_nodes (seen d).creds s'.calls nodes) (seen d).creds call no_target s) (still (λ now. needs now ≡ []) none nodes rows p)
             ∙ wants_none (batch_nodes (seen d).creds s'.calls nodes) (seen d).creds call no_target s (undone nodes rows p);
-        more = possible_back;
         after = (
           may_alike (seen d) (noted call reply 0 s) (noted call reply 0 s') (ap (noted call reply 0) alike) (may_looked (seen d) s call reply may does),
           room,
@@ -132,45 +126,6 @@ abbrev pub BeginsWith : WalkEnd → List Needed → List Needed → Type 0
 BeginsWith (IsReply reply) first all = all ≡ first
 BeginsWith end first all = (rest : List Needed) × (all ≡ first ++ rest)
 
--- what is asked last is what was needed last
-pub same_asks : (end : WalkEnd) (last : List desk_calls.Call) (need : List Needed) → EndsBy end last need → map grant_ask need ≡ map (λ (c : desk_calls.Call). c.ask) last
-same_asks (At n) last need e = ap (map grant_ask) e.1 ∙ sym (ap (map (λ (c : desk_calls.Call). c.ask)) e.0)
-same_asks (IsReply reply) last need (inl e) = ap (map grant_ask) e.1 ∙ sym (ap (map (λ (c : desk_calls.Call). c.ask)) e.0)
-same_asks (IsReply reply) last need (inr e) = ap (map grant_ask) e.3 ∙ sym (ap (map (λ (c : desk_calls.Call). c.ask)) e.2)
-same_asks (IsBusyWalk holder) last need e = ap (map grant_ask) e.3 ∙ sym (ap (map (λ (c : desk_calls.Call). c.ask)) e.2)
-same_asks NoWalkMemory last need (inl e) = ap (map grant_ask) e.1 ∙ sym (ap (map (λ (c : desk_calls.Call). c.ask)) e.0)
-same_asks NoWalkMemory last need (inr e) = ap (map grant_ask) e.3 ∙ sym (ap (map (λ (c : desk_calls.Call). c.ask)) e.2)
-
--- how the try ends by it
-reply_ends : (reply : Reply) (last : List desk_calls.Call) (need : List Needed) → IsStopped (IsReply reply) → EndsBy (IsReply reply) last need → TryEnds (Replied reply) last
-reply_ends NotFound last need st (inl e) = e.0
-reply_ends NotDir last need st (inl e) = e.0
-reply_ends Denied last need st (inl e) = inl e.0
-reply_ends Denied last need st (inr e) = inr (record { ask = Grant 1 e.0; told = NotLent (DeniedGrant 1) }, e.2, (e.0, refl))
-reply_ends NotFound last need st (inr e) = absurd (let wrong : NotFound ≡ Denied = e.1 in cc wrong)
-reply_ends NotDir last need st (inr e) = absurd (let wrong : NotDir ≡ Denied = e.1 in cc wrong)
-reply_ends (IsReplied a) last need st e = absurd st
-reply_ends Exists last need st e = absurd st
-reply_ends IsDir last need st e = absurd st
-reply_ends NotEmpty last need st e = absurd st
-reply_ends IntoItself last need st e = absurd st
-reply_ends (NoSpace w f) last need st e = absurd st
-reply_ends (NoInodes w f) last need st e = absurd st
-reply_ends TooLarge last need st e = absurd st
-
-stopped_refusal : (reply : Reply) → IsStopped (IsReply reply) → IsRefusal reply
-stopped_refusal NotFound st = tt
-stopped_refusal NotDir st = tt
-stopped_refusal Denied st = tt
-stopped_refusal (IsReplied a) st = absurd st
-stopped_refusal Exists st = absurd st
-stopped_refusal IsDir st = absurd st
-stopped_refusal NotEmpty st = absurd st
-stopped_refusal IntoItself st = absurd st
-stopped_refusal (NoSpace w f) st = absurd st
-stopped_refusal (NoInodes w f) st = absurd st
-stopped_refusal TooLarge st = absurd st
-
 module _ {D : Type 0} (called : D → Ask → Told → D → Type 0) (seen : D → DeskSeen) (d : D) (s : SessionSeen) (call : Call) (first needs : Nodes → List Needed) (may : MayCall (seen d) s) (d1 : D) (s1 s2 : SessionSeen)
     (true_of : List Needed → Nodes → Type 0) (end : WalkEnd) (w : Walked called seen d s true_of end d1 s1) (walks : MayWalk (seen d1) s1) (kept : s2 ≡ record s1 { room = s2.room }) where
   abbrev asking : desk_calls.Call → Ask
@@ -178,12 +133,6 @@ module _ {D : Type 0} (called : D → Ask → Told → D → Type 0) (seen : D �
 
   abbrev these : List Needed
   these = map need_of w.more ++ w.need
-
-  asked_is : map grant_ask these ≡ map asking (map lent_call w.more ++ w.last)
-  asked_is =
-      map-append grant_ask (map need_of w.more) w.need
-      ∙ ap (λ l. l ++ map grant_ask w.need) (asks_lent w.more) ∙ ap (λ l. map asking (map lent_call w.more) ++ l) (same_asks end w.last w.need w.ends)
-      ∙ sym (map-append asking (map lent_call w.more) w.last)
 
   may1 : MayCall (seen d1) s1
   may1 = way_may called seen d s w.more w.last d1 s1 may w.way walks
@@ -197,6 +146,9 @@ module _ {D : Type 0} (called : D → Ask → Told → D → Type 0) (seen : D �
   over : (P : Nodes → Type 0) → InAllShown (seen d1) s1 P → InAllShown (seen d1) s2 P
   over P h nodes rows p = subst (λ (cs : List Done). P (batch_nodes (seen d1).creds cs nodes)) (sym (ap (λ (q : SessionSeen). q.calls) kept)) (h nodes rows (back nodes rows p))
 
+  went2 : Went called seen d s (map lent_call w.more) w.last d1 s2
+  went2 = went_alike called seen d s (map lent_call w.more) w.last d1 s1 s2 near (way_went called seen d s w.more w.last d1 s1 w.way)
+
   -- a try that is broken off here, or is replied by the walk's refusal
   broken : (out : Outcome) → TryEnds out w.last
       → ((creds : Creds) (x : SessionSeen) → IsAlike x s2 → LeavesHere creds call no_target x out s2) → ((x : SessionSeen) → IsNumber call x out 0)
@@ -207,20 +159,14 @@ module _ {D : Type 0} (called : D → Ask → Told → D → Type 0) (seen : D �
     target = no_target;
     given = map lent_call w.more;
     last = w.last;
-    each = given_all w.more;
-    made = w.way.made;
+    passes = went2.passes;
     ends = ends;
-    leaves =
-        leaves (seen d1).creds (took s (map (λ (c : desk_calls.Call). c.told) (map lent_call w.more)))
-        (alike_then (took s (map (λ (c : desk_calls.Call). c.told) (map lent_call w.more))) s1 s2 (way_alike called seen d s w.more w.last d1 s1 may w.way walks) near);
+    leaves = leaves (seen d1).creds (took s (map (λ (c : desk_calls.Call). c.told) (map lent_call w.more))) went2.alike;
     numbered = number (took s (map (λ (c : desk_calls.Call). c.told) (map lent_call w.more)));
-    calls = ap (λ (q : SessionSeen). q.calls) kept ∙ way_calls called seen d s w.more w.last d1 s1 may w.way walks;
-    same = way_same called seen d s w.more w.last d1 s1 may w.way walks;
     comes = comes;
     asks = λ nodes rows p.
         subst (λ l. AskedBy out l (asks_from s (needs (batch_nodes (seen d1).creds s2.calls nodes)) (batch_nodes (seen d1).creds s2.calls nodes) (seen d1).creds call no_target (took s (map (λ (c : desk_calls.Call). c.told) (map lent_call w.more)))))
-        asked_is (asks nodes rows p (took s (map (λ (c : desk_calls.Call). c.told) (map lent_call w.more))));
-    more = λ nodes rows p. way_more called seen d s w.more w.last d1 s1 may w.way walks nodes rows (back nodes rows p);
+        (way_asks end w.more w.last w.need w.ends) (asks nodes rows p (took s (map (λ (c : desk_calls.Call). c.told) (map lent_call w.more))));
     after = after;
   }
 
@@ -233,7 +179,7 @@ module _ {D : Type 0} (called : D → Ask → Told → D → Type 0) (seen : D �
       let rest : List Needed = r.0 ++ behind in (
         map grant_ask rest ++ W,
         ap (λ l. map grant_ask (asked (served_by s) l) ++ W) n.1
-            ∙ ap (λ l. map grant_ask l ++ W) (asked_append (served_by s) [] (first now) n.0 ∙ ap (λ l. l ++ behind) r.1 ∙ append_assoc these r.0 behind)
+            ∙ ap (λ l. map grant_ask l ++ W) (asked_beside-append (served_by s) (first now) n.0 [] ∙ ap (λ l. l ++ behind) r.1 ∙ append_assoc these r.0 behind)
             ∙ ap (λ l. l ++ W) (map-append grant_ask these rest)
             ∙ append_assoc (map grant_ask these) (map grant_ask rest) W,
       )
@@ -257,23 +203,19 @@ module _ {D : Type 0} (called : D → Ask → Told → D → Type 0) (seen : D �
       (may_alike (seen d1) s1 s2 (near called seen d s call first needs may d1 s1 s2 true_of (IsBusyWalk holder) w walks kept) (may1 called seen d s call first needs may d1 s1 s2 true_of (IsBusyWalk holder) w walks kept)))
   stop_goes NoWalkMemory w walks kept st asks begins refused result by =
       subst (λ r. Goes called seen d s call needs (try_ends r) (number_made r) d1 s2) (sym by)
-      (broken called seen d s call first needs may d1 s1 s2 true_of NoWalkMemory w walks kept NoMemory (ends w.ends) (λ creds x e. e) (λ x. refl) (λ nodes rows p. tt)
+      (broken called seen d s call first needs may d1 s1 s2 true_of NoWalkMemory w walks kept NoMemory (short_walk w.last w.need w.ends) (λ creds x e. e) (λ x. refl) (λ nodes rows p. tt)
       (over called seen d s call first needs may d1 s1 s2 true_of NoWalkMemory w walks kept
       (λ now. (x : SessionSeen) → AskedBy NoMemory (map grant_ask (map need_of w.more ++ w.need)) (asks_from s (needs now) now (seen d1).creds call no_target x))
       (λ nodes rows p x. first_of called seen d s call first needs may d1 s1 s2 true_of NoWalkMemory w walks kept (batch_nodes (seen d1).creds s1.calls nodes) x (asks nodes rows p) (begins nodes rows p)))
       (may_alike (seen d1) s1 s2 (near called seen d s call first needs may d1 s1 s2 true_of NoWalkMemory w walks kept) (may1 called seen d s call first needs may d1 s1 s2 true_of NoWalkMemory w walks kept)))
-    where
-      ends : EndsBy NoWalkMemory w.last w.need → TryEnds NoMemory w.last
-      ends (inl e) = inl e.0
-      ends (inr e) = inr (record { ask = Grant e.0 e.1; told = NotLent NoGrantMemory }, e.2, inl (inl refl))
   stop_goes (IsReply reply) w walks kept st asks begins refused (Ok r) by =
-      let q = plain call reply (stopped_refusal reply st) in
+      let q = plain call reply (by_refusal IsRefusal tt tt tt reply st) in
       let m1 = may1 called seen d s call first needs may d1 s1 s2 true_of (IsReply reply) w walks kept in
       let does = refused reply refl in
       let undone : InAllShown (seen d1) s1 (λ now. is_done (applied now (seen d1).creds call 0).reply ≡ false) =
       λ nodes rows p. (let it = does nodes rows p in q.undone (seen d1) (batch_nodes (seen d1).creds s1.calls nodes) (call_nodes (seen d1).creds (batch_nodes (seen d1).creds s1.calls nodes) (record { call = call; reply = reply; made = 0 })) it.0) in
       subst (λ (x : replied.Replied). Goes called seen d s call needs (Replied x.reply) x.made d1 s2) (sym by.0)
-      (broken called seen d s call first needs may d1 s1 s2 true_of (IsReply reply) w walks kept (Replied reply) (reply_ends reply w.last w.need st w.ends) (λ creds x e. q.leaves creds no_target x s2 e) q.number
+      (broken called seen d s call first needs may d1 s1 s2 true_of (IsReply reply) w walks kept (Replied reply) (refusal_ends reply w.last w.need st w.ends) (λ creds x e. q.leaves creds no_target x s2 e) q.number
       (over called seen d s call first needs may d1 s1 s2 true_of (IsReply reply) w walks kept (λ now. ComesBy (Replied reply) no_target now (seen d1).creds call)
       (λ nodes rows p. comes_none (batch_nodes (seen d1).creds s1.calls nodes) (seen d1).creds call no_target reply (undone nodes rows p)))
       (over called seen d s call first needs may d1 s1 s2 true_of (IsReply reply) w walks kept
@@ -291,13 +233,9 @@ module _ {D : Type 0} (called : D → Ask → Told → D → Type 0) (seen : D �
       ))
   stop_goes (IsReply reply) w walks kept st asks begins refused (Err stop) by =
       subst (λ x. Goes called seen d s call needs (try_ends (Err x)) 0 d1 s2) (sym by)
-      (broken called seen d s call first needs may d1 s1 s2 true_of (IsReply reply) w walks kept NoMemory (ends w.ends) (λ creds x e. e) (λ x. refl) (λ nodes rows p. tt)
+      (broken called seen d s call first needs may d1 s1 s2 true_of (IsReply reply) w walks kept NoMemory (short_refusal reply w.last w.need w.ends) (λ creds x e. e) (λ x. refl) (λ nodes rows p. tt)
       (over called seen d s call first needs may d1 s1 s2 true_of (IsReply reply) w walks kept
       (λ now. (x : SessionSeen) → AskedBy NoMemory (map grant_ask (map need_of w.more ++ w.need)) (asks_from s (needs now) now (seen d1).creds call no_target x))
       (λ nodes rows p x. first_of called seen d s call first needs may d1 s1 s2 true_of (IsReply reply) w walks kept (batch_nodes (seen d1).creds s1.calls nodes) x
       ([], asks nodes rows p ∙ sym (append-nil (map need_of w.more ++ w.need))) ([], begins nodes rows p ∙ sym (append-nil (first (batch_nodes (seen d1).creds s1.calls nodes))))))
       (may_alike (seen d1) s1 s2 (near called seen d s call first needs may d1 s1 s2 true_of (IsReply reply) w walks kept) (may1 called seen d s call first needs may d1 s1 s2 true_of (IsReply reply) w walks kept)))
-    where
-      ends : EndsBy (IsReply reply) w.last w.need → TryEnds NoMemory w.last
-      ends (inl e) = inl e.0
-      ends (inr e) = inr (record { ask = Grant 1 e.0; told = NotLent (DeniedGrant 1) }, e.2, inr (e.0, refl))

@@ -74,7 +74,7 @@ module _ {D : Type 0} (called : D → Ask → Told → D → Type 0) (seen : D �
     pub one_goes : (end : Outcome) (number : ℕ) (d' : D) (s' : SessionSeen) → Goes called seen d1 s2 call (λ now. F now dir) end number d' s'
         → Goes called seen d s call (λ now. dir_needs now (seen d').creds (shows_root s) call) end number d' s'
     one_goes end number d' s' goes =
-        subst (λ (k : Creds). Goes called seen d s call (λ now. dir_needs now k (shows_root s) call) end number d' s') (sym goes.same.creds)
+        subst (λ (k : Creds). Goes called seen d s call (λ now. dir_needs now k (shows_root s) call) end number d' s') (sym goes.passes.same.creds)
         (into_goes called seen d s call (dir_of path ∷ []) (dir_of path) may d1 s1 needs F are dir w walks s2 near end number d' s' goes)
 
   -- ---- where it has come to no file

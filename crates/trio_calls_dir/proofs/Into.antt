@@ -1,10 +1,11 @@
 -- A call from its walk into a directory on.
-use Rattle.trio_calls_dir.proofs.Words.{◌++◌, ◌∙◌, ◌≡◌, ArePossible, Ask, At, Call, DeskSeen, Done, Err, Goes, InAllShown, IsAlike, IsBusyWalk, IsRefusedAs, IsReply, IsStopped, List, MayCall, MayWalk, Needed, NoWalkMemory, Nodes, Ok, Outcome, Path, Reply, Result, SessionSeen, Stop, StopsBy, Told, WalkEnd, Walked, WalksInto, WalksTo, Way, Went, alike_then, ap, append-nil, asked, asks_lent, batch_nodes, grant_ask, into_needs, lent_call, map, map-append, need_of, number_made, reached_by, served_by, shows_root, subst, sym, took, try_ends, walk_into, ℕ}
+use Rattle.trio_calls_dir.proofs.Words.{◌++◌, ◌∙◌, ◌≡◌, [], ArePossible, Ask, At, Call, DeskSeen, Done, Err, Goes, InAllShown, IsAlike, IsBusyWalk, IsRefusedAs, IsReply, IsStopped, List, MayCall, MayWalk, Needed, NoWalkMemory, Nodes, Ok, Outcome, Path, Reply, Result, SessionSeen, Stop, StopsBy, Told, WalkEnd, Walked, WalksInto, WalksTo, Went, ap, append-nil, asked, asks_lent, batch_nodes, grant_ask, into_needs, lent_call, map, map-append, need_of, number_made, reached_by, served_by, shows_root, subst, sym, took, try_ends, walk_into, ℕ}
 use Rattle.trio_desk.specs.Calls as desk_calls
 use Rattle.trio_calls_dir.specs.declared.replies.Replied as replied
 use Rattle.trio_calls_dir.proofs.Ends.{BeginsWith, stop_goes}
-use Rattle.trio_calls_dir.proofs.Then.{asked_then, goes_on}
-use Rattle.trio_calls_dir.proofs.Walked.{way_went}
+use Rattle.trio_calls_dir.proofs.Then.{goes_on}
+use Rattle.trio_walk.proofs.Asking.{asked_then}
+use Rattle.trio_walk.proofs.Ways.{went_alike, way_went}
 
 -- the call needs the walk into the directory of this path, and then what is needed in it
 module _ {D : Type 0} (called : D → Ask → Told → D → Type 0) (seen : D → DeskSeen) (d : D) (s : SessionSeen) (call : Call) (writes : List Path) (path : Path) (may : MayCall (seen d) s) (d1 : D) (s1 : SessionSeen) where
@@ -19,20 +20,8 @@ module _ {D : Type 0} (called : D → Ask → Told → D → Type 0) (seen : D �
     -- ---- where the walk has entered the directory
 
     module _ (dir : ℕ) (w : ending (At dir)) (walks : MayWalk (seen d1) s1) (s2 : SessionSeen) (near : IsAlike s1 s2) where
-      went1 : Went called seen d s (map lent_call w.more) d1 s1
-      went1 = way_went called seen d s w.more d1 s1 may (subst (λ l. Way called seen d s w.more l d1 s1) w.ends.0 w.way) walks
-
-      pub went_into : Went called seen d s (map lent_call w.more) d1 s2
-      went_into = record {
-        each = went1.each;
-        made = went1.made;
-        alike = alike_then (took s (map (λ (c : desk_calls.Call). c.told) (map lent_call w.more))) s1 s2 went1.alike near;
-        pages = ap (λ (q : SessionSeen). q.parcel.pages) near ∙ went1.pages;
-        inodes = ap (λ (q : SessionSeen). q.parcel.inodes) near ∙ went1.inodes;
-        calls = ap (λ (q : SessionSeen). q.calls) near ∙ went1.calls;
-        same = went1.same;
-        more = λ nodes rows p. went1.more nodes rows (subst (λ (q : SessionSeen). ArePossible (seen d1) q.parcel q.reads nodes rows) near p);
-      }
+      pub went_into : Went called seen d s (map lent_call w.more) [] d1 s2
+      went_into = went_alike called seen d s (map lent_call w.more) [] d1 s1 s2 near (subst (λ l. Went called seen d s (map lent_call w.more) l d1 s1) w.ends.0 (way_went called seen d s w.more w.last d1 s1 w.way))
 
       walked_to : InAllShown (seen d1) s1 (λ now. walk_into now (seen d1).creds writes path ≡ Ok dir)
       walked_to nodes rows p = (w.shown nodes rows p).walks

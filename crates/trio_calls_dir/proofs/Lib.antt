@@ -2,7 +2,6 @@ mod Walkable
 mod CallKinds
 pub mod Then
 mod Noted
-mod Walked
 mod Ends
 mod Others
 mod ListsSome
@@ -15,7 +14,6 @@ mod Possible
 mod TreeAlike
 mod EditDone
 mod OnWay
-mod OwnBusy
 mod Held
 mod RemovesCount
 mod RemovesBusy

@@ -1,7 +1,6 @@
 -- A list of names at the file to which its walk came.
-use Rattle.trio_calls_dir.proofs.Words.{◌++◌, ◌<◌, ◌∙◌, ◌∷◌, ◌≡◌, ArePossible, AreWithinLimits, Ask, Bool, Busy, BusyAt, BusyGrant, ComesHere, Creds, Denied, DeskSeen, Directory, Err, Goes, Grant, HasMet, HasRights, Holder, In, InAllShown, IsBusy, IsBusyWalk, IsMet, IsRefusal, IsRefusedAs, IsReplied, IsReply, Kind, LacksMemory, List, ListNames, MatchResult, MayCall, Met, Mode, Names, Needed, NoWalkMemory, Nodes, None, NotDir, NotLent, Ok, Option, Path, Read, Regular, Replied, Reply, Result, Rights, RightsAre, Row, SessionSeen, Some, Stop, StopsBy, Target, ToRead, Told, Took, WalkEnd, Walked, Way, Went, [], alike_room, allot_asks, ap, append-nil, applied, asked, asks_lent, batch_nodes, body_shown, cond, drop, false, gives, gives_met, grant_ask, in_hand, inl, inr, is_directory, is_done, is_some, kind_shown, length, lent_call, list_reply, listing_at, map, may_alike, met_refusal, moment_possible, names_here, need_of, node_at, not, noted, number_made, one_need, option_map, option_map_or, permits, refl, rights_in, rights_of, served_by, serves, subst, sym, take, true, try_ends, view_calls, walk, wants_of, ℕ}
-use Rattle.std.proofs.Math.Bool.{or-false}
-use Rattle.trio_desk.specs.Calls as desk_calls
+use Rattle.trio_calls_dir.proofs.Words.{◌++◌, ◌<◌, ◌∙◌, ◌∷◌, ◌≡◌, ArePossible, AreWithinLimits, Ask, Bool, Busy, ComesHere, Creds, Denied, DeskSeen, Directory, Err, Goes, HasMet, HasRights, Holder, InAllShown, IsBusyWalk, IsMet, IsRefusal, IsRefusedAs, IsReplied, IsReply, Kind, LacksMemory, List, ListNames, MatchResult, MayCall, Met, Names, Needed, NoWalkMemory, Nodes, None, NotDir, Ok, Option, Path, Read, Regular, Replied, Reply, Result, Rights, Row, SessionSeen, Some, Stop, StopsBy, Target, ToRead, Told, Took, WalkEnd, Walked, Went, [], alike_room, allot_asks, ap, applied, asked, batch_nodes, body_shown, cond, drop, false, gives, gives_met, in_hand, inr, is_directory, is_done, is_some, kind_shown, length, lent_call, list_reply, listing_at, map, may_alike, met_refusal, names_here, need_of, node_at, not, noted, number_made, option_map, option_map_or, permits, refl, rights_in, rights_of, served_by, serves, subst, sym, take, true, try_ends, view_calls, walk, wants_of, ℕ}
+use Rattle.std.proofs.lemmas.Bool.{not-true}
 use Rattle.trio_desk.specs.Contents.{Sizes}
 use Rattle.trio_laws.specs.session.DirCalls.{list_refusal}
 use Rattle.trio_laws.proofs.session.DirCalls.{list_refused_by_check, lists_names}
@@ -9,31 +8,17 @@ use Rattle.trio_laws.proofs.session.Sees.{sees_root}
 use Rattle.trio_walk.specs.declared.met.Rights as shown_rights
 use Rattle.trio_walk.specs.Walks.{MayTake}
 use Rattle.trio_calls_dir.specs.declared.replies.Replied as replied
-use Rattle.trio_calls_dir.specs.inner.Lists.{lets_read}
 use Rattle.trio_calls_dir.proofs.Ends.{lacks, may_looked, refused_goes, refuses, stop_goes}
 use Rattle.trio_session.specs.Deeds.{IsHad, body_had}
 use Rattle.trio_edit_laws.proofs.Had.{had_served, there_had}
 use Rattle.trio_calls_dir.proofs.ListsHad.{had_here}
-use Rattle.trio_calls_dir.proofs.Then.{all_then, goes_on}
-use Rattle.trio_calls_dir.proofs.Walked.{way_calls, way_may, way_more, way_same, way_went}
+use Rattle.trio_calls_dir.proofs.Walkable.{way_may}
+use Rattle.trio_walk.proofs.Entering.{asked-one}
+use Rattle.trio_walk.proofs.Meeting.{gives_known}
+use Rattle.trio_walk.proofs.Ways.{passes_none}
+use Rattle.trio_calls_dir.proofs.Held as taking
 
 -- ---- what is known of the file
-
-module _ (shown : Bool) (s : SessionSeen) (nodes now : Nodes) (creds : Creds) (m : Met) (t : IsMet shown s nodes now creds m) where
-  -- the rights that are known are the node's
-  rights_known : (r : shown_rights.Rights) → m.rights ≡ Some r → rights_of t.after ≡ record { kind = m.kind; mode = r.mode; uid = r.uid; gid = r.gid }
-  rights_known r e =
-      let are : RightsAre (Some r) t.after = subst (λ o. RightsAre o t.after) e t.rights in
-      ap (λ k. record { kind = k; mode = t.after.mode; uid = t.after.uid; gid = t.after.gid }) t.kind
-      ∙ ap (λ (q : Mode). record { kind = m.kind; mode = q; uid = t.after.uid; gid = t.after.gid }) are.0
-      ∙ ap (λ q. record { kind = m.kind; mode = r.mode; uid = q; gid = t.after.gid }) are.1
-      ∙ ap (λ q. record { kind = m.kind; mode = r.mode; uid = r.uid; gid = q }) are.2
-
-  -- and give what they do
-  pub gives_known : (r : shown_rights.Rights) → m.rights ≡ Some r → gives creds ToRead (rights_of t.after) ≡ gives_met creds m ToRead
-  gives_known r e =
-      ap (gives creds ToRead) (rights_known r e)
-      ∙ sym (ap (λ o. option_map_or (λ (q : shown_rights.Rights). permits creds m.kind q.mode q.uid q.gid ToRead) o true) e)
 
 -- why a file isn't listed, by whether it is a directory and gives reading
 abbrev refusal_by : Bool → Bool → Option Reply
@@ -82,7 +67,7 @@ module _ (desk : DeskSeen) (s : SessionSeen) (path : Path) (from : ℕ) (m : Met
 
       by : (o : Option shown_rights.Rights) → m.rights ≡ o → list_refusal desk.creds (rights_of (met.1.met nodes rows p).after) ≡ Some reply
       by (Some r) known =
-          kinds ∙ ap (λ g. refusal_by (is_directory m.kind) g) (gives_known met.0 s nodes (batch_nodes desk.creds s.calls nodes) desk.creds m (met.1.met nodes rows p) r known) ∙ e
+          kinds ∙ ap (λ g. refusal_by (is_directory m.kind) g) (gives_known met.0 s nodes (batch_nodes desk.creds s.calls nodes) desk.creds m (met.1.met nodes rows p) ToRead r known) ∙ e
       by None none =
           kinds
           ∙ only_regular (is_directory m.kind) (gives desk.creds ToRead (rights_of (met.1.met nodes rows p).after)) reply
@@ -142,16 +127,12 @@ module _ {D : Type 0} (called : D → Ask → Told → D → Type 0) (seen : D �
       target = record { dir = 0; new_dir = 0; ino = n };
       given = [];
       last = [];
-      each = λ c i. absurd i;
-      made = refl;
+      passes = passes_none called seen d s s' (alike_room s s' kept);
       ends = refl;
       leaves = alike_room s s' kept;
       numbered = refl;
-      calls = ap (λ (q : SessionSeen). q.calls) kept;
-      same = record { lib = refl; creds = refl; sizes = refl; root = refl };
       comes = near (λ now. is_done (applied now (seen d).creds (ListNames path from) 0).reply ≡ true → walk now (seen d).creds [] path ≡ Ok n) (λ nodes rows p done. comes nodes rows p);
       asks = λ nodes rows p. no_wants (batch_nodes (seen d).creds s'.calls nodes) (seen d).creds path from (record { dir = 0; new_dir = 0; ino = n }) s;
-      more = λ nodes rows p. subst (λ (q : SessionSeen). ArePossible (seen d) q.parcel q.reads nodes rows) kept p;
       after =
           let reply : Reply = IsReplied (Names (length names) (take 64 (drop from names))) in (
             may_alike (seen d) (noted (ListNames path from) reply 0 s) (noted (ListNames path from) reply 0 s') (ap (noted (ListNames path from) reply 0) (alike_room s s' kept))
@@ -168,26 +149,16 @@ module _ {D : Type 0} (called : D → Ask → Told → D → Type 0) (seen : D �
     reply_goes true g room = names_go g room
     reply_goes false g room = refuses called seen d s s' (ListNames path from) (λ now. []) may kept (λ nodes rows p. refl) Denied tt (denied_done g) room
 
-    lets : lets_read s (seen d).creds n ≡ gives (seen d).creds ToRead (rights_in Directory body)
-    lets = ap (λ o. option_map_or (λ b. gives (seen d).creds ToRead (rights_in Directory b)) o false) there
-
   pub taken_goes : IsHad s n → (result : Result replied.Replied Stop)
       → MatchResult result (λ r. (r ≡ record { reply = list_reply (seen d).creds s n from; made = 0 }) × (length s'.calls < s'.room.calls)) (λ stop. stop ≡ LacksMemory)
       → Goes called seen d s (ListNames path from) (λ now. []) (try_ends result) (number_made result) d s'
   taken_goes had (Ok r) ends =
-      let g : Bool = gives (seen d).creds ToRead (rights_in Directory (body_had s n)) in
-      let reply : replied.Replied = record { reply = list_reply (seen d).creds s n from; made = 0 } in
       subst (λ (x : replied.Replied). Goes called seen d s (ListNames path from) (λ now. []) (Replied x.reply) x.made d s') (sym ends.0)
-      (subst (λ b. Goes called seen d s (ListNames path from) (λ now. []) (Replied (cond b (IsReplied (Names (length (names_here s n)) (take 64 (drop from (names_here s n))))) Denied)) 0 d s') (sym (lets (body_had s n) (there_had s n had)))
-      (reply_goes (body_had s n) (there_had s n had) g refl ends.1))
+      (reply_goes (body_had s n) (there_had s n had) (gives (seen d).creds ToRead (rights_in Directory (body_had s n))) refl ends.1)
   taken_goes had (Err stop) ends =
       subst (λ x. Goes called seen d s (ListNames path from) (λ now. []) (try_ends (Err x)) 0 d s') (sym ends) (lacks called seen d s s' (ListNames path from) (λ now. []) may kept)
 
 -- ---- the directory is taken
-
--- one need is asked where nothing serves it
-one_asked : (s : SessionSeen) (n : ℕ) → asked (served_by s) (record { ino = n; kind = Read } ∷ []) ≡ one_need s n Read
-one_asked s n = ap (λ b. cond b [] (record { ino = n; kind = Read } ∷ [])) (or-false (serves s n Read))
 
 listing_one : (creds : Creds) (m : Met) → met_refusal creds m ≡ None → listing_at creds m ≡ record { ino = m.ino; kind = Read } ∷ []
 listing_one creds m e = ap (λ (o : Option Reply). cond (is_some o) [] (record { ino = m.ino; kind = Read } ∷ [])) e
@@ -196,62 +167,39 @@ stops_by : (reply : Reply) (s' : SessionSeen) (result : Result replied.Replied S
 stops_by reply s' (Ok r) e = e
 stops_by reply s' (Err stop) e = e
 
-not-true : (b : Bool) → not b ≡ true → b ≡ false
-not-true false e = refl
-not-true true e = sym e
-
 module _ {D : Type 0} (called : D → Ask → Told → D → Type 0) (seen : D → DeskSeen) (d : D) (s : SessionSeen) (m : Met) (may : MayCall (seen d) s) (unchecked : met_refusal (seen d).creds m ≡ None) (d1 : D) (s1 : SessionSeen)
     (t : Took called seen d s m Read (Ok true) d1 s1) where
-  way : Way called seen d s t.more [] d1 s1
-  way = subst (λ l. Way called seen d s t.more l d1 s1) t.taken.0 t.way
-
-  taken_went : Went called seen d s (map lent_call t.more) d1 s1
-  taken_went = way_went called seen d s t.more d1 s1 may way t.may
-
   pub taken_may : MayCall (seen d1) s1
-  taken_may = way_may called seen d s t.more [] d1 s1 may way t.may
+  taken_may = way_may called seen d s t.more t.last d1 s1 may t.way t.may
 
   taken_kind : kind_shown s1 m.ino ≡ Some Directory
   taken_kind = t.taken.2.of_kind (λ e. absurd (cc e)) ∙ ap Some (unrefused_directory (seen d).creds m unchecked)
 
   pub taken_had : AreWithinLimits (seen d).sizes → IsHad s1 m.ino
-  taken_had limits = had_served (seen d1) s1 m.ino taken_may.edits (subst (λ (z : Sizes). AreWithinLimits z) (sym taken_went.same.sizes) limits) Read (λ e. absurd (cc e)) t.taken.2.served
-
--- where another grant keeps the file busy, or one of the session's own does
-pub busy_at : {D : Type 0} (called : D → Ask → Told → D → Type 0) (seen : D → DeskSeen) (d : D) (s : SessionSeen) (m : Met) → MayCall (seen d) s → (d1 : D) (s1 : SessionSeen) (holder : Holder)
-    → Took called seen d s m Read (Err (IsBusyWalk holder)) d1 s1 → BusyAt (seen d) s m.ino (Busy holder)
-busy_at called seen d s m may d1 s1 holder t mine =
-    let moment = t.taken.3.moment in
-    record {
-      busy = t.way.others m.ino Read holder (subst (λ l. In (record { ask = Grant m.ino Read; told = NotLent (BusyGrant holder) }) l) (sym t.taken.1) (inl refl)) mine;
-      nodes = moment.nodes;
-      rows = moment.rows;
-      possible = moment_possible (seen d) s may.edits.on moment;
-    }
+  taken_had limits = had_served (seen d1) s1 m.ino taken_may.edits (subst (λ (z : Sizes). AreWithinLimits z) (sym t.way.sizes) limits) Read (λ e. absurd (cc e)) t.taken.2.served
 
 module _ {D : Type 0} (called : D → Ask → Told → D → Type 0) (seen : D → DeskSeen) (d : D) (s : SessionSeen) (path : Path) (from : ℕ) (m : Met) (may : MayCall (seen d) s) (comes : ComesHere (seen d) s path m.ino)
     (unchecked : met_refusal (seen d).creds m ≡ None) (d1 : D) (s1 : SessionSeen) where
   abbrev needs : Nodes → List Needed
   needs x = listing_at (seen d).creds m
 
-  wanted_one : asked (served_by s) (listing_at (seen d).creds m) ≡ one_need s m.ino Read
-  wanted_one = ap (asked (served_by s)) (listing_one (seen d).creds m unchecked) ∙ one_asked s m.ino
+  needs_one : InAllShown (seen d) s (λ now. listing_at (seen d).creds m ≡ record { ino = m.ino; kind = Read } ∷ [])
+  needs_one nodes rows p = listing_one (seen d).creds m unchecked
 
   module _ (t : Took called seen d s m Read (Ok true) d1 s1) where
-    went1 : Went called seen d s (map lent_call t.more) d1 s1
-    went1 = taken_went called seen d s m may unchecked d1 s1 t
+    went1 : Went called seen d s (map lent_call t.more) [] d1 s1
+    went1 = taking.went called seen d s (ListNames path from) m Read may needs needs_one d1 s1 t
 
     comes_still : ComesHere (seen d1) s1 path m.ino
     comes_still =
-        subst (λ (k : Creds). InAllShown (seen d1) s1 (λ now. walk now k [] path ≡ Ok m.ino)) (sym went1.same.creds)
-        (all_then (seen d) (seen d1) s s1 (λ now. walk now (seen d).creds [] path ≡ Ok m.ino) went1.same went1.more went1.calls comes)
+        subst (λ (k : Creds). InAllShown (seen d1) s1 (λ now. walk now k [] path ≡ Ok m.ino)) (sym went1.passes.same.creds)
+        (taking.over called seen d s (ListNames path from) m Read may needs needs_one d1 s1 t (λ now. walk now (seen d).creds [] path ≡ Ok m.ino) comes)
 
     pub listed_goes : IsHad s1 m.ino → (s' : SessionSeen) → s' ≡ record s1 { room = s'.room } → (result : Result replied.Replied Stop)
         → MatchResult result (λ r. (r ≡ record { reply = list_reply (seen d1).creds s1 m.ino from; made = 0 }) × (length s'.calls < s'.room.calls)) (λ stop. stop ≡ LacksMemory)
         → Goes called seen d s (ListNames path from) (λ now. listing_at (seen d).creds m) (try_ends result) (number_made result) d1 s'
     listed_goes had s' kept result ends =
-        goes_on called seen d d1 d1 s s1 s' (ListNames path from) (map lent_call t.more) went1 (try_ends result) (number_made result) needs (λ now. [])
-        (λ nodes rows p. ap (map grant_ask) (wanted_one ∙ t.taken.1) ∙ asks_lent t.more ∙ sym (append-nil (map (λ (c : desk_calls.Call). c.ask) (map lent_call t.more))))
+        taking.held_goes called seen d s (ListNames path from) m Read may needs needs_one d1 s1 t (try_ends result) (number_made result) d1 s'
         (taken_goes called seen d1 s1 s' path from m.ino (taken_may called seen d s m may unchecked d1 s1 t) comes_still t.taken.2.served (taken_kind called seen d s m may unchecked d1 s1 t) kept had result ends)
 
   -- ---- it isn't
@@ -278,47 +226,31 @@ module _ {D : Type 0} (called : D → Ask → Told → D → Type 0) (seen : D �
     denied_here : InAllShown (seen d1) s1 (IsRefusedAs (seen d1) (ListNames path from) Denied)
     denied_here nodes rows p =
         let now : Nodes = batch_nodes (seen d1).creds s1.calls nodes in
-        let same = way_same called seen d s t.more t.last d1 s1 may t.way t.may in
         let root = sees_root (seen d1) (in_hand s1) (in_hand s1) nodes now rows (view_calls (seen d1) s1 denied_may nodes rows p) in
         let there : HasRights (seen d1).root (node_at now m.ino) = subst (λ n. HasRights (seen d1).root (node_at now n)) (sym t.taken.3) root in
         let lacks' : gives (seen d1).creds ToRead (seen d1).root ≡ false =
-        ap (λ (c : Creds). gives c ToRead (seen d1).root) same.creds ∙ ap (λ r. gives (seen d).creds ToRead r) same.root ∙ not-true (gives (seen d).creds ToRead (seen d).root) t.taken.5 in
+        ap (λ (c : Creds). gives c ToRead (seen d1).root) t.way.creds ∙ ap (λ r. gives (seen d).creds ToRead r) t.way.root ∙ not-true (gives (seen d).creds ToRead (seen d).root) t.taken.5 in
         let first : Some (rights_of p.tree.root.0) ≡ Some (seen d1).root = sym (ap (option_map rights_of) p.tree.root.1) ∙ p.agrees.root_is in
         let root_is : rights_of p.tree.root.0 ≡ (seen d1).root = cc first in
         let dir : (seen d1).root.kind ≡ Directory = sym (ap (λ (r : Rights). r.kind) root_is) ∙ p.tree.root.2 in
         let here : walk now (seen d1).creds [] path ≡ Ok m.ino =
-        subst (λ (k : Creds). InAllShown (seen d1) s1 (λ x. walk x k [] path ≡ Ok m.ino)) (sym same.creds)
-        (all_then (seen d) (seen d1) s s1 (λ x. walk x (seen d).creds [] path ≡ Ok m.ino) same (way_more called seen d s t.more t.last d1 s1 may t.way t.may) calls comes) nodes rows p in
+        subst (λ (k : Creds). InAllShown (seen d1) s1 (λ x. walk x k [] path ≡ Ok m.ino)) (sym t.way.creds)
+        (taking.still called seen d s (ListNames path from) m Read may needs needs_one d1 s1 t.more t.last t.way (λ x. walk x (seen d).creds [] path ≡ Ok m.ino) comes) nodes rows p in
         list_refused_by_check (seen d1) (record { call = ListNames path from; reply = Denied; made = 0 }) now path from m.ino (seen d1).root refl here there
         (ap (λ k. refusal_by (is_directory k) (gives (seen d1).creds ToRead (seen d1).root)) dir ∙ ap (λ b. cond (not b) (Some Denied) None) lacks') refl
-      where
-        calls : s1.calls ≡ s.calls
-        calls = way_calls called seen d s t.more t.last d1 s1 may t.way t.may
 
     pub denied_goes : (s' : SessionSeen) → s' ≡ record s1 { room = s'.room } → (result : Result replied.Replied Stop)
         → MatchResult result (λ r. (r ≡ record { reply = Denied; made = 0 }) × (length s'.calls < s'.room.calls)) (λ stop. stop ≡ LacksMemory)
         → Goes called seen d s (ListNames path from) (λ now. listing_at (seen d).creds m) (try_ends result) (number_made result) d1 s'
     denied_goes s' kept result ends =
         stop_goes called seen d s (ListNames path from) needs needs may d1 s1 s' (λ these now. Unit {0}) (IsReply Denied) denied_end t.may kept tt
-        (λ nodes rows p. wanted_one ∙ t.taken.2 ∙ sym (ap (λ l. map need_of l ++ record { ino = 1; kind = Read } ∷ []) t.taken.0))
+        (λ nodes rows p. ap (asked (served_by s)) (listing_one (seen d).creds m unchecked) ∙ asked-one s m.ino Read ∙ t.taken.2 ∙ sym (ap (λ l. map need_of l ++ record { ino = 1; kind = Read } ∷ []) t.taken.0))
         (λ nodes rows p. refl)
         (λ reply e. subst (λ (r : Reply). InAllShown (seen d1) s1 (IsRefusedAs (seen d1) (ListNames path from) r)) (let same : IsReply Denied ≡ IsReply reply = e in cc same) denied_here)
         result (stops_by Denied s' result ends)
 
   pub busy_goes : (holder : Holder) → Took called seen d s m Read (Err (IsBusyWalk holder)) d1 s1 → Goes called seen d s (ListNames path from) (λ now. listing_at (seen d).creds m) (Busy holder) 0 d1 s1
-  busy_goes holder t =
-      stop_goes called seen d s (ListNames path from) needs needs may d1 s1 s1 (λ these now. Unit {0}) (IsBusyWalk holder)
-      (record { more = t.more; last = t.last; need = record { ino = m.ino; kind = Read } ∷ []; way = t.way; ends = (m.ino, Read, t.taken.1, refl); shown = λ nodes rows p. tt }) t.may refl tt
-      (λ nodes rows p. ([], wanted_one ∙ t.taken.2 ∙ sym (append-nil (map need_of t.more ++ record { ino = m.ino; kind = Read } ∷ []) ∙ ap (λ l. map need_of l ++ record { ino = m.ino; kind = Read } ∷ []) t.taken.0)))
-      (λ nodes rows p. ([], sym (append-nil (listing_at (seen d).creds m))))
-      (λ reply e. absurd (let wrong : IsBusyWalk holder ≡ IsReply reply = e in cc wrong))
-      (Err (IsBusy holder)) refl
+  busy_goes holder t = taking.busy_goes called seen d s (ListNames path from) m Read may needs needs_one d1 s1 holder t
 
   pub short_goes : Took called seen d s m Read (Err NoWalkMemory) d1 s1 → Goes called seen d s (ListNames path from) (λ now. listing_at (seen d).creds m) (try_ends (Err LacksMemory)) 0 d1 s1
-  short_goes t =
-      stop_goes called seen d s (ListNames path from) needs needs may d1 s1 s1 (λ these now. Unit {0}) NoWalkMemory
-      (record { more = t.more; last = t.last; need = t.taken.0; way = t.way; ends = t.taken.2; shown = λ nodes rows p. tt }) t.may refl tt
-      (λ nodes rows p. (t.taken.1, wanted_one ∙ t.taken.3))
-      (λ nodes rows p. ([], sym (append-nil (listing_at (seen d).creds m))))
-      (λ reply e. absurd (let wrong : NoWalkMemory ≡ IsReply reply = e in cc wrong))
-      (Err LacksMemory) refl
+  short_goes t = taking.short_goes called seen d s (ListNames path from) m Read may needs needs_one d1 s1 t

@@ -1,5 +1,5 @@
 -- A list of names from its walk on.
-use Rattle.trio_calls_dir.proofs.Words.{◌++◌, ◌||◌, ◌∙◌, ◌∷◌, ◌≡◌, Ask, At, Bool, Busy, BusyAt, ComesHere, Creds, Denied, DeskSeen, Goes, HasNothing, In, In-map, InAllShown, IsBusyWalk, IsMet, IsMetIn, IsReply, IsStopped, Lease, List, ListNames, MayCall, MayWalk, Met, Needed, NoMemory, NoWalkMemory, Node, Nodes, None, NotDir, Ok, Option, OthersHold, Outcome, Path, Read, Replied, Result, SessionSeen, Some, Stop, StopsBy, ToRead, Told, WalkEnd, Walked, WalksTo, Way, Went, [], ap, append-nil, asked, asked_beside-In, asks_lent, batch_nodes, cond, dir_needs, eqb, false, gives, gives_met, grant_ask, is_directory, is_some, kind_lent, lent_call, lib_same, listing_at, map, map-append, need_of, node_needs, not, number_made, option_map_or, permits, refl, rights_of, served_by, shows_root, subst, sym, true, try_ends, walk, walk_needs, ℕ}
+use Rattle.trio_calls_dir.proofs.Words.{◌++◌, ◌||◌, ◌∙◌, ◌∷◌, ◌≡◌, Ask, At, Bool, Busy, BusyAt, ComesHere, Creds, Denied, DeskSeen, Goes, HasNothing, In, In-map, InAllShown, IsBusyWalk, IsMet, IsMetIn, IsReply, IsStopped, Lease, List, ListNames, MayCall, MayWalk, Met, Needed, NoMemory, NoWalkMemory, Node, Nodes, None, NotDir, Ok, Option, OthersHold, Outcome, Path, Read, Replied, Result, SessionSeen, Some, Stop, StopsBy, ToRead, Told, WalkEnd, Walked, WalksTo, Went, [], ap, append-nil, asked, asked_beside-In, asks_lent, batch_nodes, cond, dir_needs, eqb, false, gives, gives_met, grant_ask, is_directory, is_some, kind_lent, lent_call, lib_same, listing_at, map, map-append, need_of, node_needs, not, number_made, option_map_or, permits, refl, rights_of, served_by, shows_root, subst, sym, true, try_ends, walk, walk_needs, ℕ}
 use Rattle.std.specs.Prelude.{◌&&◌}
 use Rattle.trio_desk.specs.Calls as desk_calls
 use Rattle.trio_laws.proofs.session.DirCalls.{list_refused_by_walk}
@@ -10,10 +10,11 @@ use Rattle.trio_walk.proofs.Agreeing.{walk_need}
 use Rattle.trio_walk.proofs.Walking.{own_older}
 use Rattle.trio_calls_dir.specs.declared.replies.Replied as replied
 use Rattle.trio_calls_dir.proofs.Ends.{BeginsWith, stop_goes}
-use Rattle.trio_calls_dir.proofs.Others.{nothing_own}
-use Rattle.trio_calls_dir.proofs.ListsMet.{gives_known}
-use Rattle.trio_calls_dir.proofs.Then.{asked_then, goes_on}
-use Rattle.trio_calls_dir.proofs.Walked.{way_went}
+use Rattle.trio_walk.proofs.OwnBusy.{nothing_own}
+use Rattle.trio_walk.proofs.Meeting.{gives_known}
+use Rattle.trio_calls_dir.proofs.Then.{goes_on}
+use Rattle.trio_walk.proofs.Asking.{asked_then}
+use Rattle.trio_walk.proofs.Ways.{way_went}
 
 -- ---- what is needed of the file
 
@@ -42,7 +43,7 @@ module _ (shown : Bool) (s : SessionSeen) (nodes now : Nodes) (creds : Creds) (m
       by : (o : Option shown_rights.Rights) → m.rights ≡ o → listing_needs creds shown m.ino t.after ≡ listing_at creds m
       by (Some r) e =
           kinds
-          ∙ ap (λ g. cond (is_directory m.kind) (cond (not g && (shown || not (eqb m.ino 1))) [] (need ∷ [])) []) (gives_known shown s nodes now creds m t r e)
+          ∙ ap (λ g. cond (is_directory m.kind) (cond (not g && (shown || not (eqb m.ino 1))) [] (need ∷ [])) []) (gives_known shown s nodes now creds m t ToRead r e)
           ∙ ap (λ b. cond (is_directory m.kind) (cond (not (gives_met creds m ToRead) && b) [] (need ∷ [])) []) (t.known ∙ ap is_some e)
           ∙ by_rights need (is_directory m.kind) (gives_met creds m ToRead)
       by None e =
@@ -66,8 +67,8 @@ module _ {D : Type 0} (called : D → Ask → Told → D → Type 0) (seen : D �
   ending end = Walked called seen d s (Walks (seen d1) s [] path end) end d1 s1
 
   module _ (m : Met) (w : ending (At m.ino)) (met : IsMetIn (shows_root s) (seen d1) s1 m) where
-    went : Went called seen d s (map lent_call w.more) d1 s1
-    went = way_went called seen d s w.more d1 s1 may (subst (λ l. Way called seen d s w.more l d1 s1) w.ends.0 w.way) walks
+    went : Went called seen d s (map lent_call w.more) [] d1 s1
+    went = subst (λ l. Went called seen d s (map lent_call w.more) l d1 s1) w.ends.0 (way_went called seen d s w.more w.last d1 s1 w.way)
 
     pub comes_here : ComesHere (seen d1) s1 path m.ino
     comes_here nodes rows p = (w.shown nodes rows p).walks
@@ -89,11 +90,11 @@ module _ {D : Type 0} (called : D → Ask → Told → D → Type 0) (seen : D �
     pub list_goes : (end : Outcome) (number : ℕ) (d' : D) (s' : SessionSeen) → Goes called seen d1 s1 (ListNames path from) (λ now. listing_at (seen d1).creds m) end number d' s'
         → Goes called seen d s (ListNames path from) (λ now. dir_needs now (seen d').creds (shows_root s) (ListNames path from)) end number d' s'
     list_goes end number d' s' goes =
-        subst (λ (k : Creds). Goes called seen d s (ListNames path from) (λ now. dir_needs now k (shows_root s) (ListNames path from)) end number d' s') (sym goes.same.creds)
+        subst (λ (k : Creds). Goes called seen d s (ListNames path from) (λ now. dir_needs now k (shows_root s) (ListNames path from)) end number d' s') (sym goes.passes.same.creds)
         (goes_on called seen d d1 d' s s1 s' (ListNames path from) (map lent_call w.more) went end number (λ now. dir_needs now (seen d1).creds (shows_root s) (ListNames path from)) (λ now. listing_at (seen d1).creds m) wanted goes)
 
     -- a session that had nothing keeps no file busy for itself
-    pub list_others : (end : Outcome) → BusyAt (seen d1) s1 m.ino end → HasNothing s → OthersHold s.lib end
+    pub list_others : (end : Outcome) → BusyAt (seen d1) s1 m.ino Read end → HasNothing s → OthersHold s.lib end
     list_others (Busy holder) busy none = λ mine.
         let own = busy (mine ∙ sym (lib_same (seen d) (seen d1) s s1 w.more w.way.took)) in
         let now : Nodes = batch_nodes (seen d1).creds s1.calls own.nodes in

@@ -30,6 +30,13 @@ pub record MayFill (desk : DeskSeen) (s : SessionSeen) (call' : Call) (kind' : K
   pub unlent : grant_in s n' ≡ None
   pub read : body_of kind' desk.sizes.range (new_body desk.creds mode') ≡ Some (body_made desk.creds mode')
 
+-- a number that is spare was allotted, and is none of a file yet
+pub spare_allotted : (s : SessionSeen) (n : ℕ) → In n (spare_numbers s) → In n (ino_numbers s.parcel.inodes)
+spare_allotted s n i = (filter-In (λ k. not (is_among k (used_numbers s))) n (ino_numbers s.parcel.inodes) i).0
+
+pub spare_above : (desk : DeskSeen) (s : SessionSeen) (n : ℕ) → MayGoOn desk s → In n (spare_numbers s) → 0 < n
+spare_above desk s n may i = (may.edits.given.numbers n (spare_allotted s n i)).0
+
 -- what the call does to the nodes
 does_make : (desk : DeskSeen) (kind : Kind) (path : Path) (mode : Mode) (now : Nodes) (dir n : ℕ) → ComesInto now desk.creds (making kind path mode) path dir → find_named now dir (name_of path) ≡ None
     → node_at now n ≡ None → (n ≡ 0 → ⊥)
@@ -55,20 +62,17 @@ module _ (desk : DeskSeen) (s : SessionSeen) (call : Call) (kind : Kind) (path :
   abbrev shown_at : Nodes → Nodes
   shown_at nodes = batch_nodes desk.creds s.calls nodes
 
-  pub among : In n (spare_numbers s)
+  among : In n (spare_numbers s)
   among = subst (λ l. In n l) (sym m.one) (inl refl)
 
-  pub allotted : In n (ino_numbers s.parcel.inodes)
-  allotted = (filter-In (λ k. not (is_among k (used_numbers s))) n (ino_numbers s.parcel.inodes) among).0
+  allotted : In n (ino_numbers s.parcel.inodes)
+  allotted = spare_allotted s n among
 
   unmade : made_file s n ≡ None
   unmade = spare_unmade s n among
 
-  pub above : 0 < n
-  above = (m.may.edits.given.numbers n allotted).0
-
   low : n ≡ 0 → ⊥
-  low zero = (let some = above in omega (arith, some, zero))
+  low zero = (let some = spare_above desk s n m.may among in omega (arith, some, zero))
 
   empty_body : IsEmptyBody desk kind (new_body desk.creds mode) (body_made desk.creds mode)
   empty_body = record { is = m.read; size = refl; uid = refl; gid = refl }

@@ -1,13 +1,13 @@
 -- A file is made in its directory: how the try goes by the room that was made.
-use Rattle.trio_calls_dir.proofs.Words.{◌%◌, ◌++◌, ◌<◌, ◌∙◌, ◌∷◌, ◌≡◌, AfterTry, Allot, AllotFault, Applied, ArePossible, AreWithinLimits, Ask, AskedBy, Body, Busy, Call, ComesBy, ComesInto, ComesTo, CoreRange, Creds, DeskSeen, Directory, Done, Err, Exists, Goes, HasNumbers, HasPlaces, In, InAllShown, IsAlike, IsDone, IsNumber, IsOpenDir, IsReplied, Kind, LacksRoom, LeavesHere, List, MadeFile, MadeRoom, MayBeMade, MayCall, Mode, NoAllotMemory, NoFreeInodes, NoInodes, NoMemory, NoPages, NoSpace, Nodes, None, NotGiven, Ok, Option, Outcome, Path, Place, Regular, Replied, Reply, Result, RoomEnds, SessionSeen, Some, TakesMore, Target, Told, TryEnds, Wanted, [], alike_room, alike_then, allot_asks, allot_reply, ap, append-nil, applied, arith, as_lent, asks_fault, asks_short, batch_nodes, block_count, body_of, cond, dir_of, done, edited, empty_shown, false, fill, fill_alike, find_named, given_all, in_hand, inl, inr, is_done, is_name, is_root, is_some, length, made_by, making, map, may_alike, name_of, new_body, new_number, no_chain, noted, number_made, numbers_for, option_map_or, pages_for, place_shown, reached, refl, refused, short_ends, size_in, slot_growth, spare_numbers, spare_pages, subst, sym, told_fault, took, true, try_ends, walk_into, wants_of, with_node, with_slot, without_file, write_paths, ℕ}
+use Rattle.trio_calls_dir.proofs.Words.{◌++◌, ◌<◌, ◌∙◌, ◌∷◌, ◌≡◌, AfterTry, Allot, AllotFault, Applied, ArePossible, AreWithinLimits, Ask, AskedBy, Busy, Call, ComesBy, ComesInto, ComesTo, CoreRange, Creds, DeskSeen, Directory, Done, Err, Exists, Goes, HasNumbers, HasPlaces, In, InAllShown, IsAlike, IsDone, IsNumber, IsOpenDir, IsReplied, Kind, LacksRoom, LeavesHere, List, MadeRoom, MayCall, Mode, NoAllotMemory, NoFreeInodes, NoInodes, NoMemory, NoPages, NoSpace, Nodes, None, NotGiven, Ok, Option, Outcome, Path, Place, Regular, Replied, Reply, Result, RoomEnds, SessionSeen, Some, TakesMore, Target, Told, TryEnds, Wanted, [], alike_room, alike_then, allot_asks, allot_reply, ap, append-nil, applied, arith, as_lent, asks_fault, asks_short, batch_nodes, body_of, cond, dir_of, done, edited, empty_shown, false, fill, fill_alike, find_named, given_all, in_hand, inl, inr, is_done, is_name, is_root, is_some, length, made_by, making, map, may_alike, name_of, new_body, new_number, noted, number_made, numbers_for, pages_for, place_shown, reached, refl, refused, short_ends, slot_growth, spare_numbers, spare_pages, subst, sym, told_fault, took, true, try_ends, walk_into, wants_of, with_node, with_slot, without_file, write_paths, ℕ}
 use Rattle.std.specs.Prelude.{unwrap_or}
 use Rattle.trio_nodes.specs.Apply.{in_directory, makes_file, new_node}
 use Rattle.trio_desk.specs.Calls as desk_calls
 use Rattle.trio_laws.proofs.session.DirCalls.{no_room_to_make}
-use Rattle.trio_laws.proofs.session.FileEdits.{body_stands}
-use Rattle.trio_session.specs.Seen.{cleared_file, lowest, spare_number}
+use Rattle.trio_session.specs.Seen.{lowest}
+use Rattle.trio_deeds.specs.Slots.{MayMakeFile}
 use Rattle.trio_calls_dir.proofs.Ends.{may_looked}
-use Rattle.trio_calls_dir.proofs.MakesFill.{MayFill, above, body_made, calls_are, changes, may_noted}
+use Rattle.trio_calls_dir.proofs.MakesFill.{MayFill, body_made, calls_are, changes, may_noted, spare_above}
 use Rattle.trio_edit_laws.proofs.Allotting.{spare_uncleared}
 use Rattle.trio_calls_dir.proofs.Then.{all_then}
 
@@ -63,15 +63,10 @@ done_it kind path mode now creds dir root walked free = by kind walked
     by Regular e = all Regular e
 
 -- a list of one, by its lowest
-only_one : (xs : List ℕ) (n : ℕ) → length xs ≡ 1 → lowest xs ≡ Some n → xs ≡ n ∷ []
-only_one [] n e l = absurd (omega (arith, e))
-only_one (x ∷ []) n e l = (let t : Some x ≡ Some n = l in let same : x ≡ n = cc t in ap (λ k. k ∷ []) same)
-only_one (x ∷ (y ∷ ys)) n e l = absurd (omega (arith, e))
-
-some_lowest : (xs : List ℕ) → length xs ≡ 1 → (n : ℕ) × (lowest xs ≡ Some n)
-some_lowest [] e = absurd (omega (arith, e))
-some_lowest (x ∷ []) e = (x, refl)
-some_lowest (x ∷ (y ∷ ys)) e = absurd (omega (arith, e))
+only_one : (xs : List ℕ) → length xs ≡ 1 → xs ≡ unwrap_or (lowest xs) 0 ∷ []
+only_one [] e = absurd (omega (arith, e))
+only_one (x ∷ []) e = refl
+only_one (x ∷ (y ∷ ys)) e = absurd (omega (arith, e))
 
 module _ {D : Type 0} (called : D → Ask → Told → D → Type 0) (seen : D → DeskSeen) (d : D) (s : SessionSeen) (call : Call) (kind : Kind) (path : Path) (mode : Mode) (dir : ℕ) (m : MayMake (seen d) s call kind path mode dir)
     (d' : D) (s1 : SessionSeen) (result : Result Unit AllotFault) (r : MadeRoom called seen d s dir 1 result d' s1) where
@@ -120,16 +115,12 @@ module _ {D : Type 0} (called : D → Ask → Told → D → Type 0) (seen : D �
     target = target;
     given = r.given;
     last = r.last;
-    each = w.each;
-    made = w.made;
+    passes = record { each = w.each; made = w.made; calls = calls ∙ w.calls; same = w.same; more = λ nodes rows p. w.more nodes rows (more nodes rows p) };
     ends = ends;
     leaves = leaves;
     numbered = numbered;
-    calls = calls ∙ w.calls;
-    same = w.same;
     comes = λ nodes rows p. comes_by end nodes rows p;
     asks = λ nodes rows p. subst (λ l. AskedBy end (map ask (r.given ++ r.last)) l) (sym (over (λ now. wants_of now (seen d').creds call target (as_lent s all) ≡ allot_asks (slot_growth s dir) 1) wants1 nodes rows p)) asks;
-    more = λ nodes rows p. w.more nodes rows (more nodes rows p);
     after = after;
   }
     where
@@ -213,84 +204,66 @@ module _ {D : Type 0} (called : D → Ask → Told → D → Type 0) (seen : D �
     abbrev places : HasPlaces s1 dir
     places = ends.5
 
-    -- there is one
-    pub some_number : (n : ℕ) × (spare_number s1 ≡ Some n)
-    some_number = some_lowest (spare_numbers s1) numbers.many
+    -- one is spare
+    one : spare_numbers s1 ≡ new_number s1 ∷ []
+    one = only_one (spare_numbers s1) numbers.many
 
-    pub open1 : IsOpenDir s1 dir
-    open1 = record { directory = w.stays.opens dir ∙ m.opens.directory; index = subst (λ l. In dir l) (sym w.stays.indexed) m.opens.index }
+    among1 : In (new_number s1) (spare_numbers s1)
+    among1 = subst (λ l. In (new_number s1) l) (sym one) (inl refl)
 
-    pub new1 : place_shown s1 dir (name_of path) ≡ None
-    new1 = w.stays.places dir (name_of path) ∙ m.new
-
-    pub empty1 : is_some (empty_shown s1 dir) ≡ true
-    empty1 = places.empty
-
-    pub names1 : In dir s1.room.names
-    names1 = places.names
+    pub may_make : MayMakeFile s1 (name_of path) dir
+    may_make = record {
+      opens = record { directory = w.stays.opens dir ∙ m.opens.directory; index = subst (λ l. In dir l) (sym w.stays.indexed) m.opens.index };
+      new = w.stays.places dir (name_of path) ∙ m.new;
+      empty = places.empty;
+      spare = ap (λ l. is_some (lowest l)) one;
+      number = spare_above (seen d') s1 (new_number s1) w.may among1;
+      nothing = numbers.unlent (new_number s1) among1;
+      uncleared = spare_uncleared s1 (new_number s1) among1;
+      names = places.names;
+      place = places.made;
+    }
 
     place1 : (place : Place) × (empty_shown s1 dir ≡ Some place)
     place1 = by (empty_shown s1 dir) refl
       where
         by : (o : Option Place) → empty_shown s1 dir ≡ o → (place : Place) × (empty_shown s1 dir ≡ Some place)
-        by None e = absurd (let wrong : false ≡ true = sym (ap is_some e) ∙ empty1 in cc wrong)
+        by None e = absurd (let wrong : false ≡ true = sym (ap is_some e) ∙ places.empty in cc wrong)
         by (Some place) e = (place, e)
 
-    module _ (limits : AreWithinLimits (seen d).sizes) (name : is_name (name_of path) ≡ true) (n : ℕ) (number : spare_number s1 ≡ Some n)
-        (read : (range : CoreRange) → body_of kind range (new_body (seen d').creds mode) ≡ Some (body_made (seen d').creds mode)) where
-      one : spare_numbers s1 ≡ n ∷ []
-      one = only_one (spare_numbers s1) n numbers.many number
+    module _ (limits : AreWithinLimits (seen d).sizes) (name : is_name (name_of path) ≡ true) (read : (range : CoreRange) → body_of kind range (new_body (seen d').creds mode) ≡ Some (body_made (seen d').creds mode)) where
+      abbrev n : ℕ
+      n = new_number s1
 
-      among1 : In n (spare_numbers s1)
-      among1 = subst (λ l. In n l) (sym one) (inl refl)
-
-      may_fill : MayFill (seen d') s1 call kind path mode dir n
+      may_fill : MayFill (seen d') s1 call kind path mode dir (new_number s1)
       may_fill = record {
         may = w.may;
         limits = subst AreWithinLimits (sym w.same.sizes) limits;
         call = m.call;
         name = name;
-        opens = open1;
+        opens = may_make.opens;
         place = place1.0;
         empty = place1.1;
-        new = new1;
+        new = may_make.new;
         comes = comes1;
         spent = ends.3;
         one = one;
-        unlent = numbers.unlent n among1;
+        unlent = may_make.nothing;
         read = read (seen d').sizes.range;
       }
 
-      pub above1 : 0 < n
-      above1 = above (seen d') s1 call kind path mode dir n may_fill
-
-      uncleared : cleared_file s1 n ≡ None
-      uncleared = spare_uncleared s1 n among1
-
-      small : size_in (new_body (seen d').creds mode) ≡ 0
-      small = ap (λ (b : Body). b.size) (body_stands kind (seen d').sizes.range (new_body (seen d').creds mode) (body_made (seen d').creds mode) (read (seen d').sizes.range))
-
-      pub may_be_made : MayBeMade s1 n kind (new_body (seen d').creds mode)
-      may_be_made = record {
-        nothing = numbers.unlent n among1;
-        same = ap (λ (o : Option MadeFile). option_map_or (λ (x : MadeFile). x.kind) o kind) uncleared;
-        blocks = ap block_count small ∙ sym (ap (λ (o : Option MadeFile). length (option_map_or (λ (x : MadeFile). x.chain) o no_chain).blocks) uncleared);
-        whole = λ is. ap (λ k. k % 4096) small;
-        place = places.made;
-      }
-
-      module _ (s2 : SessionSeen) (kept : s2 ≡ record (fill dir (name_of path) n kind (new_body (seen d').creds mode) s1) { room = s2.room }) (room : s2.room.calls ≡ s1.room.calls) where
+      module _ (s2 : SessionSeen) (kept : s2 ≡ record (fill dir (name_of path) (new_number s1) kind (new_body (seen d').creds mode) s1) { room = s2.room }) (room : s2.room.calls ≡ s1.room.calls) where
         abbrev then' : SessionSeen
-        then' = fill dir (name_of path) n kind (new_body (seen d').creds mode) s1
+        then' = fill dir (name_of path) (new_number s1) kind (new_body (seen d').creds mode) s1
 
-        near : IsAlike (fill dir (name_of path) n kind (new_body (seen d').creds mode) s1) s2
+        near : IsAlike (fill dir (name_of path) (new_number s1) kind (new_body (seen d').creds mode) s1) s2
         near = alike_room then' s2 kept
 
         calls2 : s2.calls ≡ s1.calls
         calls2 = ap (λ (q : SessionSeen). q.calls) near ∙ calls_are (seen d') s1 call kind path mode dir n may_fill
 
-        number_is : new_number all ≡ n
-        number_is = ap (λ l. unwrap_or (lowest l) 0) (sym ends.6) ∙ ap (λ o. unwrap_or o 0) number
+        number_is : new_number all ≡ new_number s1
+        number_is = ap (λ l. unwrap_or (lowest l) 0) (sym ends.6)
 
         leaves2 : IsAlike (edited (seen d').creds call (record { dir = dir; new_dir = 0; ino = 0 }) (took s (map (λ (c : desk_calls.Call). c.told) r.given))) s2
         leaves2 =
@@ -299,7 +272,7 @@ module _ {D : Type 0} (called : D → Ask → Told → D → Type 0) (seen : D �
             (alike_then (fill dir (name_of path) n kind (new_body (seen d').creds mode) (with_slot dir all)) then' s2
             (fill_alike dir (name_of path) n kind (new_body (seen d').creds mode) (with_slot dir all) s1 ends.2) near)
 
-        pub made_goes : Goes called seen d s call (λ now. []) (Replied (IsReplied IsDone)) n d' s2
+        pub made_goes : Goes called seen d s call (λ now. []) (Replied (IsReplied IsDone)) (new_number s1) d' s2
         made_goes =
             goes_by (Replied (IsReplied IsDone)) n s2 calls2
             (λ nodes rows p. (changes (seen d') s1 call kind path mode dir n may_fill).becomes.more nodes rows (subst (λ (q : SessionSeen). ArePossible (seen d') q.parcel q.reads nodes rows) near p))

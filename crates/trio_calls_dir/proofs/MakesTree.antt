@@ -1,11 +1,5 @@
--- A new file is put into an open directory: the nodes stay one tree, and the body of a new file is read.
-use Rattle.trio_calls_dir.proofs.Words.{◌&&◌, ◌<◌, ◌^◌, ◌∙◌, ◌≡◌, ◌≤◌, Body, Bool, Child-find_named, CoreRange, DeskSeen, Directory, HasRights, In, IsDirectory, IsTree, IsView, Kind, List, MayEdit, MayShow, Node, Nodes, None, Option, Regular, Rights, Row, SessionSeen, Some, [], ap, arith, block_count, bytes_now, case_in_hand, cond, false, find_named, in_hand, ino_numbers, is_among, leb, made_file, map, naming_of, node_at, option_map, refl, rights_of, subst, sym, true, with_bytes, with_node, ℕ}
-use Rattle.std.specs.Str.{bytes_eq}
-use Rattle.std.proofs.lemmas.Bool.{and_from, le-leb}
-use Rattle.trio_layout.specs.Body.{IsNarrowBody, body_at, body_bytes, body_fits, body_of, head_fits, size_fits}
-use Rattle.trio_layout.specs.Range.{core_count}
-use Rattle.trio_layout.proofs.Bodies.{is_read}
-use Rattle.trio_layout.proofs.Reading.{true-bytes_eq}
+-- A new file is put into an open directory: the nodes stay one tree.
+use Rattle.trio_calls_dir.proofs.Words.{◌∙◌, ◌≡◌, Bool, Child-find_named, DeskSeen, Directory, HasRights, In, IsDirectory, IsTree, IsView, List, MayEdit, MayShow, Node, Nodes, None, Option, Rights, Row, SessionSeen, Some, [], ap, bytes_now, case_in_hand, cond, false, find_named, in_hand, ino_numbers, is_among, made_file, map, naming_of, node_at, option_map, refl, rights_of, subst, sym, true, with_bytes, with_node, ℕ}
 use Rattle.trio_onetree.proofs.Children.{found_live, path_found-is}
 use Rattle.trio_onetree.proofs.TreePut.{tree_put}
 use Rattle.trio_desk.specs.Ready.{bundle_of}
@@ -13,34 +7,6 @@ use Rattle.trio_desk.specs.Shows.{node_left}
 use Rattle.trio_laws.proofs.session.Stands.{named_alike}
 use Rattle.trio_laws.proofs.session.TakenHold.{held_by}
 use Rattle.trio_edit_laws.proofs.directories.Filled.{unnamed}
-
--- ---- bodies
-
--- a body that is spelled is read, if it fits
-body_again : (kind : Kind) (range : CoreRange) (b : Body) → b.mode.0 < 2 ^ 16 → IsNarrowBody b → body_fits kind range b ≡ true → body_of kind range (body_bytes b) ≡ Some b
-unfolding body_of
-body_again kind range b mode narrow fits =
-    let again : body_at (body_bytes b) ≡ b = is_read b mode narrow in
-    let same : bytes_eq (body_bytes b) (body_bytes (body_at (body_bytes b))) ≡ true = true-bytes_eq (body_bytes b) (body_bytes (body_at (body_bytes b))) (ap body_bytes (sym again)) in
-    let test : (bytes_eq (body_bytes b) (body_bytes (body_at (body_bytes b))) && body_fits kind range (body_at (body_bytes b))) ≡ true =
-    and_from (bytes_eq (body_bytes b) (body_bytes (body_at (body_bytes b)))) (body_fits kind range (body_at (body_bytes b))) same (ap (body_fits kind range) again ∙ fits) in
-    ap (λ t. cond t (Some (body_at (body_bytes b))) None) test ∙ ap Some again
-
--- an empty file has no page and no head
-empty_fits : (kind : Kind) (range : CoreRange) (b : Body) → b.mode.0 ≤ 511 → b.head ≡ 0 → b.size ≡ 0 → body_fits kind range b ≡ true
-empty_fits kind range b mode head size =
-    ap (λ t. t && leb (block_count b.size) (core_count range) && size_fits kind b.size && head_fits range (block_count b.size) b.head) (le-leb b.mode.0 511 mode)
-    ∙ ap (λ n. leb (block_count n) (core_count range) && size_fits kind n && head_fits range (block_count n) b.head) size
-    ∙ ap (λ t. t && size_fits kind 0 && head_fits range (block_count 0) b.head) (le-leb (block_count 0) (core_count range) (omega arith))
-    ∙ ap (λ n. size_fits kind 0 && head_fits range 0 n) head
-    ∙ by kind
-  where
-    by : (k : Kind) → (size_fits k 0 && head_fits range 0 0) ≡ true
-    by Directory = refl
-    by Regular = refl
-
-pub new_body_read : (kind : Kind) (range : CoreRange) (b : Body) → b.mode.0 ≤ 511 → IsNarrowBody b → b.head ≡ 0 → b.size ≡ 0 → body_of kind range (body_bytes b) ≡ Some b
-new_body_read kind range b mode narrow head size = body_again kind range b (omega (arith, mode)) narrow (empty_fits kind range b mode head size)
 
 -- ---- a number that none has
 

@@ -3,7 +3,7 @@ use Rattle.trio_calls_dir.proofs.Words.{◌++◌, ◌<◌, ◌∙◌, ◌∷◌,
 use Rattle.trio_calls_dir.specs.declared.replies.Replied as replied
 use Rattle.trio_calls_dir.proofs.Ends.{refused_goes}
 use Rattle.trio_calls_dir.proofs.Entered.{IsOneName, comes_into, one_goes, one_stops}
-use Rattle.trio_calls_dir.proofs.Walked.{way_may}
+use Rattle.trio_calls_dir.proofs.Walkable.{way_may}
 
 -- the call is on one name, and its directory is written
 making_one : (kind : Kind) (path : Path) (mode : Mode) → is_root path ≡ false → IsOneName (making kind path mode) path

@@ -1,5 +1,5 @@
 -- What the walks of a rename take excludes none of its later grants.
-use Rattle.trio_calls_dir.proofs.Words.{◌++◌, ◌∙◌, ◌∷◌, ◌≡◌, ArePossible, Ask, At, Bool, Busy, BusyGrant, Call, Creds, DeskSeen, Done, Err, Grant, GrantKind, HasNothing, Hold, HoldLease, Holder, In, In-cases, In-map, In-right, IsBusyWalk, IsOut, IsRename, IsReply, IsStopped, IsTree, Lease, List, MayWalk, Need, Needed, NeedsBusyAt, NoMemory, NoWalkMemory, Node, Nodes, None, NotLent, Ok, Option, OthersHold, Outcome, Path, Read, ReadLease, Replied, Reply, Result, Row, SessionSeen, Some, Stop, StopsBy, Told, WalkEnd, Walked, WalksInto, WriteLease, [], across_needs, ap, append-nil, asked, asked_beside-In, batch_nodes, both_dirs, cond, dir_of, eqb, false, find_named, in_order, inl, inr, into_needs, is_some, kind_for, kind_lent, lib_same, map, moving_needs, name_of, need_at, need_of, node_at, node_needs, option_map_or, possible_then, reached_by, refl, served_by, shows_root, subst, sym, true, try_ends, walk_into, with_leases, ℕ}
+use Rattle.trio_calls_dir.proofs.Words.{◌++◌, ◌∙◌, ◌∷◌, ◌≡◌, ArePossible, Ask, At, Bool, Busy, BusyGrant, Call, Creds, DeskSeen, Done, Err, Grant, GrantKind, HasNothing, Hold, HoldLease, Holder, In, In-cases, In-map, In-right, IsBusyWalk, IsOut, IsRename, IsReply, IsStopped, IsTree, Lease, List, MayWalk, Need, Needed, NeedsBusyAt, NoMemory, NoWalkMemory, Node, Nodes, None, NotLent, Ok, Option, OthersHold, Outcome, Path, Read, ReadLease, Replied, Reply, Result, Row, SessionSeen, Some, Stop, StopsBy, Told, WalkEnd, Walked, WalksInto, WriteLease, [], across_needs, ap, append-nil, asked, asked_beside-In, batch_nodes, both_dirs, cond, dir_of, eqb, false, find_named, in_order, inl, inr, into_needs, is_some, kind_for, kind_lent, lib_same, map, moving_needs, name_of, need_at, need_of, node_at, node_needs, option_map_or, possible_then, reached_by, refl, served_by, shows_root, subst, sym, true, try_ends, walk_into, ℕ}
 use Rattle.trio_rights.specs.declared.rights.Need.TheVariants.{Read as NeedsRead, Write as NeedsWrite}
 use Rattle.trio_lists.proofs.Members.{In-left}
 use Rattle.trio_nodes.specs.declared.grant.GrantKind.TheVariants.{Write}
@@ -9,9 +9,8 @@ use Rattle.trio_calls_dir.specs.inner.Moves.{OwnKeepsOff}
 use Rattle.trio_calls_dir.proofs.MovesPaths.{not_on_way}
 use Rattle.trio_calls_dir.proofs.MovesWalk.{shown_tree, still_out}
 use Rattle.trio_calls_dir.proofs.OnWay.{IsOnWay, into_alike, not_below, on_way, root_entered}
-use Rattle.trio_calls_dir.proofs.Others.{nothing_own}
-use Rattle.trio_calls_dir.proofs.OwnBusy.{Excludes, busy_by, lent_number, off_more}
-use Rattle.trio_calls_dir.proofs.Walked.{way_calls, way_more, way_same}
+use Rattle.trio_walk.proofs.OwnBusy.{Excludes, busy_took, nothing_own}
+use Rattle.trio_walk.proofs.Ways.{way_calls, way_more, way_same}
 
 -- what is needed of a file that moves is a hold on it
 moving_need : (now : Nodes) (from to : Path) (dir new_dir : ℕ) (x : Needed) → In x (moving_needs now from to dir new_dir) → (find_named now dir (name_of from) ≡ Some x.ino) × (x.kind ≡ Hold)
@@ -59,13 +58,13 @@ module _ (call : Call) (from to : Path) (r : IsRename call from to) where
       -- what is possible then was so before, and shows the same
       before : ArePossible (seen d) s.parcel s.reads nodes rows
       before =
-          possible_then (seen d) (seen d1) s (way_same called seen d s w.more w.last d1 s1 o.may w.way walks) nodes rows
-          (way_more called seen d s w.more w.last d1 s1 o.may w.way walks nodes rows p)
+          possible_then (seen d) (seen d1) s (way_same called seen d s w.more w.last d1 s1 w.way) nodes rows
+          (way_more called seen d s w.more w.last d1 s1 w.way nodes rows p)
 
       same_shown : batch_nodes (seen d1).creds s1.calls nodes ≡ batch_nodes (seen d).creds s.calls nodes
       same_shown =
           ap (λ (k : Creds). batch_nodes k s1.calls nodes) w.way.creds
-          ∙ ap (λ (cs : List Done). batch_nodes (seen d).creds cs nodes) (way_calls called seen d s w.more w.last d1 s1 o.may w.way walks)
+          ∙ ap (λ (cs : List Done). batch_nodes (seen d).creds cs nodes) (way_calls called seen d s w.more w.last d1 s1 w.way)
 
       -- what is needed then was needed before
       needed_before : (x : Needed) → In x (across_needs (batch_nodes (seen d1).creds s1.calls nodes) (seen d1).creds (shows_root s) from to dir) → In x (across_needs (batch_nodes (seen d).creds s.calls nodes) (seen d).creds (shows_root s) from to dir)
@@ -76,30 +75,27 @@ module _ (call : Call) (from to : Path) (r : IsRename call from to) where
     -- what keeps the hold off that a move needs was there before the walk
     to_off : (new_dir : ℕ) → into_ending (At new_dir) → OwnKeepsOff (seen d1) s1 (λ now. moving_needs now from to dir new_dir) → OwnKeepsOff (seen d) s (λ now. across_needs now (seen d).creds (shows_root s) from to dir)
     to_off new_dir w k =
-        let now : Nodes = batch_nodes (seen d1).creds s1.calls k.nodes in
+        let now : Nodes = batch_nodes (seen d1).creds s1.calls k.own.nodes in
         let x : Needed = record { ino = k.ino; kind = k.kind } in
-        let tree : IsTree now = shown_tree (seen d1) s1 walks k.nodes k.rows k.possible in
+        let tree : IsTree now = shown_tree (seen d1) s1 walks k.own.nodes k.own.rows k.own.possible in
         let m = moving_need now from to dir new_dir x k.needed in
-        let v = w.shown k.nodes k.rows k.possible in
+        let v = w.shown k.own.nodes k.own.rows k.own.possible in
         let needs : List Needed = into_needs now (seen d1).creds (shows_root s) (both_dirs from to) (dir_of to) in
         let these : map need_of w.more ≡ asked (served_by s) needs = sym (append-nil (map need_of w.more)) ∙ ap (λ l. map need_of w.more ++ l) (sym w.ends.1) ∙ sym v.asks in
-        let out : walk_into now (seen d1).creds (both_dirs from to) (dir_of from) ≡ Ok dir = still_out call from to r called seen d s dir o d1 s1 walks (At new_dir) w k.nodes k.rows k.possible in
-        elim (off_more w.more s k.ino k.kind (busy_by s1 (with_leases s w.more) k.ino k.kind (ap (λ (q : SessionSeen). q.parcel) w.way.took.same) (ap (λ (q : SessionSeen). q.reads) w.way.took.same) k.busy)) [
+        let out : walk_into now (seen d1).creds (both_dirs from to) (dir_of from) ≡ Ok dir = still_out call from to r called seen d s dir o d1 s1 walks (At new_dir) w k.own.nodes k.own.rows k.own.possible in
+        elim (busy_took s s1 w.more w.way.took w.way.as_lent k.ino k.kind k.own.busy) [
           | inl old ↦ record {
             ino = k.ino;
             kind = k.kind;
-            busy = old;
-            nodes = k.nodes;
-            rows = k.rows;
-            possible = before (At new_dir) w k.nodes k.rows k.possible;
-            needed = needed_before (At new_dir) w k.nodes k.rows k.possible x
+            own = record { busy = old; nodes = k.own.nodes; rows = k.own.rows; possible = before (At new_dir) w k.own.nodes k.own.rows k.own.possible };
+            needed = needed_before (At new_dir) w k.own.nodes k.own.rows k.own.possible x
                 (In-right x needs (reached_by (walk_into now (seen d1).creds (both_dirs from to) (dir_of to)) (λ q. moving_needs now from to dir q))
                 (subst (λ q. In x (reached_by q (λ q. moving_needs now from to dir q))) (sym v.walks) k.needed));
           }
           | inr l ↦ absurd
               (let i : In (need_of l.0) needs = asked_beside-In (served_by s) needs [] (need_of l.0) (subst (λ z. In (need_of l.0) z) these (In-map need_of l.0 w.more l.1)) in
               let on : IsOnWay now (dir_of to) (need_of l.0) = on_way now (seen d1).creds (shows_root s) (both_dirs from to) (dir_of to) (need_of l.0) i in
-              let mine : k.ino ≡ (need_of l.0).ino = sym l.2 ∙ lent_number l.0 w.more l.1 w.way.as_lent in
+              let mine : k.ino ≡ (need_of l.0).ino = sym l.2 in
               not_on_way call from to r now tree (seen d1).creds dir (need_of l.0).ino out (m.0 ∙ ap Some mine) on.names on.rest on.at on.whole)
         ]
 
@@ -127,10 +123,7 @@ module _ (call : Call) (from to : Path) (r : IsRename call from to) where
         record {
           ino = n;
           kind = kind;
-          busy = w.way.others n kind holder i mine;
-          nodes = b.0;
-          rows = b.1;
-          possible = before (IsBusyWalk holder) w b.0 b.1 b.2;
+          own = record { busy = w.way.others n kind holder i mine; nodes = b.0; rows = b.1; possible = before (IsBusyWalk holder) w b.0 b.1 b.2 };
           needed = needed_before (IsBusyWalk holder) w b.0 b.1 b.2 x
               (In-left x needs (reached_by (walk_into now (seen d1).creds (both_dirs from to) (dir_of to)) (λ q. moving_needs now from to dir q)) (asked_beside-In (served_by s) needs [] x these));
         }
@@ -149,20 +142,20 @@ module _ (call : Call) (from to : Path) (r : IsRename call from to) where
       (w : Walked called seen d s (WalksInto (seen d1) s (both_dirs from to) (dir_of from) (At dir)) (At dir) d1 s1) (none : HasNothing s) where
     not_off : OwnKeepsOff (seen d1) s1 (λ now. across_needs now (seen d1).creds (shows_root s1) from to dir) → ⊥
     not_off k =
-        let now : Nodes = batch_nodes (seen d1).creds s1.calls k.nodes in
+        let now : Nodes = batch_nodes (seen d1).creds s1.calls k.own.nodes in
         let creds : Creds = (seen d1).creds in
         let both : List Path = both_dirs from to in
         let x : Needed = record { ino = k.ino; kind = k.kind } in
-        let tree : IsTree now = shown_tree (seen d1) s1 walks k.nodes k.rows k.possible in
-        let v = w.shown k.nodes k.rows k.possible in
+        let tree : IsTree now = shown_tree (seen d1) s1 walks k.own.nodes k.own.rows k.own.possible in
+        let v = w.shown k.own.nodes k.own.rows k.own.possible in
         let needs : List Needed = into_needs now creds (shows_root s) both (dir_of from) in
         let these : map need_of w.more ≡ asked (served_by s) needs = sym (append-nil (map need_of w.more)) ∙ ap (λ l. map need_of w.more ++ l) (sym w.ends.1) ∙ sym v.asks in
         let alike : needs ≡ into_needs now creds (shows_root s1) both (dir_of from) = into_alike now tree creds both (shows_root s) (shows_root s1) (root_entered now creds both (dir_of from) dir v.walks) (dir_of from) in
-        elim (off_more w.more s k.ino k.kind (busy_by s1 (with_leases s w.more) k.ino k.kind (ap (λ (q : SessionSeen). q.parcel) w.way.took.same) (ap (λ (q : SessionSeen). q.reads) w.way.took.same) k.busy)) [
+        elim (busy_took s s1 w.more w.way.took w.way.as_lent k.ino k.kind k.own.busy) [
           | inl old ↦ nothing_own s k.ino k.kind none old
           | inr l ↦
               let i : In (need_of l.0) needs = asked_beside-In (served_by s) needs [] (need_of l.0) (subst (λ z. In (need_of l.0) z) these (In-map need_of l.0 w.more l.1)) in
-              let mine : (need_of l.0).ino ≡ k.ino = sym (lent_number l.0 w.more l.1 w.way.as_lent) ∙ l.2 in
+              let mine : (need_of l.0).ino ≡ k.ino = l.2 in
               elim (In-cases x (into_needs now creds (shows_root s1) both (dir_of to)) (reached_by (walk_into now creds both (dir_of to)) (λ q. moving_needs now from to dir q)) k.needed) [
                 | inl j ↦
                     let a : IsNeedAt now creds (shows_root s1) both (need_of l.0) = into_need now creds (shows_root s1) both (dir_of from) (need_of l.0) (subst (λ z. In (need_of l.0) z) alike i) in

@@ -1,11 +1,12 @@
 -- A rename at the names in its two directories.
-use Rattle.trio_calls_dir.proofs.Words.{◌<◌, ◌∙◌, ◌∷◌, ◌≡◌, ArePossible, Ask, Bool, Busy, Call, ComesAcross, DeskSeen, Exists, FindsEntry, Goes, Hold, In, InAllShown, IsAcross, IsAlike, IsFound, IsFree, IsMetIn, LacksMemory, List, LooksUp, MatchResult, MayLookIn, Met, Needed, NeedsBusyAt, NoMemory, Node, Nodes, None, NotFound, Option, Outcome, Path, Replied, Result, SessionSeen, Some, Stop, Told, Went, [], alike_finds, ap, asked, batch_nodes, cond, eqb, false, false≢true, find_named, grant_ask, is_some, length, map, may_alike, moving_needs, name_of, node_at, node_needs, number_made, option_map_or, place_shown, refl, served_by, subst, sym, true, try_ends, ℕ}
+use Rattle.trio_calls_dir.proofs.Words.{◌<◌, ◌∙◌, ◌∷◌, ◌≡◌, ArePossible, Ask, Bool, Busy, Call, ComesAcross, DeskSeen, Exists, FindsEntry, Goes, Hold, In, InAllShown, IsAcross, IsAlike, IsFound, IsFree, IsMetIn, LacksMemory, List, LooksUp, MatchResult, MayLookIn, Met, Needed, NeedsBusyAt, NoMemory, Node, Nodes, None, NotFound, Option, Outcome, Path, Replied, Result, SessionSeen, Some, Stop, Told, [], alike_finds, ap, asked, batch_nodes, cond, eqb, false, false≢true, find_named, grant_ask, is_some, length, map, may_alike, moving_needs, name_of, node_at, node_needs, number_made, option_map_or, place_shown, refl, served_by, subst, sym, true, try_ends, ℕ}
+use Rattle.trio_walk.proofs.Ways.{went_none}
 use Rattle.trio_names.specs.Name.{IsName}
 use Rattle.trio_laws.proofs.session.DirCalls.{rename_refused_by_name}
 use Rattle.trio_calls_dir.specs.declared.replies.Replied as replied
 use Rattle.trio_calls_dir.proofs.Ends.{refused_goes}
 use Rattle.trio_calls_dir.proofs.Entered.{open_alike}
-use Rattle.trio_calls_dir.proofs.OwnBusy.{busy_by}
+use Rattle.trio_walk.proofs.OwnBusy.{busy_by}
 use Rattle.trio_calls_dir.proofs.RemovesWalk.{finds_alike}
 use Rattle.trio_calls_dir.proofs.Then.{goes_on}
 
@@ -65,11 +66,13 @@ module _ (desk : DeskSeen) (s s' : SessionSeen) (k : ℕ) (kept : s' ≡ record 
       record {
         ino = c.ino;
         kind = c.kind;
-        busy = busy_by s' s c.ino c.kind (ap (λ (q : SessionSeen). q.parcel) kept) (ap (λ (q : SessionSeen). q.reads) kept) c.busy;
-        nodes = c.nodes;
-        rows = c.rows;
-        possible = subst (λ (q : SessionSeen). ArePossible desk q.parcel q.reads c.nodes c.rows) kept c.possible;
-        needed = subst (λ (q : SessionSeen). In (record { ino = c.ino; kind = c.kind }) (needs (batch_nodes desk.creds q.calls c.nodes))) kept c.needed;
+        own = record {
+          busy = busy_by s' s c.ino c.kind (ap (λ (q : SessionSeen). q.parcel) kept) (ap (λ (q : SessionSeen). q.reads) kept) c.own.busy;
+          nodes = c.own.nodes;
+          rows = c.own.rows;
+          possible = subst (λ (q : SessionSeen). ArePossible desk q.parcel q.reads c.own.nodes c.own.rows) kept c.own.possible;
+        };
+        needed = subst (λ (q : SessionSeen). In (record { ino = c.ino; kind = c.kind }) (needs (batch_nodes desk.creds q.calls c.own.nodes))) kept c.needed;
       }
 
 -- what is done then goes with the look-up
@@ -77,20 +80,8 @@ pub looked_goes : {D : Type 0} (called : D → Ask → Told → D → Type 0) (s
     → (call : Call) (needs : Nodes → List Needed) (end : Outcome) (number : ℕ) (d' : D) (s' : SessionSeen)
     → Goes called seen d s1 call needs end number d' s' → Goes called seen d s call needs end number d' s'
 looked_goes called seen d s s1 k kept call needs end number d' s' goes =
-    goes_on called seen d d d' s s1 s' call [] went end number needs needs
+    goes_on called seen d d d' s s1 s' call [] (went_none called seen d s s1 (alike_finds s s1 k kept)) end number needs needs
     (λ nodes rows p. ap (λ (q : SessionSeen). map grant_ask (asked (served_by q) (needs (batch_nodes (seen d).creds s1.calls nodes)))) (sym kept)) goes
-  where
-    went : Went called seen d s [] d s1
-    went = record {
-      each = λ c i. absurd i;
-      made = refl;
-      alike = alike_finds s s1 k kept;
-      pages = ap (λ (q : SessionSeen). q.parcel.pages) kept;
-      inodes = ap (λ (q : SessionSeen). q.parcel.inodes) kept;
-      calls = ap (λ (q : SessionSeen). q.calls) kept;
-      same = record { lib = refl; creds = refl; sizes = refl; root = refl };
-      more = λ nodes rows p. subst (λ (q : SessionSeen). ArePossible (seen d) q.parcel q.reads nodes rows) kept p;
-    }
 
 -- ---- needs by the names
 

@@ -1,5 +1,6 @@
 -- A file that moves to another directory is held first.
 use Rattle.trio_calls_dir.proofs.Words.{◌<◌, ◌∙◌, ◌∷◌, ◌≡◌, Ask, Busy, Call, ComesAcross, Creds, DeskSeen, Err, Goes, Hold, Holder, In, InAllShown, IntoItself, IsAcross, IsBusyWalk, IsFound, IsFree, IsListed, IsNotBusy, IsRename, IsTree, LacksMemory, List, MatchResult, MayMove, Met, Needed, NeedsBusyAt, NoMemory, NoWalkMemory, Node, Nodes, None, Ok, Option, Outcome, Path, Replied, Result, SessionSeen, Some, Stop, Told, Took, [], ap, append-nil, batch_nodes, both_dirs, cond, dir_of, eqb, find_named, in_order, inl, is_some, length, moving_needs, name_of, ne_eqb, node_at, node_needs, number_made, option_map_or, refl, subst, sym, tree_stays_through, true, try_ends, walk_into, write_paths, ℕ}
+use Rattle.trio_walk.proofs.Ways.{took_busy}
 use Rattle.trio_calls_dir.specs.declared.replies.Replied as replied
 use Rattle.trio_calls_dir.proofs.Ends.{refused_goes}
 use Rattle.trio_calls_dir.proofs.Held as holding
@@ -54,54 +55,46 @@ module _ {D : Type 0} (called : D → Ask → Told → D → Type 0) (seen : D �
 
     module _ (d1 : D) (s1 : SessionSeen) where
       pub busy_goes : (holder : Holder) → Took called seen d s file Hold (Err (IsBusyWalk holder)) d1 s1 → Goes called seen d s call (λ now. moving_needs now from to dir new_dir) (Busy holder) 0 d1 s1
-      busy_goes holder t = holding.busy_goes called seen d s call file a.may needs needs_one d1 s1 holder t
+      busy_goes holder t = holding.busy_goes called seen d s call file Hold a.may needs needs_one d1 s1 holder t
 
       pub short_goes : Took called seen d s file Hold (Err NoWalkMemory) d1 s1 → Goes called seen d s call (λ now. moving_needs now from to dir new_dir) NoMemory 0 d1 s1
-      short_goes t = holding.short_goes called seen d s call file a.may needs needs_one d1 s1 t
+      short_goes t = holding.short_goes called seen d s call file Hold a.may needs needs_one d1 s1 t
 
       -- where the library itself keeps it busy a grant of the session's does
       pub hold_off : (holder : Holder) → Took called seen d s file Hold (Err (IsBusyWalk holder)) d1 s1 → NeedsBusyAt (seen d) s (λ now. moving_needs now from to dir new_dir) (Busy holder)
       hold_off holder t = λ mine.
-          let k = holding.busy_off called seen d s call file a.may needs needs_one d1 s1 holder t mine in
+          let k = took_busy called seen d s file Hold a.may.edits.on d1 s1 holder t mine in
           let x : Needed = record { ino = file.ino; kind = Hold } in
-          record {
-            ino = file.ino;
-            kind = Hold;
-            busy = k.busy;
-            nodes = k.nodes;
-            rows = k.rows;
-            possible = k.possible;
-            needed = subst (λ l. In x l) (sym (needs_one k.nodes k.rows k.possible)) (inl refl);
-          }
+          record { ino = file.ino; kind = Hold; own = k; needed = subst (λ l. In x l) (sym (needs_one k.nodes k.rows k.possible)) (inl refl) }
 
       module _ (t : Took called seen d s file Hold (Ok true) d1 s1) where
         -- what goes on then goes with the hold
         pub held_goes : (end : Outcome) (number : ℕ) (d' : D) (s' : SessionSeen) → Goes called seen d1 s1 call (λ now. []) end number d' s' → Goes called seen d s call (λ now. moving_needs now from to dir new_dir) end number d' s'
-        held_goes end number d' s' goes = holding.held_goes called seen d s call file a.may needs needs_one d1 s1 t end number d' s' goes
+        held_goes end number d' s' goes = holding.held_goes called seen d s call file Hold a.may needs needs_one d1 s1 t end number d' s' goes
 
         over : (P : Nodes → Type 0) → InAllShown (seen d) s P → InAllShown (seen d1) s1 P
-        over P h = holding.over called seen d s call file a.may needs needs_one d1 s1 t P h
+        over P h = holding.over called seen d s call file Hold a.may needs needs_one d1 s1 t P h
 
         pub may_move : (new_dir ≡ file.ino → ⊥) → MayMove (seen d1) s1 call from to dir new_dir file
         may_move other = record {
-          may = holding.may_held called seen d s call file a.may needs needs_one d1 s1 t;
-          opens = holding.open_held called seen d s call file a.may needs needs_one d1 s1 t dir a.opens;
-          opens_new = holding.open_held called seen d s call file a.may needs needs_one d1 s1 t new_dir a.opens_new;
+          may = holding.may_held called seen d s call file Hold a.may needs needs_one d1 s1 t;
+          opens = holding.open_held called seen d s file d1 s1 t dir a.opens;
+          opens_new = holding.open_held called seen d s file d1 s1 t new_dir a.opens_new;
           comes = λ nodes rows p.
-              subst (λ (k : Creds). ComesAcross (batch_nodes (seen d1).creds s1.calls nodes) k call from to dir new_dir) (sym (holding.went called seen d s call file a.may needs needs_one d1 s1 t).same.creds)
+              subst (λ (k : Creds). ComesAcross (batch_nodes (seen d1).creds s1.calls nodes) k call from to dir new_dir) (sym (holding.went called seen d s call file Hold a.may needs needs_one d1 s1 t).passes.same.creds)
               (over (λ now. ComesAcross now (seen d).creds call from to dir new_dir) a.comes nodes rows p);
           entry = (
             f.entry.0,
             f.entry.1,
-            holding.place_held called seen d s call file a.may needs needs_one d1 s1 t dir (name_of from) ∙ f.entry.2,
-            holding.entry_held called seen d s call file a.may needs needs_one d1 s1 t dir f.entry.0 ∙ f.entry.3,
+            holding.place_held called seen d s file d1 s1 t dir (name_of from) ∙ f.entry.2,
+            holding.entry_held called seen d s file d1 s1 t dir f.entry.0 ∙ f.entry.3,
             f.entry.4,
             f.entry.5,
           );
           named = over (λ now. find_named now dir (name_of from) ≡ Some file.ino) f.named;
           free = record {
             name = free.name;
-            place = holding.place_held called seen d s call file a.may needs needs_one d1 s1 t new_dir (name_of to) ∙ free.place;
+            place = holding.place_held called seen d s file d1 s1 t new_dir (name_of to) ∙ free.place;
             named = over (λ now. find_named now new_dir (name_of to) ≡ None) free.named;
           };
           apart = apart;

@@ -1,5 +1,6 @@
 -- A file gets another name in its directory.
 use Rattle.trio_calls_dir.proofs.Words.{◌++◌, ◌<◌, ◌∙◌, ◌≡◌, ArePossible, Ask, Bool, Call, Changes, ComesBy, ComesTo, Creds, DeskSeen, DoesCall, Done, EntryPart, Err, Goes, InAllShown, IsAcross, IsAlike, IsDone, IsFound, IsFree, IsRename, IsReplied, IsTree, LacksMemory, List, MatchResult, MayCall, Met, Nodes, Ok, Option, Path, Place, Rename, Replied, Result, Row, SessionSeen, Some, StaysTree, Stop, Target, Told, [], alike_room, alike_then, allot_asks, ap, applied, asked, batch_nodes, both_dirs, cond, dir_of, done_is_tree, edited, eqb, false, grant_ask, is_done, is_some, length, made_by, map, may_alike, moved, moving_needs, name_of, noted, number_made, refl, retitle, served_by, slot_growth, subst, sym, tree_stays_through, true, try_ends, walk_into, wants_of, with_changed, write_paths, ℕ}
+use Rattle.trio_walk.proofs.Ways.{passes_by}
 use Rattle.std.proofs.Common.{eq-eqb}
 use Rattle.trio_edit_laws.specs.session.SlotEdits.{retitled}
 use Rattle.trio_laws.proofs.session.DirCalls.{retitles_entry}
@@ -109,13 +110,10 @@ module _ {D : Type 0} (called : D → Ask → Told → D → Type 0) (seen : D �
       target = target;
       given = [];
       last = [];
-      each = λ c i. absurd i;
-      made = refl;
+      passes = passes_by called seen d s s3 calls3 back3;
       ends = refl;
       leaves = subst (λ (q : SessionSeen). IsAlike q s3) (sym (edited_is (seen d).creds)) near;
       numbered = sym (ap (λ (c : Call). made_by c s) r.on);
-      calls = calls3;
-      same = record { lib = refl; creds = refl; sizes = refl; root = refl };
       comes =
           over3 (λ now. ComesBy (Replied (IsReplied IsDone)) target now (seen d).creds call)
           (λ nodes rows p h.
@@ -127,7 +125,6 @@ module _ {D : Type 0} (called : D → Ask → Told → D → Type 0) (seen : D �
           let now : Nodes = batch_nodes (seen d).creds s3.calls nodes in
           ap (λ l. map grant_ask (asked (served_by s) l) ++ wants_of now (seen d).creds call target s) (over3 (λ n. moving_needs n from to dir dir ≡ []) none_needed nodes rows p)
           ∙ wants_none now (seen d).creds;
-      more = back3;
       after = (
         may_alike (seen d) (noted call (IsReplied IsDone) 0 (retitle dir (name_of from) (name_of to) s)) (noted call (IsReplied IsDone) 0 s3) (ap (noted call (IsReplied IsDone) 0) near)
             (may_noted (seen d) s call from to dir file r a f free),

@@ -68,16 +68,12 @@ module _ {D : Type 0} (called : D → Ask → Told → D → Type 0) (seen : D �
     target = target;
     given = q.given;
     last = q.last;
-    each = w.each;
-    made = w.made;
+    passes = record { each = w.each; made = w.made; calls = calls ∙ w.calls; same = w.same; more = λ nodes rows p. w.more nodes rows (more nodes rows p) };
     ends = ends;
     leaves = leaves;
     numbered = numbered;
-    calls = calls ∙ w.calls;
-    same = w.same;
     comes = λ nodes rows p. comes_by end nodes rows p;
     asks = λ nodes rows p. subst (λ l. AskedBy end (map ask (q.given ++ q.last)) l) (sym (over (λ now. wants_of now (seen d').creds call target (as_lent s all) ≡ allot_asks (slot_growth s new_dir) 0) wants1 nodes rows p)) asks;
-    more = λ nodes rows p. w.more nodes rows (more nodes rows p);
     after = after;
   }
     where

@@ -7,7 +7,8 @@ use Rattle.trio_calls_dir.proofs.Entered.{open_had}
 use Rattle.trio_calls_dir.proofs.Into.{into_goes, into_stops}
 use Rattle.trio_calls_dir.proofs.MovesPaths.{rename_across}
 use Rattle.trio_calls_dir.proofs.Then.{all_then}
-use Rattle.trio_calls_dir.proofs.Walked.{way_calls, way_may, way_more, way_same}
+use Rattle.trio_calls_dir.proofs.Walkable.{way_may}
+use Rattle.trio_walk.proofs.Ways.{way_calls, way_more, way_same}
 
 -- what is shown is one tree
 pub shown_tree : (desk : DeskSeen) (s : SessionSeen) → MayWalk desk s → InAllShown desk s IsTree
@@ -62,7 +63,7 @@ module _ (call : Call) (from to : Path) (r : IsRename call from to) where
         → Goes called seen d1 s1 call (λ now. across_needs now (seen d1).creds (shows_root s1) from to dir) end number d' s'
         → Goes called seen d s call (λ now. dir_needs now (seen d').creds (shows_root s) call) end number d' s'
     out_goes dir w end number d' s' goes =
-        subst (λ (k : Creds). Goes called seen d s call (λ now. dir_needs now k (shows_root s) call) end number d' s') (sym goes.same.creds)
+        subst (λ (k : Creds). Goes called seen d s call (λ now. dir_needs now k (shows_root s) call) end number d' s') (sym goes.passes.same.creds)
         (into_goes called seen d s call (both_dirs from to) (dir_of from) may d1 s1 out_needs then_needs out_are dir w walks s1 refl end number d' s' goes)
 
     pub is_out : (dir : ℕ) → out_ending (At dir) → IsOpenDir s1 dir → MayLookIn (seen d1) s1 dir → IsOut (seen d1) s1 from to dir
@@ -104,8 +105,8 @@ module _ (call : Call) (from to : Path) (r : IsRename call from to) where
       -- what was known of the nodes still is
       pub into_still : (P : Nodes → Type 0) → InAllShown (seen d) s P → InAllShown (seen d1) s1 P
       into_still P h =
-          all_then (seen d) (seen d1) s s1 P (way_same called seen d s w.more w.last d1 s1 o.may w.way walks) (way_more called seen d s w.more w.last d1 s1 o.may w.way walks)
-          (way_calls called seen d s w.more w.last d1 s1 o.may w.way walks) h
+          all_then (seen d) (seen d1) s s1 P (way_same called seen d s w.more w.last d1 s1 w.way) (way_more called seen d s w.more w.last d1 s1 w.way)
+          (way_calls called seen d s w.more w.last d1 s1 w.way) h
 
       pub still_out : InAllShown (seen d1) s1 (λ now. walk_into now (seen d1).creds (both_dirs from to) (dir_of from) ≡ Ok dir)
       still_out nodes rows p =

@@ -40,22 +40,22 @@ module _ {D : Type 0} (called : D → Ask → Told → D → Type 0) (seen : D �
   Whole end number = Goes called seen d s call (λ now. dir_needs now (seen d').creds (shows_root s) call) end number d' s'
 
   creds_are : (end : Outcome) (number : ℕ) → Whole end number → (seen d').creds ≡ s.creds
-  creds_are end number g = g.same.creds ∙ sym may.edits.on.creds
+  creds_are end number g = g.passes.same.creds ∙ sym may.edits.on.creds
 
   -- what was shown is shown over the calls that were there before
   shown_then : (end : Outcome) (number : ℕ) (g : Whole end number) (nodes : Nodes) (rows : List (Option Row)) → ArePossible (seen d') s'.parcel s'.reads nodes rows
       → TriedIn (seen d').creds s call end g.target (took s (map (λ c. c.told) g.given)) (map (λ c. c.ask) (g.given ++ g.last)) (batch_nodes (seen d').creds s.calls nodes)
   shown_then end number g nodes rows p =
-      subst (λ (cs : List Done). TriedIn (seen d').creds s call end g.target (took s (map (λ c. c.told) g.given)) (map (λ c. c.ask) (g.given ++ g.last)) (batch_nodes (seen d').creds cs nodes)) g.calls
+      subst (λ (cs : List Done). TriedIn (seen d').creds s call end g.target (took s (map (λ c. c.told) g.given)) (map (λ c. c.ask) (g.given ++ g.last)) (batch_nodes (seen d').creds cs nodes)) g.passes.calls
       (record { comes = g.comes nodes rows p; asks = g.asks nodes rows p })
 
   -- a try that is busy
   pub tried_busy : (holder : Holder) → Whole (Busy holder) 0 → DirTried called seen call d s (Busy holder) d' s'
-  tried_busy holder g = (g.target, record { given = g.given; last = g.last; each = g.each; made = g.made; ends = g.ends; leaves = g.leaves; shown = shown_then (Busy holder) 0 g })
+  tried_busy holder g = (g.target, record { given = g.given; last = g.last; each = g.passes.each; made = g.passes.made; ends = g.ends; leaves = g.leaves; shown = shown_then (Busy holder) 0 g })
 
   -- and one that lacked memory
   pub tried_short : Whole NoMemory 0 → DirTried called seen call d s NoMemory d' s'
-  tried_short g = (g.target, record { given = g.given; last = g.last; each = g.each; made = g.made; ends = g.ends; leaves = g.leaves; shown = shown_then NoMemory 0 g })
+  tried_short g = (g.target, record { given = g.given; last = g.last; each = g.passes.each; made = g.passes.made; ends = g.ends; leaves = g.leaves; shown = shown_then NoMemory 0 g })
 
   -- one that is replied, and noted
   pub tried_noted : (reply : Reply) (number : ℕ) → Whole (Replied reply) number → DirTried called seen call d s (Replied reply) d' (noted call reply number s')
@@ -64,8 +64,8 @@ module _ {D : Type 0} (called : D → Ask → Told → D → Type 0) (seen : D �
     record {
       given = g.given;
       last = g.last;
-      each = g.each;
-      made = g.made;
+      each = g.passes.each;
+      made = g.passes.made;
       ends = g.ends;
       leaves =
           leaves_noted s.creds call g.target (took s (map (λ c. c.told) g.given)) s' reply number
@@ -81,8 +81,8 @@ module _ {D : Type 0} (called : D → Ask → Told → D → Type 0) (seen : D �
     record {
       given = g.given;
       last = g.last;
-      each = g.each;
-      made = g.made;
+      each = g.passes.each;
+      made = g.passes.made;
       ends = unnoted_ends reply g.last names g.ends;
       leaves =
           unnoted_leaves (seen d').creds call reply g.target (took s (map (λ c. c.told) g.given)) s' names ((g.after.3 names).1 (seen d').creds g.target (took s (map (λ c. c.told) g.given))) g.leaves;

@@ -1,14 +1,7 @@
 -- A try of a session that had nothing is kept busy by another library.
-use Rattle.trio_calls_dir.proofs.Words.{Ask, At, BusyGrant, DeskSeen, Err, Grant, GrantKind, HasNothing, In, IsBusyWalk, IsOwnBusy, IsReply, IsStopped, List, Needed, NoWalkMemory, Nodes, NotLent, Ok, OthersHold, Parcel, Result, SessionSeen, Shown, Stop, StopsBy, Told, WalkEnd, Walked, file_numbers, hold_numbers, inl, inr, map, refl, subst, sym, try_ends, ℕ}
+use Rattle.trio_calls_dir.proofs.Words.{Ask, At, BusyGrant, DeskSeen, Err, Grant, HasNothing, In, IsBusyWalk, IsReply, IsStopped, List, Needed, NoWalkMemory, Nodes, NotLent, Ok, OthersHold, Result, SessionSeen, Stop, StopsBy, Told, WalkEnd, Walked, inl, refl, subst, sym, try_ends}
 use Rattle.trio_calls_dir.specs.declared.replies.Replied as replied
-
-pub nothing_own : (s : SessionSeen) (n : ℕ) (kind : GrantKind) → HasNothing s → IsOwnBusy s n kind → ⊥
-nothing_own s n kind none own =
-    elim own.has [
-      | inl r ↦ subst (λ (l : List Shown). In n (map (λ f. f.ino) l)) none.reads r.0
-      | inr (inl w) ↦ subst (λ (b : Parcel). In n (file_numbers b.writes)) none.parcel w.0
-      | inr (inr h) ↦ subst (λ (b : Parcel). In n (hold_numbers b.holds)) none.parcel h
-    ]
+use Rattle.trio_walk.proofs.OwnBusy.{nothing_own}
 
 -- where a session had nothing its walk is kept busy by another library
 pub stop_others : {D : Type 0} (called : D → Ask → Told → D → Type 0) (seen : D → DeskSeen) (d : D) (s : SessionSeen) (true_of : List Needed → Nodes → Type 0) (end : WalkEnd) (d1 : D) (s1 : SessionSeen)

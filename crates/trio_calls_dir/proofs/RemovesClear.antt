@@ -1,5 +1,6 @@
 -- A file that is had goes with its slot, where it has no entries.
 use Rattle.trio_calls_dir.proofs.Words.{◌+◌, ◌<◌, ◌∙◌, ◌∷◌, ◌≡◌, ArePossible, Ask, Bool, Call, Changes, ComesBy, ComesInto, ComesTo, Creds, DeskSeen, Directory, DoesCall, Done, Err, Goes, HoldParts, InAllShown, IsAlike, IsDir, IsDirectory, IsDone, IsRefusedAs, IsReplied, IsTree, Kind, LacksMemory, LeavesCleared, List, MadeFile, MatchResult, MayCall, MayShow, Met, Node, Nodes, None, NotDir, NotEmpty, Ok, Option, Path, Regular, Replied, Reply, Result, Rmdir, Room, Row, SessionSeen, Some, StaysTree, Stop, Target, Told, Unlink, [], alike_room, alike_then, ap, applied, arith, batch_nodes, cases_eq, clear, clear_leaves, cond, count_in, dir_of, edited, entry_count, eqb, eqb-true, false, false≢true, find-In, find_named, find_named-Child, held_file, in_hand, inl, inr, is_directory, is_done, is_in, is_some, length, ltb, made_by, made_file, may_alike, name_of, node_at, not, noted, number_made, open_kind, option_map, option_or, place_shown, refl, refused_at_entry, removing, rights_of, sees_directory, shown_by, slots_shown, some_one, subst, suc, sym, true, try_ends, walk_into, wants_of, with_node, write_paths, written_file, zero, ℕ}
+use Rattle.trio_walk.proofs.Ways.{passes_by}
 use Rattle.std.proofs.Common.{ltb-false}
 use Rattle.std.specs.Prelude.{count_by}
 use Rattle.std.proofs.lemmas.List.Sums.{sum_by-cons}
@@ -283,13 +284,10 @@ module _ {D : Type 0} (called : D → Ask → Told → D → Type 0) (seen : D �
       target = target;
       given = [];
       last = [];
-      each = λ c i. absurd i;
-      made = refl;
+      passes = passes_by called seen d s s3 calls3 back3;
       ends = refl;
       leaves = subst (λ (q : SessionSeen). IsAlike q s3) (sym (ap (λ (c : Call). edited creds c target s) m.call ∙ leaves_kind file.kind path creds target s)) near;
       numbered = made_none file.kind path s ∙ sym (ap (λ (c : Call). made_by c s) m.call);
-      calls = calls3;
-      same = record { lib = refl; creds = refl; sizes = refl; root = refl };
       comes =
           over3 (λ now. ComesBy (Replied (IsReplied IsDone)) target now (seen d).creds call)
           (λ nodes rows p h.
@@ -299,7 +297,6 @@ module _ {D : Type 0} (called : D → Ask → Told → D → Type 0) (seen : D �
       asks = λ nodes rows p.
           let now : Nodes = batch_nodes creds s3.calls nodes in
           ap (λ (c : Call). wants_of now creds c target s) m.call ∙ wants_kind file.kind path now creds target s;
-      more = back3;
       after = (
         may_alike (seen d) (noted call (IsReplied IsDone) 0 (clear dir (name_of path) s)) (noted call (IsReplied IsDone) 0 s3) (ap (noted call (IsReplied IsDone) 0) near)
             (may_noted (seen d) s call path dir file m children),

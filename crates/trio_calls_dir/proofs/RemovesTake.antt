@@ -1,5 +1,5 @@
 -- A file that is removed is held first.
-use Rattle.trio_calls_dir.proofs.Words.{◌∙◌, ◌∷◌, ◌≡◌, Ask, Busy, Call, ComesInto, Creds, DeskSeen, Directory, EntryPart, Err, FindsEntry, Goes, HasMet, Hold, HoldBusyAt, Holder, InAllShown, IsBusyWalk, IsListed, IsOpenDir, Kind, List, MayCall, MayWalk, Met, Needed, NoMemory, NoWalkMemory, Node, Nodes, Ok, Option, Outcome, Path, Place, Regular, SessionSeen, Some, Told, Took, [], ap, batch_nodes, cond, entry_shown, false, find_named, is_directory, is_root, name_of, named_needs, node_at, node_needs, option_map_or, place_shown, removing, removing_needs, subst, sym, true, ℕ}
+use Rattle.trio_calls_dir.proofs.Words.{◌∙◌, ◌∷◌, ◌≡◌, Ask, Busy, Call, ComesInto, Creds, DeskSeen, Directory, EntryPart, Err, FindsEntry, Goes, HasMet, Hold, Holder, InAllShown, IsBusyWalk, IsListed, IsOpenDir, Kind, List, MayCall, MayWalk, Met, Needed, NoMemory, NoWalkMemory, Node, Nodes, Ok, Option, Outcome, Path, Place, Regular, SessionSeen, Some, Told, Took, [], ap, batch_nodes, cond, entry_shown, false, find_named, is_directory, is_root, name_of, named_needs, node_at, node_needs, option_map_or, place_shown, removing, removing_needs, subst, sym, true, ℕ}
 use Rattle.trio_calls_dir.proofs.Held as holding
 
 -- What is known of a file that is to be removed, before it is held: its directory is open, and lists it by the name.
@@ -51,15 +51,11 @@ module _ {D : Type 0} (called : D → Ask → Told → D → Type 0) (seen : D �
   module _ (d1 : D) (s1 : SessionSeen) where
     pub busy_goes : (holder : Holder) → Took called seen d s file Hold (Err (IsBusyWalk holder)) d1 s1
         → Goes called seen d s call (λ now. named_needs now dir (name_of path) (removing_needs file.kind)) (Busy holder) 0 d1 s1
-    busy_goes holder t = holding.busy_goes called seen d s call file r.may needs needs_one d1 s1 holder t
+    busy_goes holder t = holding.busy_goes called seen d s call file Hold r.may needs needs_one d1 s1 holder t
 
     pub short_goes : Took called seen d s file Hold (Err NoWalkMemory) d1 s1
         → Goes called seen d s call (λ now. named_needs now dir (name_of path) (removing_needs file.kind)) NoMemory 0 d1 s1
-    short_goes t = holding.short_goes called seen d s call file r.may needs needs_one d1 s1 t
-
-    -- where the library itself keeps it busy a grant of the session's does
-    pub busy_off : (holder : Holder) → Took called seen d s file Hold (Err (IsBusyWalk holder)) d1 s1 → HoldBusyAt (seen d) s file.ino (Busy holder)
-    busy_off holder t = holding.busy_off called seen d s call file r.may needs needs_one d1 s1 holder t
+    short_goes t = holding.short_goes called seen d s call file Hold r.may needs needs_one d1 s1 t
 
     -- ---- where it is had
 
@@ -67,24 +63,24 @@ module _ {D : Type 0} (called : D → Ask → Told → D → Type 0) (seen : D �
       -- what goes on then goes with the hold
       pub held_goes : (end : Outcome) (number : ℕ) (d' : D) (s' : SessionSeen) → Goes called seen d1 s1 call (λ now. []) end number d' s'
           → Goes called seen d s call (λ now. named_needs now dir (name_of path) (removing_needs file.kind)) end number d' s'
-      held_goes end number d' s' goes = holding.held_goes called seen d s call file r.may needs needs_one d1 s1 t end number d' s' goes
+      held_goes end number d' s' goes = holding.held_goes called seen d s call file Hold r.may needs needs_one d1 s1 t end number d' s' goes
 
       over : (P : Nodes → Type 0) → InAllShown (seen d) s P → InAllShown (seen d1) s1 P
-      over P h = holding.over called seen d s call file r.may needs needs_one d1 s1 t P h
+      over P h = holding.over called seen d s call file Hold r.may needs needs_one d1 s1 t P h
 
       pub may_clear : MayClear (seen d1) s1 call path dir file
       may_clear = record {
-        may = holding.may_held called seen d s call file r.may needs needs_one d1 s1 t;
+        may = holding.may_held called seen d s call file Hold r.may needs needs_one d1 s1 t;
         walks = t.may;
         call = r.call;
-        opens = holding.open_held called seen d s call file r.may needs needs_one d1 s1 t dir r.opens;
+        opens = holding.open_held called seen d s file d1 s1 t dir r.opens;
         comes = λ nodes rows p.
-            subst (λ (k : Creds). ComesInto (batch_nodes (seen d1).creds s1.calls nodes) k call path dir) (sym (holding.went called seen d s call file r.may needs needs_one d1 s1 t).same.creds)
+            subst (λ (k : Creds). ComesInto (batch_nodes (seen d1).creds s1.calls nodes) k call path dir) (sym (holding.went called seen d s call file Hold r.may needs needs_one d1 s1 t).passes.same.creds)
             (over (λ now. ComesInto now (seen d).creds call path dir) r.comes nodes rows p);
         place = r.entry.0;
         entry = r.entry.1;
-        there = holding.place_held called seen d s call file r.may needs needs_one d1 s1 t dir (name_of path) ∙ r.entry.2;
-        says = holding.entry_held called seen d s call file r.may needs needs_one d1 s1 t dir r.entry.0 ∙ r.entry.3;
+        there = holding.place_held called seen d s file d1 s1 t dir (name_of path) ∙ r.entry.2;
+        says = holding.entry_held called seen d s file d1 s1 t dir r.entry.0 ∙ r.entry.3;
         number = r.entry.4;
         node = over (λ now. (x : Node) × (node_at now file.ino ≡ Some x) × (x.kind ≡ file.kind)) (λ nodes rows p. (let m = r.met.1.met nodes rows p in (m.after, m.there_now, m.kind)));
         named = over (λ now. find_named now dir (name_of path) ≡ Some file.ino) r.named;

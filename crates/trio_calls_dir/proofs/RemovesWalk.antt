@@ -5,7 +5,7 @@ use Rattle.trio_calls_dir.specs.declared.replies.Replied as replied
 use Rattle.trio_calls_dir.specs.inner.Removes.{other_kind}
 use Rattle.trio_calls_dir.proofs.Ends.{refused_goes}
 use Rattle.trio_calls_dir.proofs.Entered.{IsOneName, comes_into, one_goes, one_stops, removing_one}
-use Rattle.trio_calls_dir.proofs.Walked.{way_may}
+use Rattle.trio_calls_dir.proofs.Walkable.{way_may}
 
 remove_needs : (kind : Kind) (path : Path) → is_root path ≡ false → (now : Nodes) (creds : Creds) (shown : Bool)
     → dir_needs now creds shown (removing kind path)

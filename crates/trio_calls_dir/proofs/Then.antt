@@ -1,16 +1,12 @@
 -- A try goes on: what was known and given before is added to what comes then.
-use Rattle.trio_calls_dir.proofs.Words.{◌++◌, ◌+◌, ◌||◌, ◌∙◌, ◌∷◌, ◌≡◌, Ask, AskedBy, Bool, Busy, Call, Calls, Chmod, Create, Creds, Denied, DeskSeen, Directory, Exists, Goes, In, In-cases, InAllShown, InoParts, IntoItself, IsAlike, IsDir, IsNumber, IsReplied, Kind, Lease, LeavesHere, LentFile, List, ListNames, Mkdir, Mode, Needed, NoInodes, NoMemory, NoSpace, Nodes, None, NotDir, NotEmpty, NotFound, Option, Outcome, Path, Regular, Rename, Replied, Rmdir, Room, SameDesk, SessionSeen, Some, TakesMore, Target, Told, TooLarge, Unlink, Went, WriteLease, [], alike_then, allot_asks, ap, append-nil, append_assoc, applied, as_lent, asked, asked_beside, asks_from, batch_nodes, calls_then, clear, cond, edited, eqb, false, fill, grant_ask, in_hand, inl, inr, is_done, made_by, map, map-append, moved, moved_shown, name_of, need_of, new_body, new_number, numbers_for, option_map_or, pages_for, possible_then, refl, retitle, served_by, slot_growth, subst, sym, took, true, wants_of, with_slot, ℕ}
-use Rattle.std.specs.Prelude.{take}
-use Rattle.std.specs.List.{list_any}
+use Rattle.trio_calls_dir.proofs.Words.{◌++◌, ◌∙◌, ◌≡◌, Ask, AskedBy, Bool, Busy, Call, Chmod, Create, Creds, Denied, DeskSeen, Directory, Exists, Goes, InAllShown, InoParts, IntoItself, IsAlike, IsDir, IsNumber, IsReplied, Kind, LeavesHere, List, ListNames, Mkdir, Mode, Needed, NoInodes, NoMemory, NoSpace, Nodes, None, NotDir, NotEmpty, NotFound, Option, Outcome, Path, Regular, Rename, Replied, Rmdir, Room, SameDesk, SessionSeen, Some, TakesMore, Target, Told, TooLarge, Unlink, Went, [], allot_asks, ap, append_assoc, applied, as_lent, asked, asks_from, batch_nodes, clear, cond, edited, eqb, false, fill, grant_ask, in_hand, is_done, made_by, map, map-append, moved, moved_shown, name_of, new_body, new_number, numbers_for, option_map_or, pages_for, refl, retitle, served_by, slot_growth, subst, sym, took, true, wants_of, with_slot, ℕ}
 use Rattle.trio_lease.specs.declared.parts.FreshParts.{FreshParts}
 use Rattle.trio_nodes.specs.declared.call.Call.TheVariants.{Write, Read, Truncate, Stat}
 use Rattle.trio_desk.specs.Calls as desk_calls
-use Rattle.trio_walk.specs.Needs.{serves_need}
-use Rattle.trio_walk.specs.Walks.{TookLeases}
 use Rattle.trio_calls_dir.specs.Asks.{filled_new}
-use Rattle.trio_walk.proofs.Stepping.{served_by-took}
-use Rattle.trio_session.proofs.Alike.{took_more, took_alike, same_then, same_back, alike_edited}
+use Rattle.trio_session.proofs.Alike.{took_more, took_alike, alike_edited}
 use Rattle.trio_walk.proofs.Then.{both_then, asked_behind}
+use Rattle.trio_walk.proofs.Ways.{leaves_alike, passes_then}
 use Rattle.trio_session.proofs.Others.{fill-other, clear-other, retitle-other, with_slot-other}
 
 -- ---- another moment of the desk
@@ -65,21 +61,6 @@ module _ (is : List ℕ) (f : ℕ) (r : Room) where
 pub edited_alike : (creds : Creds) (call : Call) (t : Target) (x y : SessionSeen) → IsAlike x y → IsAlike (edited creds call t x) (edited creds call t y)
 edited_alike creds call t = alike_edited (edited creds call t) (λ is n r x. edited_other is n r creds call t x)
 
-pub leaves_alike : (creds : Creds) (call : Call) (t : Target) (x y s' : SessionSeen) (end : Outcome) → IsAlike x y → LeavesHere creds call t y end s' → LeavesHere creds call t x end s'
-leaves_alike creds call t x y s' (Replied (IsReplied answer)) e h = alike_then (edited creds call t x) (edited creds call t y) s' (edited_alike creds call t x y e) h
-leaves_alike creds call t x y s' (Replied NotFound) e h = alike_then x y s' e h
-leaves_alike creds call t x y s' (Replied Exists) e h = alike_then x y s' e h
-leaves_alike creds call t x y s' (Replied NotDir) e h = alike_then x y s' e h
-leaves_alike creds call t x y s' (Replied IsDir) e h = alike_then x y s' e h
-leaves_alike creds call t x y s' (Replied NotEmpty) e h = alike_then x y s' e h
-leaves_alike creds call t x y s' (Replied Denied) e h = alike_then x y s' e h
-leaves_alike creds call t x y s' (Replied IntoItself) e h = alike_then x y s' e h
-leaves_alike creds call t x y s' (Replied (NoSpace w f)) e h = alike_then x y s' e h
-leaves_alike creds call t x y s' (Replied (NoInodes w f)) e h = alike_then x y s' e h
-leaves_alike creds call t x y s' (Replied TooLarge) e h = alike_then x y s' e h
-leaves_alike creds call t x y s' (Busy holder) e h = alike_then x y s' e h
-leaves_alike creds call t x y s' NoMemory e h = alike_then x y s' e h
-
 -- the number of a new file doesn't go by them
 pub made_alike : (call : Call) (x y : SessionSeen) → IsAlike x y → made_by call y ≡ made_by call x
 made_alike (Mkdir path mode) x y e = ap (λ (q : SessionSeen). new_number q) e
@@ -126,57 +107,9 @@ pages_alike (Chmod path mode) t x y e = refl
 pub wants_alike : (now : Nodes) (creds : Creds) (call : Call) (t : Target) (x y : SessionSeen) → IsAlike x y → wants_of now creds call t y ≡ wants_of now creds call t x
 wants_alike now creds call t x y e = ap (λ n. cond (is_done (applied now creds call 0).reply) (allot_asks n (numbers_for call)) []) (pages_alike call t x y e)
 
--- ---- what was asked
-
-pub asked_append : (served : Needed → Bool) (got a b : List Needed) → asked_beside served got (a ++ b) ≡ asked_beside served got a ++ asked_beside served (got ++ asked_beside served got a) b
-asked_append served got [] b = ap (λ g. asked_beside served g b) (sym (append-nil got))
-asked_append served got (n ∷ ns) b = by (asked_append served got ns b) (asked_append served (got ++ n ∷ []) ns b) (served n || list_any (serves_need n) got)
-  where
-    by : asked_beside served got (ns ++ b) ≡ asked_beside served got ns ++ asked_beside served (got ++ asked_beside served got ns) b
-        → asked_beside served (got ++ n ∷ []) (ns ++ b) ≡ asked_beside served (got ++ n ∷ []) ns ++ asked_beside served ((got ++ n ∷ []) ++ asked_beside served (got ++ n ∷ []) ns) b
-        → (t : Bool) → cond t (asked_beside served got (ns ++ b)) (n ∷ asked_beside served (got ++ n ∷ []) (ns ++ b))
-        ≡ cond t (asked_beside served got ns) (n ∷ asked_beside served (got ++ n ∷ []) ns) ++ asked_beside served (got ++ cond t (asked_beside served got ns) (n ∷ asked_beside served (got ++ n ∷ []) ns)) b
-    by skip take true = skip
-    by skip take false =
-        ap (λ l. n ∷ l) (take ∙ ap (λ g. asked_beside served (got ++ n ∷ []) ns ++ asked_beside served g b) (append_assoc got (n ∷ []) (asked_beside served (got ++ n ∷ []) ns)))
-
-any-append : (n : Needed) (a b : List Needed) → list_any (serves_need n) (a ++ b) ≡ (list_any (serves_need n) a || list_any (serves_need n) b)
-any-append n [] b = refl
-any-append n (k ∷ ks) b = by (any-append n ks b) (serves_need n k)
-  where
-    by : list_any (serves_need n) (ks ++ b) ≡ (list_any (serves_need n) ks || list_any (serves_need n) b) → (t : Bool)
-        → (t || list_any (serves_need n) (ks ++ b)) ≡ ((t || list_any (serves_need n) ks) || list_any (serves_need n) b)
-    by rest true = refl
-    by rest false = rest
-
--- behind what was got before one asks as a session does that has it
-asked_served : (before after : Needed → Bool) (first : List Needed) → ((n : Needed) → after n ≡ (before n || list_any (serves_need n) first))
-    → (got ns : List Needed) → asked_beside before (first ++ got) ns ≡ asked_beside after got ns
-asked_served before after first same got [] = refl
-asked_served before after first same got (n ∷ ns) =
-    let rest = asked_served before after first same got ns in
-    let more : asked_beside before ((first ++ got) ++ n ∷ []) ns ≡ asked_beside after (got ++ n ∷ []) ns =
-    ap (λ g. asked_beside before g ns) (append_assoc first got (n ∷ [])) ∙ asked_served before after first same (got ++ n ∷ []) ns in
-    let test : (before n || list_any (serves_need n) (first ++ got)) ≡ (after n || list_any (serves_need n) got) =
-    ap (λ t. before n || t) (any-append n first got) ∙ or_assoc (before n) (list_any (serves_need n) first) (list_any (serves_need n) got) ∙ ap (λ t. t || list_any (serves_need n) got) (sym (same n)) in
-    ap (λ t. cond t (asked_beside before (first ++ got) ns) (n ∷ asked_beside before ((first ++ got) ++ n ∷ []) ns)) test
-    ∙ ap (λ l. cond (after n || list_any (serves_need n) got) l (n ∷ asked_beside before ((first ++ got) ++ n ∷ []) ns)) rest
-    ∙ ap (λ l. cond (after n || list_any (serves_need n) got) (asked_beside after got ns) (n ∷ l)) more
-  where
-    or_assoc : (a b c : Bool) → (a || (b || c)) ≡ ((a || b) || c)
-    or_assoc true b c = refl
-    or_assoc false b c = refl
-
-pub asked_then : (s s' : SessionSeen) (more : List Lease) → TookLeases s more s' → ((f : LentFile) → In (WriteLease f) more → f.stands ≡ f.lent)
-    → (first ns : List Needed) → asked (served_by s) first ≡ map need_of more → asked (served_by s) (first ++ ns) ≡ map need_of more ++ asked (served_by s') ns
-asked_then s s' more took' as_lent first ns e =
-    asked_append (served_by s) [] first ns
-    ∙ ap (λ g. g ++ asked_beside (served_by s) g ns) e
-    ∙ ap (λ l. map need_of more ++ l) (ap (λ g. asked_beside (served_by s) g ns) (sym (append-nil (map need_of more))) ∙ asked_served (served_by s) (served_by s') (map need_of more) (served_by-took s s' more took' as_lent) [] ns)
-
 -- ---- the whole
 
-module _ {D : Type 0} (called : D → Ask → Told → D → Type 0) (seen : D → DeskSeen) (d d1 d' : D) (s s1 s' : SessionSeen) (call : Call) (given : List desk_calls.Call) (went : Went called seen d s given d1 s1) (end : Outcome) (number : ℕ) (needs0 needs1 : Nodes → List Needed)
+module _ {D : Type 0} (called : D → Ask → Told → D → Type 0) (seen : D → DeskSeen) (d d1 d' : D) (s s1 s' : SessionSeen) (call : Call) (given : List desk_calls.Call) (went : Went called seen d s given [] d1 s1) (end : Outcome) (number : ℕ) (needs0 needs1 : Nodes → List Needed)
     (wanted : InAllShown (seen d1) s1 (λ now. map grant_ask (asked (served_by s) (needs0 now)) ≡ map (λ (c : desk_calls.Call). c.ask) given ++ map grant_ask (asked (served_by s1) (needs1 now)))) (goes : Goes called seen d1 s1 call needs1 end number d' s') where
   -- what goes on after some calls that were given goes with them
   pub goes_on : Goes called seen d s call needs0 end number d' s'
@@ -186,8 +119,7 @@ module _ {D : Type 0} (called : D → Ask → Told → D → Type 0) (seen : D �
       let creds : Creds = (seen d').creds in
       let t : Target = goes.target in
       let all : List desk_calls.Call = given ++ goes.given in
-      let regroup : given ++ (goes.given ++ goes.last) ≡ all ++ goes.last = sym (append_assoc given goes.given goes.last) in
-      let at_end = all_then (seen d1) (seen d') s1 s' (λ now. map grant_ask (asked (served_by s) (needs0 now)) ≡ map ask given ++ map grant_ask (asked (served_by s1) (needs1 now))) goes.same goes.more goes.calls wanted in
+      let at_end = all_then (seen d1) (seen d') s1 s' (λ now. map grant_ask (asked (served_by s) (needs0 now)) ≡ map ask given ++ map grant_ask (asked (served_by s1) (needs1 now))) goes.passes.same goes.passes.more goes.passes.calls wanted in
       let first : SessionSeen = took s (map told given) in
       let tolds : took s (map told all) ≡ took first (map told goes.given) = ap (took s) (map-append told given goes.given) ∙ took_more s (map told given) (map told goes.given) in
       let near : IsAlike (took first (map told goes.given)) (took s1 (map told goes.given)) = took_alike first s1 (map told goes.given) went.alike in
@@ -198,23 +130,20 @@ module _ {D : Type 0} (called : D → Ask → Told → D → Type 0) (seen : D �
         target = t;
         given = given ++ goes.given;
         last = goes.last;
-        each = λ c i. elim (In-cases c given goes.given i) [ inl a ↦ went.each c a | inr b ↦ goes.each c b ];
-        made = subst (λ cs. Calls called d cs d') regroup (calls_then called d d1 d' given (goes.given ++ goes.last) went.made goes.made);
+        passes = passes_then called seen d s d1 d' s1 s' given goes.given goes.last went.passes goes.passes;
         ends = goes.ends;
         leaves =
             subst (λ x. LeavesHere creds call t x end s') (sym tolds)
-            (leaves_alike creds call t (took first (map told goes.given)) (took s1 (map told goes.given)) s' end near goes.leaves);
+            (leaves_alike (edited creds call t) (edited_alike creds call t) (took first (map told goes.given)) (took s1 (map told goes.given)) s' end near goes.leaves);
         numbered =
             subst (λ x. IsNumber call x end number) (sym tolds)
             (number_alike call (took first (map told goes.given)) (took s1 (map told goes.given)) end number near goes.numbered);
-        calls = goes.calls ∙ went.calls;
-        same = same_then (seen d) (seen d1) (seen d') went.same goes.same;
         comes = goes.comes;
         asks = λ nodes rows p.
             let now : Nodes = batch_nodes creds s'.calls nodes in
             let wants : List Ask = wants_of now creds call t (as_lent s1 (took s1 (map told goes.given))) in
             let a = asked_behind end (map ask given) (map ask (goes.given ++ goes.last)) (map grant_ask (asked (served_by s1) (needs1 now)) ++ wants) (goes.asks nodes rows p) in
-            let these : map ask given ++ map ask (goes.given ++ goes.last) ≡ map ask (all ++ goes.last) = sym (map-append ask given (goes.given ++ goes.last)) ∙ ap (map ask) regroup in
+            let these : map ask given ++ map ask (goes.given ++ goes.last) ≡ map ask (all ++ goes.last) = sym (map-append ask given (goes.given ++ goes.last)) ∙ ap (map ask) (sym (append_assoc given goes.given goes.last)) in
             let wanted' : map ask given ++ (map grant_ask (asked (served_by s1) (needs1 now)) ++ wants) ≡ asks_from s (needs0 now) now creds call t (took s (map told all)) =
             sym (append_assoc (map ask given) (map grant_ask (asked (served_by s1) (needs1 now))) wants)
             ∙ ap (λ l. l ++ wants) (sym (at_end nodes rows p))
@@ -222,8 +151,5 @@ module _ {D : Type 0} (called : D → Ask → Told → D → Type 0) (seen : D �
             ∙ wants_alike now creds call t (as_lent s (took first (map told goes.given))) (as_lent s (took s1 (map told goes.given))) (ap (as_lent s) near)
             ∙ ap (λ x. wants_of now creds call t (as_lent s x)) (sym tolds)) in
             subst (λ l. AskedBy end l (asks_from s (needs0 now) now creds call t (took s (map told all)))) these (subst (λ l. AskedBy end (map ask given ++ map ask (goes.given ++ goes.last)) l) wanted' a);
-        more = λ nodes rows p.
-            let q = goes.more nodes rows p in
-            possible_then (seen d') (seen d1) s (same_back (seen d1) (seen d') goes.same) nodes rows (went.more nodes rows (possible_then (seen d1) (seen d') s1 goes.same nodes rows q));
         after = goes.after;
       }

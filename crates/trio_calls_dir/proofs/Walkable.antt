@@ -1,6 +1,8 @@
 -- A session that may make calls may walk, and may make calls with what a walk takes.
-use Rattle.trio_calls_dir.proofs.Words.{◌∷◌, DeskSeen, HoldLease, IsOn, Lease, List, MayCall, MayWalk, ReadLease, SameDesk, SessionSeen, WriteLease, [], batch_nodes, may_same, refl, sees_directory, shows_calls, with_lease, with_leases}
+use Rattle.trio_calls_dir.proofs.Words.{◌∷◌, Ask, DeskSeen, HoldLease, IsOn, Lease, List, MayCall, MayWalk, ReadLease, SameDesk, SessionSeen, Told, Way, WriteLease, [], batch_nodes, may_alike, may_same, on_alike, refl, sees_directory, shows_calls, with_lease, with_leases}
 use Rattle.trio_edit_laws.proofs.Walkable.{hand_out, kind_shows, listed_now, looked_held, may_hold, may_read, may_write}
+use Rattle.trio_desk.specs.Calls as desk_calls
+use Rattle.trio_session.proofs.Alike.{alike_back}
 use Rattle.trio_walk.specs.Walks.{IsLentNow, Lends}
 
 pub may_walk : (desk : DeskSeen) (s : SessionSeen) → MayCall desk s → MayWalk desk s
@@ -35,3 +37,9 @@ pub lends_may : (more : List Lease) (desk desk' : DeskSeen) (s : SessionSeen) �
 lends_may [] desk desk' s may same on =
     let e : SameDesk desk desk' = record { lib = same.lib; creds = same.creds; sizes = same.sizes; root = same.root } in may_same desk desk' s e may on
 lends_may (lease ∷ more) desk desk' s may lends on = lends_may more lends.0 desk' (with_lease s lease) (may_one desk lends.0 s may lease lends.1) lends.2 on
+
+pub way_may : {D : Type 0} (called : D → Ask → Told → D → Type 0) (seen : D → DeskSeen) (d : D) (s : SessionSeen) (more : List Lease) (last : List desk_calls.Call) (d1 : D) (s1 : SessionSeen)
+    → MayCall (seen d) s → Way called seen d s more last d1 s1 → MayWalk (seen d1) s1 → MayCall (seen d1) s1
+way_may called seen d s more last d1 s1 may way walks =
+    may_alike (seen d1) (with_leases s more) s1 way.took.same
+    (lends_may more (seen d) (seen d1) s may way.lends (on_alike (seen d1) s1 (with_leases s more) (alike_back (with_leases s more) s1 way.took.same) walks.on))

@@ -1,5 +1,5 @@
 -- The words that the proofs of this crate share: of the standard library, of the crates below, and of this crate's own definitions.
-pub use Rattle.std.proofs.Common.{◌%◌, ◌&&◌, ◌++◌, ◌+◌, ◌-◌, ◌<◌, ◌^◌, ◌∙◌, ◌∷◌, ◌≡◌, ◌≢◌, ◌≤◌, Bool, Err, List, None, Ok, Option, Result, Some, [], ap, append_assoc, arith, cond, drop, eqb, false, inl, inr, leb, length, ltb, min, refl, rules, subst, suc, sym, take, true, zero, ℕ}
+pub use Rattle.std.proofs.Common.{◌%◌, ◌&&◌, ◌++◌, ◌+◌, ◌-◌, ◌<◌, ◌∙◌, ◌∷◌, ◌≡◌, ◌≢◌, ◌≤◌, Bool, Err, List, None, Ok, Option, Result, Some, [], ap, append_assoc, arith, cond, drop, eqb, false, inl, inr, leb, length, ltb, min, refl, rules, subst, suc, sym, take, true, zero, ℕ}
 pub use Rattle.std.proofs.lemmas.Bool.{cases_eq, eqb-true, false≢true, ne_eqb}
 pub use Rattle.std.proofs.lemmas.List.{append-nil, map-append}
 pub use Rattle.std.proofs.lemmas.Simd.{map-map}
@@ -13,7 +13,7 @@ pub use Rattle.trio_desk.specs.Call.{Allot, Ask, DeskSeen, Grant, ModeSet, NotGi
 pub use Rattle.trio_desk.specs.Calls.{Calls, Made, NotMade, OneCall}
 pub use Rattle.trio_desk.specs.Contents.{AreWithinLimits, Rights, rights_in, rights_of}
 pub use Rattle.trio_desk.specs.Edits.{DoesCall, MayShow, TakesMore}
-pub use Rattle.trio_desk.specs.Out.{Parcel, file_numbers, hold_numbers, ino_numbers, kind_lent}
+pub use Rattle.trio_desk.specs.Out.{Parcel, hold_numbers, ino_numbers, kind_lent}
 pub use Rattle.trio_desk.specs.Ready.{ArePossible, IsChmod, Moded, chmod_walk, moded_in}
 pub use Rattle.trio_desk.specs.Shows.{bytes_now, naming_of, with_bytes}
 pub use Rattle.trio_edit_laws.proofs.Alike.{may_alike}
@@ -88,15 +88,16 @@ pub use Rattle.trio_session.proofs.Others.{fill_alike}
 pub use Rattle.trio_session.specs.Asked.{Allots, IsAlike, SameDesk, allot_asks, took, with_lease}
 pub use Rattle.trio_session.specs.Deeds.{as_lent, moved_shown, names_here, new_body, new_number, slot_growth, with_slot}
 pub use Rattle.trio_session.specs.Layout.{size_in}
-pub use Rattle.trio_session.specs.Seen.{HasReadsAlone, IsOn, IsOpenDir, MadeFile, MayBeMade, Room, SessionSeen, body_in, body_shown, chain_in, clear, emptied, empty_shown, entry_count, entry_in, entry_shown, every_number, fill, grant_in, held_file, in_hand, is_allotted, kind_shown, made_body, made_file, no_chain, number_shown, open_kind, place_in, place_shown, read_file, retitle, room_in, serves, slots_shown, spare_numbers, spare_pages, used_numbers, written_file}
+pub use Rattle.trio_session.specs.Seen.{HasReadsAlone, IsOn, IsOpenDir, MadeFile, Room, SessionSeen, body_in, body_shown, chain_in, clear, emptied, empty_shown, entry_count, entry_in, entry_shown, every_number, fill, grant_in, held_file, in_hand, is_allotted, kind_shown, made_body, made_file, no_chain, number_shown, open_kind, place_in, place_shown, read_file, retitle, room_in, serves, slots_shown, spare_numbers, spare_pages, used_numbers, written_file}
 pub use Rattle.trio_walk.proofs.Agreeing.{IsAt, asked_beside-In, in_order, one_path}
 pub use Rattle.trio_walk.proofs.Possible.{calls_same, lib_same, moment_possible}
 pub use Rattle.trio_walk.proofs.Retrying.{settled}
+pub use Rattle.trio_walk.proofs.Ways.{Went}
 pub use Rattle.trio_walk.proofs.Then.{asks_lent, calls_then, given_all, possible_then, short_ends}
 pub use Rattle.trio_walk.specs.Asks.{AskedBy, IsNotBusy, TryEnds, grant_ask, noted}
 pub use Rattle.trio_walk.specs.Needs.{Needed, asked, asked_beside, chmod_needs, dir_needs, into_needs, kind_for, moving_needs, named_needs, node_needs, reached_by, removing_needs, walk_needs}
-pub use Rattle.trio_walk.specs.Tries.{HasNothing, OthersHold, allot_reply, try_end}
-pub use Rattle.trio_walk.specs.Walks.{AreAsked, EndsBy, FindsEntry, HasMet, InAllShown, IsHad, IsListed, IsMet, IsMetIn, IsOwnBusy, IsStopped, LooksUp, MayLookIn, MayWalk, RightsAre, Took, Walked, WalksInto, WalksTo, Way, gives_met, lent_call, need_of, one_need, served_by, shows_root, with_leases}
+pub use Rattle.trio_walk.specs.Tries.{BusyAt, HasNothing, OthersHold, allot_reply, try_end}
+pub use Rattle.trio_walk.specs.Walks.{AreAsked, EndsBy, FindsEntry, HasMet, InAllShown, IsHad, IsListed, IsMet, IsMetIn, IsStopped, LooksUp, MayLookIn, MayWalk, RightsAre, Took, Walked, WalksInto, WalksTo, Way, gives_met, lent_call, need_of, one_need, served_by, shows_root, with_leases}
 pub use Rattle.trio_walk.specs.declared.attempts.TryEnd.{TryEnd}
 pub use Rattle.trio_walk.specs.declared.met.Met.{Met}
 pub use Rattle.trio_walk.specs.declared.outcome.Outcome.{Outcome}
@@ -110,8 +111,7 @@ pub use Rattle.trio_calls_dir.specs.Chmods.{ComesSo, EndsHandedIn, EndsModed, Le
 pub use Rattle.trio_calls_dir.specs.Dir.{DirCalled, IsDirCall}
 pub use Rattle.trio_calls_dir.specs.declared.chmods.ChmodTry.{ChmodTry}
 pub use Rattle.trio_calls_dir.specs.inner.Chmods.{Finds, IsRetold, RefusesSo, TriesCall, comes_of, owner_met}
-pub use Rattle.trio_calls_dir.specs.inner.Goes.{AfterTry, Goes, IsNames, IsNumber, IsOfDir, IsRefusal, IsRefusedAs, LeavesHere, StopsBy, Went, asks_from, making, number_made, removing, try_ends, without_file}
-pub use Rattle.trio_calls_dir.specs.inner.Lists.{BusyAt, ComesHere, list_reply, listing_at, met_refusal}
+pub use Rattle.trio_calls_dir.specs.inner.Goes.{AfterTry, Goes, IsNames, IsNumber, IsOfDir, IsRefusal, IsRefusedAs, LeavesHere, StopsBy, asks_from, making, number_made, removing, try_ends, without_file}
+pub use Rattle.trio_calls_dir.specs.inner.Lists.{ComesHere, list_reply, listing_at, met_refusal}
 pub use Rattle.trio_calls_dir.specs.inner.Moves.{IsAcross, IsFound, IsFree, IsOut, IsRename, MayMove, NeedsBusyAt, across_needs, both_dirs}
-pub use Rattle.trio_calls_dir.specs.inner.Removes.{HoldBusyAt}
 pub use Rattle.trio_calls_dir.specs.inner.Rooms.{HasPlaces, MadeRoom, RoomEnds}

@@ -3,24 +3,23 @@
 ghost use Rattle.std.specs.Prelude.{◌≡◌, ◌<◌, IfOk, MatchResult, None, drop, length, take};
 ghost use Rattle.trio_nodes.specs.declared.call.Call.{Call as AnyCall};
 ghost use Rattle.trio_edit_laws.specs.Calls.{MayCall};
-ghost use Rattle.trio_calls_dir.specs.inner.Lists.{BusyAt, ComesHere, lets_read, list_reply, listing_at, met_refusal};
+ghost use Rattle.trio_calls_dir.specs.inner.Lists.{ComesHere, list_reply, listing_at, met_refusal};
 ghost use Rattle.trio_nodes.specs.Walk.{Path as NamePath};
 ghost use Rattle.trio_desk.specs.Contents.{AreWithinLimits};
 ghost use Rattle.trio_walk.specs.Walks.{HasMet, shows_root};
 ghost use Rattle.trio_walk.specs.Needs.{dir_needs};
 ghost use Rattle.trio_calls_dir.specs.inner.Goes.{Goes, number_made, try_ends};
-ghost use Rattle.trio_walk.specs.Tries.{OthersHold, HasNothing};
+ghost use Rattle.trio_walk.specs.Tries.{BusyAt, OthersHold, HasNothing};
 ghost use Rattle.trio_session.specs.Deeds.{IsHad, names_here};
 
 use crate::replies::{Replied, noted_reply, stopped};
 use std::alloc::Global;
-use trio_deeds::sorted_names;
+use trio_deeds::{allows, sorted_names};
 use trio_desk::Desk;
 use trio_names::Path;
 use trio_nodes::{Answer, Call, GrantKind, List, Reply};
 use trio_page::NoMemory;
-use trio_page::field::{u16_in, u32_in};
-use trio_rights::{Creds, Kind, Mode, Need, may};
+use trio_rights::{Creds, Kind, Need};
 use trio_session::Session;
 use trio_walk::{Met, Stop, WalkEnd, gives, reach, take};
 
@@ -59,7 +58,7 @@ fn list_met<D: Desk>(
     requires met { HasMet (D.seen desk.old) session.old met }
     ensures goes { (path : NamePath) → ComesHere (D.seen desk.old) session.old path met.ino
         → Goes D.called D.seen desk.old session.old (AnyCall.List path from) (λ now. listing_at (D.seen desk.old).creds met) (try_ends result) (number_made result) desk.new session.new }
-    ensures busy { BusyAt (D.seen desk.old) session.old met.ino (try_ends result) }
+    ensures busy { BusyAt (D.seen desk.old) session.old met.ino GrantKind.Read (try_ends result) }
 {
     match refusal(desk.creds(), met) {
         Some(reply) => noted_reply(session, reply),
@@ -81,7 +80,7 @@ fn list_unrefused<D: Desk>(
     requires unrefused { met_refusal (D.seen desk.old).creds met ≡ None }
     ensures goes { (path : NamePath) → ComesHere (D.seen desk.old) session.old path met.ino
         → Goes D.called D.seen desk.old session.old (AnyCall.List path from) (λ now. listing_at (D.seen desk.old).creds met) (try_ends result) (number_made result) desk.new session.new }
-    ensures busy { BusyAt (D.seen desk.old) session.old met.ino (try_ends result) }
+    ensures busy { BusyAt (D.seen desk.old) session.old met.ino GrantKind.Read (try_ends result) }
 {
     match take(session, desk, met, GrantKind::Read) {
         Ok(true) => list_taken(alloc, session, desk.creds(), met.ino, from),
@@ -105,23 +104,6 @@ fn refusal(creds: Creds, met: Met) -> Option<Reply>
     }
 }
 
-// the rights that the session shows of a directory give reading
-fn lets_read(session: &Session, creds: Creds, dir: u32) -> bool
-    ensures { result ≡ lets_read session.now creds dir }
-{
-    match session.body(dir) {
-        Some(body) => may(
-            creds,
-            Kind::Directory,
-            Mode(u16_in(body, 0)),
-            u32_in(body, 4),
-            u32_in(body, 8),
-            Need::Read,
-        ),
-        None => false,
-    }
-}
-
 // the names of a directory that is taken; only here are the root's rights sure to be known
 fn list_taken(
     alloc: Global,
@@ -134,7 +116,7 @@ fn list_taken(
     ensures kept { session.new ≡ record session.old { room = session.new.room } }
     ensures ends { MatchResult result (λ r. (r ≡ record { reply = list_reply creds session.old dir from; made = 0 }) × (length session.new.calls < session.new.room.calls)) (λ stop. stop ≡ Stop.NoMemory) }
 {
-    if !lets_read(session, creds, dir) {
+    if !allows(session, dir, Kind::Directory, creds, Need::Read) {
         return noted_reply(session, Reply::Denied);
     }
     match names_at(alloc, session, dir, from) {

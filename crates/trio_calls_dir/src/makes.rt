@@ -1,8 +1,6 @@
 //! Empty files and directories are made.
 
-ghost use Rattle.std.specs.Prelude.{◌≡◌, ◌≤◌, [], IsFalse, None, Some};
-ghost use Rattle.trio_layout.specs.Body.{body_of};
-ghost use Rattle.trio_layout.specs.declared.range.CoreRange.{CoreRange};
+ghost use Rattle.std.specs.Prelude.{◌≡◌, ◌≤◌, [], IsFalse, None};
 ghost use Rattle.trio_nodes.specs.Nodes.{find_named};
 ghost use Rattle.trio_nodes.specs.Walk.{is_root, name_of};
 ghost use Rattle.trio_session.specs.Seen.{IsOpenDir, place_shown};
@@ -13,14 +11,13 @@ ghost use Rattle.trio_walk.specs.Needs.{dir_needs};
 ghost use Rattle.trio_calls_dir.specs.inner.Goes.{Goes, making, number_made, try_ends};
 ghost use Rattle.trio_walk.specs.Asks.{IsNotBusy};
 ghost use Rattle.trio_walk.specs.Tries.{OthersHold, HasNothing};
-ghost use Rattle.trio_session.specs.Deeds.{new_body};
 
 use crate::paths::{name_of, parent};
 use crate::replies::{Replied, noted_reply, stopped, unmade};
 use crate::rooms::make_room;
 use std::alloc::Global;
+use trio_deeds::make_file;
 use trio_desk::Desk;
-use trio_layout::Body;
 use trio_names::Path;
 use trio_nodes::{Answer, Call, Reply};
 use trio_rights::{Kind, Mode};
@@ -79,36 +76,14 @@ fn make_in<D: Desk>(
     ensures idle { IsNotBusy (try_ends result) }
 {
     let creds = desk.creds();
-    let body = new_body(creds.uid, creds.gid, mode);
     match make_room(session, desk, dir, 1) {
-        Ok(()) => match session.spare_ino() {
-            Some(ino) => {
-                session.fill(dir, name_of(path), ino, kind, &body);
-                Ok(Replied {
-                    reply: Reply::Ok(Answer::Done),
-                    made: ino,
-                })
-            }
-            None => unreachable!(),
-        },
+        Ok(()) => {
+            let made = make_file(session, dir, name_of(path), kind, creds, mode);
+            Ok(Replied {
+                reply: Reply::Ok(Answer::Done),
+                made,
+            })
+        }
         Err(fault) => unmade(fault),
     }
-}
-
-// the body of a new file: without pages
-fn new_body(uid: u32, gid: u32, mode: Mode) -> [u8; 64]
-    requires { mode.0 ≤ 511 }
-    ensures body { result ≡ new_body (record { uid = uid; gid = gid }) mode }
-    ensures read { (kind : Kind) (range : CoreRange) → body_of kind range result ≡ Some (record { mode = mode; uid = uid; gid = gid; head = 0; size = 0 }) }
-{
-    let mut bytes = [0; 64];
-    Body {
-        mode,
-        uid,
-        gid,
-        head: 0,
-        size: 0,
-    }
-    .write(&mut bytes);
-    bytes
 }

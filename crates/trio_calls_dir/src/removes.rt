@@ -9,8 +9,8 @@ ghost use Rattle.trio_laws.specs.session.DirCalls.{ComesInto};
 ghost use Rattle.trio_nodes.specs.Nodes.{find_named};
 ghost use Rattle.trio_walk.specs.Needs.{dir_needs, named_needs, removing_needs};
 ghost use Rattle.trio_calls_dir.specs.inner.Goes.{Goes, number_made, removing, try_ends};
-ghost use Rattle.trio_walk.specs.Tries.{OthersHold, HasNothing};
-ghost use Rattle.trio_calls_dir.specs.inner.Removes.{HoldBusyAt, other_kind};
+ghost use Rattle.trio_walk.specs.Tries.{BusyAt, OthersHold, HasNothing};
+ghost use Rattle.trio_calls_dir.specs.inner.Removes.{other_kind};
 ghost use Rattle.trio_session.specs.Asked.{IsAlike};
 
 use crate::paths::{name_of, parent};
@@ -83,7 +83,7 @@ fn remove_in<D: Desk>(
     requires met { HasMet (D.seen desk.old) session.old file }
     requires named { InAllShown (D.seen desk.old) session.old (λ now. find_named now dir (name_of path.now) ≡ Some file.ino) }
     ensures goes { Goes D.called D.seen desk.old session.old call.now (λ now. named_needs now dir (name_of path.now) (removing_needs file.kind)) (try_ends result) (number_made result) desk.new session.new }
-    ensures others { HoldBusyAt (D.seen desk.old) session.old file.ino (try_ends result) }
+    ensures others { BusyAt (D.seen desk.old) session.old file.ino GrantKind.Hold (try_ends result) }
 {
     match take(session, desk, file, GrantKind::Hold) {
         Ok(true) => match session.children(file.ino) {

@@ -1,10 +1,10 @@
 -- A try after its file was taken: what comes then is added to what was given.
-use Rattle.trio_calls_file.proofs.Words.{◌++◌, ◌∙◌, ◌≡◌, Ask, AskedBy, Bool, Busy, Call, Chmod, Create, Denied, DeskSeen, Exists, Goes, In-cases, InAllShown, IntoItself, IsAlike, IsDir, IsReplied, LeavesHere, List, ListNames, Mkdir, NoInodes, NoMemory, NoSpace, Nodes, NotDir, NotEmpty, NotFound, Outcome, Read, Rename, Replied, Rmdir, SessionSeen, Stat, Told, TooLarge, Truncate, Unlink, Went, Write, [], alike_then, ap, append-nil, append_assoc, batch_nodes, body_in, both_then, cond, edited, eqb, false, inl, inr, map, map-append, new_length, put, put_alike, size_in, sized, subst, sym, took, true, ℕ}
+use Rattle.trio_calls_file.proofs.Words.{◌++◌, ◌∙◌, ◌≡◌, Ask, AskedBy, Bool, Call, Chmod, Create, DeskSeen, Goes, InAllShown, IsAlike, LeavesHere, List, ListNames, Mkdir, Nodes, Outcome, Read, Rename, Rmdir, SessionSeen, Stat, Told, Truncate, Unlink, Went, Write, [], ap, append_assoc, batch_nodes, body_in, both_then, cond, edited, eqb, false, map, map-append, new_length, put, put_alike, size_in, sized, subst, sym, took, true, ℕ}
 use Rattle.std.specs.Prelude.{length}
 use Rattle.trio_desk.specs.Calls as desk_calls
-use Rattle.trio_desk.specs.Calls.{Calls}
-use Rattle.trio_session.proofs.Alike.{took_more, took_alike, same_then, same_back}
-use Rattle.trio_walk.proofs.Then.{possible_then, calls_then, asked_behind}
+use Rattle.trio_session.proofs.Alike.{took_more, took_alike}
+use Rattle.trio_walk.proofs.Then.{asked_behind}
+use Rattle.trio_walk.proofs.Ways.{leaves_alike, passes_then}
 use Rattle.trio_session.proofs.Others.{sized_alike}
 
 -- ---- edits go by neither indexes nor room
@@ -34,21 +34,6 @@ edited_alike (Rename from to) ino x y e = e
 edited_alike (ListNames path from) ino x y e = e
 edited_alike (Chmod path mode) ino x y e = e
 
-pub leaves_alike : (call : Call) (ino : ℕ) (x y s' : SessionSeen) (end : Outcome) → IsAlike x y → LeavesHere call ino y end s' → LeavesHere call ino x end s'
-leaves_alike call ino x y s' (Replied (IsReplied answer)) e h = alike_then (edited call ino x) (edited call ino y) s' (edited_alike call ino x y e) h
-leaves_alike call ino x y s' (Replied NotFound) e h = alike_then x y s' e h
-leaves_alike call ino x y s' (Replied Exists) e h = alike_then x y s' e h
-leaves_alike call ino x y s' (Replied NotDir) e h = alike_then x y s' e h
-leaves_alike call ino x y s' (Replied IsDir) e h = alike_then x y s' e h
-leaves_alike call ino x y s' (Replied NotEmpty) e h = alike_then x y s' e h
-leaves_alike call ino x y s' (Replied Denied) e h = alike_then x y s' e h
-leaves_alike call ino x y s' (Replied IntoItself) e h = alike_then x y s' e h
-leaves_alike call ino x y s' (Replied (NoSpace w f)) e h = alike_then x y s' e h
-leaves_alike call ino x y s' (Replied (NoInodes w f)) e h = alike_then x y s' e h
-leaves_alike call ino x y s' (Replied TooLarge) e h = alike_then x y s' e h
-leaves_alike call ino x y s' (Busy holder) e h = alike_then x y s' e h
-leaves_alike call ino x y s' NoMemory e h = alike_then x y s' e h
-
 -- ---- the whole
 
 module _ {D : Type 0} (called : D → Ask → Told → D → Type 0) (seen : D → DeskSeen) (d d1 d' : D) (s s1 s' : SessionSeen) (call : Call) (ino : ℕ) (given : List desk_calls.Call) (went : Went called seen d s given [] d1 s1) (end : Outcome) (wants0 wants1 : Nodes → List Ask)
@@ -59,28 +44,21 @@ module _ {D : Type 0} (called : D → Ask → Told → D → Type 0) (seen : D �
       let ask : desk_calls.Call → Ask = λ c. c.ask in
       let told : desk_calls.Call → Told = λ c. c.told in
       let all : List desk_calls.Call = given ++ goes.given in
-      let regroup : given ++ (goes.given ++ goes.last) ≡ all ++ goes.last = sym (append_assoc given goes.given goes.last) in
-      let at_end = both_then (seen d1) (seen d') s1 s' (λ nodes now. wants0 now ≡ map ask given ++ wants1 now) goes.same goes.more goes.calls wanted in
+      let at_end = both_then (seen d1) (seen d') s1 s' (λ nodes now. wants0 now ≡ map ask given ++ wants1 now) goes.passes.same goes.passes.more goes.passes.calls wanted in
       let first : SessionSeen = took s (map told given) in
       let tolds : took s (map told all) ≡ took first (map told goes.given) = ap (took s) (map-append told given goes.given) ∙ took_more s (map told given) (map told goes.given) in
       record {
         given = given ++ goes.given;
         last = goes.last;
-        each = λ c i. elim (In-cases c given goes.given i) [ inl a ↦ went.each c a | inr b ↦ goes.each c b ];
-        made = subst (λ cs. Calls called d cs d') regroup (calls_then called d d1 d' given (goes.given ++ goes.last) (subst (λ cs. Calls called d cs d1) (append-nil given) went.made) goes.made);
+        passes = passes_then called seen d s d1 d' s1 s' given goes.given goes.last went.passes goes.passes;
         ends = goes.ends;
         leaves =
             subst (λ x. LeavesHere call ino x end s') (sym tolds)
-            (leaves_alike call ino (took first (map told goes.given)) (took s1 (map told goes.given)) s' end (took_alike first s1 (map told goes.given) went.alike) goes.leaves);
-        calls = goes.calls ∙ went.calls;
-        same = same_then (seen d) (seen d1) (seen d') went.same goes.same;
+            (leaves_alike (edited call ino) (edited_alike call ino) (took first (map told goes.given)) (took s1 (map told goes.given)) s' end (took_alike first s1 (map told goes.given) went.alike) goes.leaves);
         asks = λ nodes rows p.
             let now : Nodes = batch_nodes (seen d').creds s'.calls nodes in
             let a = asked_behind end (map ask given) (map ask (goes.given ++ goes.last)) (wants1 now) (goes.asks nodes rows p) in
-            let these : map ask given ++ map ask (goes.given ++ goes.last) ≡ map ask (all ++ goes.last) = sym (map-append ask given (goes.given ++ goes.last)) ∙ ap (map ask) regroup in
+            let these : map ask given ++ map ask (goes.given ++ goes.last) ≡ map ask (all ++ goes.last) = sym (map-append ask given (goes.given ++ goes.last)) ∙ ap (map ask) (sym (append_assoc given goes.given goes.last)) in
             subst (λ l. AskedBy end l (wants0 now)) these (subst (λ l. AskedBy end (map ask given ++ map ask (goes.given ++ goes.last)) l) (sym (at_end nodes rows p)) a);
-        more = λ nodes rows p.
-            let q = goes.more nodes rows p in
-            possible_then (seen d') (seen d1) s (same_back (seen d1) (seen d') goes.same) nodes rows (went.more nodes rows (possible_then (seen d1) (seen d') s1 goes.same nodes rows q));
         after = goes.after;
       }

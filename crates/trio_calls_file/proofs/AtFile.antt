@@ -1,14 +1,19 @@
 -- A call at the file to which its walk came.
-use Rattle.trio_calls_file.proofs.Words.{◌++◌, ◌+◌, ◌-◌, ◌/◌, ◌<◌, ◌∙◌, ◌∷◌, ◌≡◌, ◌≢◌, ArePossible, AreWithinLimits, Ask, Bool, BusyAt, Call, Chmod, ComesHere, Create, Creds, Denied, DeniedGrant, DeskSeen, Directory, DoesCall, Err, Goes, Grant, GrantKind, HasMet, HasRights, InAllShown, InBoth, IsAlike, IsBusy, IsDir, IsFileCall, IsHad, Kind, LacksMemory, List, ListNames, MatchResult, MayCall, MayTake, Met, Mkdir, NoMemory, Node, Nodes, None, NotLent, Ok, Option, Outcome, Path, Read, ReadGrant, Regular, Rename, Replied, Reply, Result, Rmdir, Row, SessionSeen, Some, Stat, Stop, ToRead, Told, TookFile, Truncate, Unlink, Unrefused, Went, Write, WriteGrant, [], alike_room, allot_asks, ap, append-nil, append_assoc, applied, arith, asks_at, batch_nodes, bytes_refusal, checked, cond, false, gives, gives_met, grant_for, growth_of, in_hand, inr, is_done, kind_shown, largest_size, leb, length, map, need_for, node_at, not, one_ask, path_of, refl, refusal_at, refused_by_check, sees_root, shown_by, subst, sym, true, try_ends, walk, walked_growth, wanted_pages, wants_pages_for, ℕ}
+use Rattle.trio_calls_file.proofs.Words.{◌++◌, ◌+◌, ◌-◌, ◌/◌, ◌<◌, ◌∙◌, ◌∷◌, ◌≡◌, ◌≢◌, ArePossible, AreWithinLimits, Ask, Bool, Busy, Call, CallBusyAt, Chmod, ComesHere, Create, Creds, Denied, DeniedGrant, DeskSeen, Directory, DoesCall, Err, Goes, Grant, HasMet, HasRights, InAllShown, InBoth, IsAlike, IsDir, IsFileCall, HasNoMemory, Holder, IsHad, Kind, LacksMemory, Lease, List, ListNames, MatchResult, MayCall, MayTake, Met, Mkdir, Needed, NoMemory, Node, Nodes, None, NotLent, Ok, Option, Outcome, Path, Read, ReadGrant, Regular, Rename, Replied, Reply, Result, Rmdir, Row, SessionSeen, Some, Stat, Stop, ToRead, Told, Took, Truncate, Unlink, Way, Went, Write, WriteGrant, [], alike_room, allot_asks, ap, append-nil, append_assoc, applied, arith, asks_at, asks_lent, batch_nodes, both_then, bytes_refusal, checked, cond, false, gives, gives_met, grant_ask, grant_for, growth_of, in_hand, inr, is_done, kind_shown, largest_size, leb, length, lent_call, map, map-append, may_alike, need_for, need_of, node_at, not, path_of, refl, refusal_at, refused_by_check, sees_root, shown_by, subst, sym, true, try_ends, walk, walked_growth, wanted_pages, wants_pages_for, ℕ}
 use Rattle.trio_nodes.specs.declared.grant.GrantKind.TheVariants.{Hold as HoldGrant}
 use Rattle.trio_desk.specs.Calls as desk_calls
 use Rattle.trio_desk.specs.Contents.{Sizes}
-use Rattle.trio_walk.specs.declared.met.Rights as shown_rights
+use Rattle.trio_walk.specs.declared.walks.WalkEnd.TheVariants.{Busy as IsBusyWalk}
+use Rattle.std.proofs.lemmas.Bool.{not-true}
 use Rattle.trio_walk.specs.Walks.{denies}
 use Rattle.trio_calls_file.proofs.AfterTaking.{goes_on}
-use Rattle.trio_calls_file.proofs.Checking.{asks_none, asks_own, known_unrefused, refused_at, refuses_call, root_kind}
-use Rattle.trio_calls_file.proofs.Looked.{IsLook, look_goes, may_looked, refused_look, refused_undone}
-use Rattle.trio_calls_file.proofs.Shown.{both_alike, both_went, met_went, stood, went_alike}
+use Rattle.trio_calls_file.proofs.Checking.{asks_none, asks_own, refused_at, refuses_call, root_kind}
+use Rattle.trio_calls_file.proofs.Looked.{look_goes, may_looked, refused_look, refused_undone}
+use Rattle.trio_calls_file.proofs.Alike.{both_alike}
+use Rattle.trio_calls_file.proofs.Walkable.{way_may}
+use Rattle.trio_walk.proofs.Meeting.{met_still}
+use Rattle.trio_walk.proofs.Stops.{short_walk, way_asks}
+use Rattle.trio_walk.proofs.Ways.{took_busy, way_calls, way_more, way_same, way_went, went_alike, went_none}
 use Rattle.trio_edit_laws.proofs.Had.{had_served}
 
 -- ---- what no check refuses
@@ -70,6 +75,13 @@ look_pages creds call now look = by (is_done (applied now creds call 0).reply) (
     by true (Err reply) = refl
     by false r = refl
 
+-- the walk comes there behind a taking too
+comes_behind : {D : Type 0} (called : D → Ask → Told → D → Type 0) (seen : D → DeskSeen) (d : D) (s : SessionSeen) (call : Call) (m : Met) → ComesHere (seen d) s (path_of call) m.ino → (d1 : D) (s1 : SessionSeen) (more : List Lease) (last : List desk_calls.Call)
+    → Way called seen d s more last d1 s1 → ComesHere (seen d1) s1 (path_of call) m.ino
+comes_behind called seen d s call m comes d1 s1 more last way =
+    subst (λ (k : Creds). InBoth (seen d1) s1 (λ nodes now. walk now k [] (path_of call) ≡ Ok m.ino)) (sym way.creds)
+    (both_then (seen d) (seen d1) s s1 (λ nodes now. walk now (seen d).creds [] (path_of call) ≡ Ok m.ino) (way_same called seen d s more last d1 s1 way) (way_more called seen d s more last d1 s1 way) (way_calls called seen d s more last d1 s1 way) comes)
+
 module _ {D : Type 0} (called : D → Ask → Told → D → Type 0) (seen : D → DeskSeen) (d : D) (s : SessionSeen) (call : Call) (m : Met) (may : MayCall (seen d) s) (met : HasMet (seen d) s m) (comes : ComesHere (seen d) s (path_of call) m.ino) (file : IsFileCall call) where
   abbrev asking : desk_calls.Call → Ask
   asking c = c.ask
@@ -84,107 +96,92 @@ module _ {D : Type 0} (called : D → Ask → Told → D → Type 0) (seen : D �
       let does : InAllShown (seen d) s (λ now. DoesCall (seen d) (record { call = call; reply = reply; made = 0 }) now now) = λ nodes rows p. refuses_call (seen d) s call m may met comes file nodes rows p reply e in
       let none : InAllShown (seen d) s (λ now. asks_at (seen d).creds s m call now ≡ map asking []) =
       λ nodes rows p. asks_none (seen d).creds s m call (batch_nodes (seen d).creds s.calls nodes) reply e (refused_undone (seen d) call reply (batch_nodes (seen d).creds s.calls nodes) is (does nodes rows p)) in
-      look_goes called seen d s call m.ino (asks_at (seen d).creds s m call) [] d s s' (stood called seen d s may) none reply (refused_look call reply is) does kept result ends
+      look_goes called seen d s call m.ino (asks_at (seen d).creds s m call) [] d s s' (went_none called seen d s s refl) may none reply (refused_look call reply is) does kept result ends
 
   -- ---- the file is taken
 
   module _ (unchecked : checked (seen d).creds m call ≡ None) (d1 : D) (s1 : SessionSeen) where
-    -- what is wanted, while what is asked of the file was given
-    wanted_then : (given : List desk_calls.Call) → one_ask s m.ino (grant_for call) ≡ map asking given → Went called seen d s given [] d1 s1
-        → InAllShown (seen d1) s1 (λ now. asks_at (seen d).creds s m call now ≡ map asking given ++ wants_pages_for (seen d1).creds call now)
-    wanted_then given e went nodes rows p =
-        let now : Nodes = batch_nodes (seen d1).creds s1.calls nodes in
-        asks_own (seen d).creds s m call now unchecked
-        ∙ ap (λ l. l ++ allot_asks (wanted_pages now (seen d).creds call) 0) e
-        ∙ ap (λ k. map asking given ++ allot_asks (wanted_pages now k call) 0) (sym went.same.creds)
+    module _ (t : Took called seen d s m (grant_for call) (Ok true) d1 s1) where
+      went : Went called seen d s (map lent_call t.more) [] d1 s1
+      went = subst (λ l. Went called seen d s (map lent_call t.more) l d1 s1) t.taken.0 (way_went called seen d s t.more t.last d1 s1 t.way)
 
-    module _ (took_it : TookFile called seen d s m (grant_for call) (Ok true) d1 s1) where
-      pub went_alone : Went called seen d s took_it.given [] d1 s1
-      went_alone = subst (λ l. Went called seen d s took_it.given l d1 s1) took_it.taken.0 took_it.went
+      pub taken_may : MayCall (seen d1) s1
+      taken_may = way_may called seen d s t.more t.last d1 s1 may t.way t.may
 
       pub taken_limits : AreWithinLimits (seen d).sizes → AreWithinLimits (seen d1).sizes
-      taken_limits l = subst (λ (z : Sizes). AreWithinLimits z) (sym took_it.went.same.sizes) l
+      taken_limits l = subst (λ (z : Sizes). AreWithinLimits z) (sym t.way.sizes) l
 
       pub taken_had : AreWithinLimits (seen d).sizes → IsHad s1 m.ino
-      taken_had l = had_served (seen d1) s1 m.ino took_it.went.may.edits (taken_limits l) (grant_for call) (not_held call) took_it.taken.2
+      taken_had l = had_served (seen d1) s1 m.ino taken_may.edits (taken_limits l) (grant_for call) (not_held call) t.taken.2.served
 
       pub taken_kind : kind_shown s1 m.ino ≡ Some m.kind
-      taken_kind = took_it.taken.3 (not_held call)
+      taken_kind = t.taken.2.of_kind (not_held call)
 
       -- what was met is met still, and the walk comes there
-      pub met_still : HasMet (seen d1) s1 m
-      met_still = met_went called seen d s took_it.given took_it.last d1 s1 took_it.went m met
+      pub taken_met : HasMet (seen d1) s1 m
+      taken_met = (met.0, met_still (seen d) (seen d1) s s1 t.more t.way.took t.way.sizes t.way.root t.way.creds met.0 m met.1)
 
       pub comes_still : ComesHere (seen d1) s1 (path_of call) m.ino
-      comes_still =
-          let h = both_went called seen d s took_it.given took_it.last d1 s1 took_it.went (λ nodes now. walk now (seen d).creds [] (path_of call) ≡ Ok m.ino) comes in
-          subst (λ (k : Creds). InBoth (seen d1) s1 (λ nodes now. walk now k [] (path_of call) ≡ Ok m.ino)) (sym took_it.went.same.creds) h
+      comes_still = comes_behind called seen d s call m comes d1 s1 t.more t.last t.way
 
       pub unchecked_still : checked (seen d1).creds m call ≡ None
-      unchecked_still = ap (λ (k : Creds). checked k m call) took_it.went.same.creds ∙ unchecked
+      unchecked_still = ap (λ (k : Creds). checked k m call) t.way.creds ∙ unchecked
+
+      -- what is wanted, while what is asked of the file was given
+      wanted_then : InAllShown (seen d1) s1 (λ now. asks_at (seen d).creds s m call now ≡ map asking (map lent_call t.more) ++ wants_pages_for (seen d1).creds call now)
+      wanted_then nodes rows p =
+          let now : Nodes = batch_nodes (seen d1).creds s1.calls nodes in
+          asks_own (seen d).creds s m call now unchecked
+          ∙ ap (λ l. l ++ allot_asks (wanted_pages now (seen d).creds call) 0) (ap (map grant_ask) t.taken.1 ∙ asks_lent t.more)
+          ∙ ap (λ k. map asking (map lent_call t.more) ++ allot_asks (wanted_pages now k call) 0) (sym t.way.creds)
 
       -- what comes then, with the pages that it asks
       pub taken_goes : (end : Outcome) (d' : D) (s' : SessionSeen) → Goes called seen d1 s1 call m.ino (wants_pages_for (seen d1).creds call) end d' s' → Goes called seen d s call m.ino (asks_at (seen d).creds s m call) end d' s'
-      taken_goes end d' s' goes =
-          goes_on called seen d d1 d' s s1 s' call m.ino took_it.given went_alone end (asks_at (seen d).creds s m call) (wants_pages_for (seen d1).creds call)
-          (wanted_then took_it.given took_it.taken.1 went_alone) goes
-
-      -- where the rights are known no check refuses it
-      pub known_still : (r : shown_rights.Rights) → m.rights ≡ Some r → Unrefused (seen d1) s1 call m.ino
-      known_still r known nodes rows p = known_unrefused (seen d1) s1 call m took_it.went.may met_still comes_still file nodes rows p r known unchecked_still
-
-      -- a look of the file as it is had then
-      pub looked_goes : IsLooking call → (reply : Reply) → IsLook call reply → InAllShown (seen d1) s1 (λ now. DoesCall (seen d1) (record { call = call; reply = reply; made = 0 }) now now)
-          → (s' : SessionSeen) → s' ≡ record s1 { room = s'.room } → (result : Result Reply Stop)
-          → MatchResult result (λ r. (r ≡ reply) × (length s'.calls < s'.room.calls)) (λ stop. stop ≡ LacksMemory)
-          → Goes called seen d s call m.ino (asks_at (seen d).creds s m call) (try_ends result) d1 s'
-      looked_goes looking reply look does s' kept result ends =
-          look_goes called seen d s call m.ino (asks_at (seen d).creds s m call) took_it.given d1 s1 s' went_alone
-          (λ nodes rows p.
-          wanted_then took_it.given took_it.taken.1 went_alone nodes rows p
-          ∙ ap (λ l. map asking took_it.given ++ l) (look_pages (seen d1).creds call (batch_nodes (seen d1).creds s1.calls nodes) looking) ∙ append-nil (map asking took_it.given))
-          reply look does kept result ends
+      taken_goes end d' s' goes = goes_on called seen d d1 d' s s1 s' call m.ino (map lent_call t.more) went end (asks_at (seen d).creds s m call) (wants_pages_for (seen d1).creds call) wanted_then goes
 
     -- ---- it isn't
 
-    -- a try whose file is busy, or for which there was no memory
-    pub stopped_goes : (stop : Stop) → TookFile called seen d s m (grant_for call) (Err stop) d1 s1 → Goes called seen d s call m.ino (asks_at (seen d).creds s m call) (try_ends (Err stop)) d1 s1
-    stopped_goes (IsBusy holder) t = record {
-      given = t.given;
-      last = t.last;
-      each = t.went.each;
-      made = t.went.made;
-      ends = (m.ino, grant_for call, t.taken.1);
-      leaves = t.went.alike;
-      calls = t.went.calls;
-      same = t.went.same;
-      asks = λ nodes rows p.
-          let now : Nodes = batch_nodes (seen d1).creds s1.calls nodes in (
-            allot_asks (wanted_pages now (seen d).creds call) 0,
-            asks_own (seen d).creds s m call now unchecked
-                ∙ ap (λ l. l ++ allot_asks (wanted_pages now (seen d).creds call) 0) (t.taken.2 ∙ sym (ap (map asking) (ap (λ g. g ++ t.last) t.taken.0 ∙ t.taken.1))),
-          );
-      more = t.went.more;
-      after = t.went.may;
-    }
-    stopped_goes LacksMemory t = record {
-      given = t.given;
-      last = t.last;
-      each = t.went.each;
-      made = t.went.made;
-      ends = t.taken.0;
-      leaves = t.went.alike;
-      calls = t.went.calls;
-      same = t.went.same;
-      asks = λ nodes rows p.
-          let now : Nodes = batch_nodes (seen d1).creds s1.calls nodes in (
-            t.taken.1.0 ++ allot_asks (wanted_pages now (seen d).creds call) 0,
-            asks_own (seen d).creds s m call now unchecked
-                ∙ ap (λ l. l ++ allot_asks (wanted_pages now (seen d).creds call) 0) t.taken.1.1 ∙ append_assoc (map asking (t.given ++ t.last)) t.taken.1.0 (allot_asks (wanted_pages now (seen d).creds call) 0),
-          );
-      more = t.went.more;
-      after = t.went.may;
-    }
+    -- a try whose file is busy
+    pub busy_goes : (holder : Holder) → Took called seen d s m (grant_for call) (Err (IsBusyWalk holder)) d1 s1 → Goes called seen d s call m.ino (asks_at (seen d).creds s m call) (Busy holder) d1 s1
+    busy_goes holder t =
+        let went : Went called seen d s (map lent_call t.more) t.last d1 s1 = way_went called seen d s t.more t.last d1 s1 t.way in
+        record {
+          given = map lent_call t.more;
+          last = t.last;
+          passes = went.passes;
+          ends = (m.ino, grant_for call, t.taken.1);
+          leaves = went.alike;
+          asks = λ nodes rows p.
+              let now : Nodes = batch_nodes (seen d1).creds s1.calls nodes in (
+                allot_asks (wanted_pages now (seen d).creds call) 0,
+                asks_own (seen d).creds s m call now unchecked
+                    ∙ ap (λ l. l ++ allot_asks (wanted_pages now (seen d).creds call) 0) (ap (map grant_ask) t.taken.2 ∙ sym (ap (map asking) (ap (λ (ls : List Lease). map lent_call ls ++ t.last) t.taken.0 ∙ t.taken.1))),
+              );
+          after = way_may called seen d s t.more t.last d1 s1 may t.way t.may;
+        }
+
+    -- or for which there was no memory
+    pub short_goes : Took called seen d s m (grant_for call) (Err HasNoMemory) d1 s1 → Goes called seen d s call m.ino (asks_at (seen d).creds s m call) NoMemory d1 s1
+    short_goes t =
+        let went : Went called seen d s (map lent_call t.more) t.last d1 s1 = way_went called seen d s t.more t.last d1 s1 t.way in
+        let these : List Needed = map need_of t.more ++ t.taken.0 in
+        let rest : List Needed = t.taken.1 in
+        record {
+          given = map lent_call t.more;
+          last = t.last;
+          passes = went.passes;
+          ends = short_walk t.last t.taken.0 t.taken.2;
+          leaves = went.alike;
+          asks = λ nodes rows p.
+              let now : Nodes = batch_nodes (seen d1).creds s1.calls nodes in
+              let pages : List Ask = allot_asks (wanted_pages now (seen d).creds call) 0 in (
+                map grant_ask rest ++ pages,
+                asks_own (seen d).creds s m call now unchecked
+                    ∙ ap (λ l. l ++ pages) (ap (map grant_ask) t.taken.3 ∙ map-append grant_ask these rest ∙ ap (λ l. l ++ map grant_ask rest) (way_asks HasNoMemory t.more t.last t.taken.0 t.taken.2))
+                    ∙ append_assoc (map asking (map lent_call t.more ++ t.last)) (map grant_ask rest) pages,
+              );
+          after = way_may called seen d s t.more t.last d1 s1 may t.way t.may;
+        }
 
 -- ---- the root denies its grant
 
@@ -201,19 +198,19 @@ only_stat g (Rename from to) file e = absurd file
 only_stat g (ListNames path from) file e = absurd file
 only_stat g (Chmod path mode) file e = absurd file
 
-not-true : (b : Bool) → not b ≡ true → b ≡ false
-not-true false e = refl
-not-true true e = sym e
-
-module _ {D : Type 0} (called : D → Ask → Told → D → Type 0) (seen : D → DeskSeen) (d : D) (s : SessionSeen) (call : Call) (m : Met) (met : HasMet (seen d) s m) (comes : ComesHere (seen d) s (path_of call) m.ino)
-    (file : IsFileCall call) (unchecked : checked (seen d).creds m call ≡ None) (d1 : D) (s1 : SessionSeen) (t : TookFile called seen d s m (grant_for call) (Ok false) d1 s1) where
+module _ {D : Type 0} (called : D → Ask → Told → D → Type 0) (seen : D → DeskSeen) (d : D) (s : SessionSeen) (call : Call) (m : Met) (may : MayCall (seen d) s) (met : HasMet (seen d) s m) (comes : ComesHere (seen d) s (path_of call) m.ino)
+    (file : IsFileCall call) (unchecked : checked (seen d).creds m call ≡ None) (d1 : D) (s1 : SessionSeen) (t : Took called seen d s m (grant_for call) (Ok false) d1 s1) where
   abbrev denial : desk_calls.Call
   denial = record { ask = Grant 1 (grant_for call); told = NotLent (DeniedGrant 1) }
 
+  abbrev given : List desk_calls.Call
+  given = map lent_call t.more
+
   comes_then : ComesHere (seen d1) s1 (path_of call) m.ino
-  comes_then =
-      let h = both_went called seen d s t.given t.last d1 s1 t.went (λ nodes now. walk now (seen d).creds [] (path_of call) ≡ Ok m.ino) comes in
-      subst (λ (k : Creds). InBoth (seen d1) s1 (λ nodes now. walk now k [] (path_of call) ≡ Ok m.ino)) (sym t.went.same.creds) h
+  comes_then = comes_behind called seen d s call m comes d1 s1 t.more t.last t.way
+
+  may1 : MayCall (seen d1) s1
+  may1 = way_may called seen d s t.more t.last d1 s1 may t.way t.may
 
   module _ (nodes : Nodes) (rows : List (Option Row)) (p : ArePossible (seen d1) s1.parcel s1.reads nodes rows) where
     abbrev now : Nodes
@@ -222,19 +219,19 @@ module _ {D : Type 0} (called : D → Ask → Told → D → Type 0) (seen : D �
     -- only a stat comes so far with a directory
     denied_stat : (path : Path) × (call ≡ Stat path)
     denied_stat =
-        let kind = root_kind (seen d1) s1 call m t.went.may (met_went called seen d s t.given t.last d1 s1 t.went m met) comes_then file nodes rows p t.taken.4 in
+        let kind = root_kind (seen d1) s1 call m may1 (met.0, met_still (seen d) (seen d1) s s1 t.more t.way.took t.way.sizes t.way.root t.way.creds met.0 m met.1) comes_then file nodes rows p t.taken.4 in
         only_stat (gives_met (seen d).creds m (need_for call)) call file (ap (λ k. refusal_at k (gives_met (seen d).creds m (need_for call)) call) (sym kind) ∙ unchecked)
 
     -- of it that is the check of the root's rights, of which it was not known before
     denied_here : (path : Path) → call ≡ Stat path → DoesCall (seen d1) (record { call = Stat path; reply = Denied; made = 0 }) (batch_nodes (seen d1).creds s1.calls nodes) (batch_nodes (seen d1).creds s1.calls nodes)
     denied_here path is =
-        let k : MayCall (seen d1) s1 = t.went.may in
+        let k : MayCall (seen d1) s1 = may1 in
         let shows = shown_by (seen d1) (in_hand s1) (in_hand s1) s1.calls nodes rows (λ n r q. q) k.comes p in
         let root = sees_root (seen d1) (in_hand s1) (in_hand s1) nodes now rows (record { order = k.edits.order; more = λ n r q. q; shows = shows }) in
         let there : HasRights (seen d1).root (node_at now m.ino) = subst (λ n. HasRights (seen d1).root (node_at now n)) (sym t.taken.3) root in
         let denied : denies (seen d).creds (seen d).root ReadGrant ≡ true = subst (λ c. denies (seen d).creds (seen d).root (grant_for c) ≡ true) is t.taken.5 in
         let lacks : gives (seen d1).creds ToRead (seen d1).root ≡ false =
-        ap (λ (c : Creds). gives c ToRead (seen d1).root) t.went.same.creds ∙ ap (λ r. gives (seen d).creds ToRead r) t.went.same.root ∙ not-true (gives (seen d).creds ToRead (seen d).root) denied in
+        ap (λ (c : Creds). gives c ToRead (seen d1).root) t.way.creds ∙ ap (λ r. gives (seen d).creds ToRead r) t.way.root ∙ not-true (gives (seen d).creds ToRead (seen d).root) denied in
         let here : walk now (seen d1).creds [] path ≡ Ok m.ino = subst (λ c. walk (batch_nodes (seen d1).creds s1.calls nodes) (seen d1).creds [] (path_of c) ≡ Ok m.ino) is (comes_then nodes rows p) in
         refused_by_check (seen d1) (record { call = Stat path; reply = Denied; made = 0 }) now path m.ino (seen d1).root refl here there (ap (λ b. cond (not b) (Some Denied) None) lacks) refl
 
@@ -243,15 +240,15 @@ module _ {D : Type 0} (called : D → Ask → Told → D → Type 0) (seen : D �
         let stat = denied_stat in
         subst (λ (c : Call). DoesCall (seen d1) (record { call = c; reply = Denied; made = 0 }) (batch_nodes (seen d1).creds s1.calls nodes) (batch_nodes (seen d1).creds s1.calls nodes)) (sym stat.1) (denied_here stat.0 stat.1)
 
-    denied_asks : asks_at (seen d).creds s m call (batch_nodes (seen d1).creds s1.calls nodes) ≡ map (λ (c : desk_calls.Call). c.ask) (t.given ++ t.last)
+    denied_asks : asks_at (seen d).creds s m call (batch_nodes (seen d1).creds s1.calls nodes) ≡ map (λ (c : desk_calls.Call). c.ask) (map lent_call t.more ++ t.last)
     denied_asks =
         let stat = denied_stat in
         let none : allot_asks (wanted_pages now (seen d).creds call) 0 ≡ [] =
         ap (λ c. allot_asks (wanted_pages now (seen d).creds c) 0) stat.1 ∙ look_pages (seen d).creds (Stat stat.0) now tt in
         asks_own (seen d).creds s m call now unchecked
-        ∙ ap (λ l. l ++ allot_asks (wanted_pages now (seen d).creds call) 0) t.taken.2
+        ∙ ap (λ l. map grant_ask l ++ allot_asks (wanted_pages now (seen d).creds call) 0) t.taken.2
         ∙ ap (λ l. Grant 1 (grant_for call) ∷ l) none
-        ∙ sym (ap (map (λ (c : desk_calls.Call). c.ask)) (ap (λ g. g ++ t.last) t.taken.0 ∙ t.taken.1))
+        ∙ sym (ap (map (λ (c : desk_calls.Call). c.ask)) (ap (λ (ls : List Lease). map lent_call ls ++ t.last) t.taken.0 ∙ t.taken.1))
 
   pub root_denied_goes : (s' : SessionSeen) → s' ≡ record s1 { room = s'.room } → (result : Result Reply Stop)
       → MatchResult result (λ r. (r ≡ Denied) × (length s'.calls < s'.room.calls)) (λ stop. stop ≡ LacksMemory)
@@ -261,43 +258,38 @@ module _ {D : Type 0} (called : D → Ask → Told → D → Type 0) (seen : D �
       e : IsAlike s1 s'
       e = alike_room s1 s' kept
 
-      went : Went called seen d s t.given t.last d1 s'
-      went = went_alike called seen d s t.given t.last d1 s1 t.went s' e
+      went : Went called seen d s (map lent_call t.more) t.last d1 s'
+      went = went_alike called seen d s (map lent_call t.more) t.last d1 s1 s' e (way_went called seen d s t.more t.last d1 s1 t.way)
+
+      may' : MayCall (seen d1) s'
+      may' = may_alike (seen d1) s1 s' e may1
 
       does : InAllShown (seen d1) s' (λ now. DoesCall (seen d1) (record { call = call; reply = Denied; made = 0 }) now now)
       does = both_alike (seen d1) s1 s' (λ nodes x. DoesCall (seen d1) (record { call = call; reply = Denied; made = 0 }) x x) e denied_does
 
-      asks : InAllShown (seen d1) s' (λ now. asks_at (seen d).creds s m call now ≡ map (λ (c : desk_calls.Call). c.ask) (t.given ++ t.last))
-      asks = both_alike (seen d1) s1 s' (λ nodes x. asks_at (seen d).creds s m call x ≡ map (λ (c : desk_calls.Call). c.ask) (t.given ++ t.last)) e denied_asks
+      asks : InAllShown (seen d1) s' (λ now. asks_at (seen d).creds s m call now ≡ map (λ (c : desk_calls.Call). c.ask) (map lent_call t.more ++ t.last))
+      asks = both_alike (seen d1) s1 s' (λ nodes x. asks_at (seen d).creds s m call x ≡ map (λ (c : desk_calls.Call). c.ask) (map lent_call t.more ++ t.last)) e denied_asks
 
       replied : length s'.calls < s'.room.calls → Goes called seen d s call m.ino (asks_at (seen d).creds s m call) (Replied Denied) d1 s'
       replied room = record {
-        given = t.given;
+        given = given;
         last = t.last;
-        each = went.each;
-        made = went.made;
+        passes = went.passes;
         ends = inr (denial, t.taken.1, (grant_for call, refl));
         leaves = went.alike;
-        calls = went.calls;
-        same = went.same;
         asks = asks;
-        more = went.more;
-        after = (may_looked (seen d1) s' call Denied went.may does, room, tt, λ b. absurd b);
+        after = (may_looked (seen d1) s' call Denied may' does, room, tt, λ b. absurd b);
       }
 
       short : Goes called seen d s call m.ino (asks_at (seen d).creds s m call) NoMemory d1 s'
       short = record {
-        given = t.given;
+        given = given;
         last = t.last;
-        each = went.each;
-        made = went.made;
+        passes = went.passes;
         ends = inr (denial, t.taken.1, inr (grant_for call, refl));
         leaves = went.alike;
-        calls = went.calls;
-        same = went.same;
-        asks = λ nodes rows p. ([], asks nodes rows p ∙ sym (append-nil (map (λ (c : desk_calls.Call). c.ask) (t.given ++ t.last))));
-        more = went.more;
-        after = went.may;
+        asks = λ nodes rows p. ([], asks nodes rows p ∙ sym (append-nil (map (λ (c : desk_calls.Call). c.ask) (map lent_call t.more ++ t.last))));
+        after = may';
       }
 
       by : (result : Result Reply Stop) → MatchResult result (λ r. (r ≡ Denied) × (length s'.calls < s'.room.calls)) (λ stop. stop ≡ LacksMemory) → Goes called seen d s call m.ino (asks_at (seen d).creds s m call) (try_ends result) d1 s'
@@ -305,11 +297,6 @@ module _ {D : Type 0} (called : D → Ask → Told → D → Type 0) (seen : D �
       by (Err stop) h = subst (λ x. Goes called seen d s call m.ino (asks_at (seen d).creds s m call) (try_ends (Err x)) d1 s') (sym h) short
 
 -- ---- words
-
--- a file is taken for a call, whatever word says the kind of its grant
-pub took_for : {D : Type 0} (called : D → Ask → Told → D → Type 0) (seen : D → DeskSeen) (d : D) (s : SessionSeen) (call : Call) (m : Met) (kind : GrantKind) (result : Result Bool Stop) (d1 : D) (s1 : SessionSeen)
-    → kind ≡ grant_for call → TookFile called seen d s m kind result d1 s1 → TookFile called seen d s m (grant_for call) result d1 s1
-took_for called seen d s call m kind result d1 s1 e t = subst (λ k. TookFile called seen d s m k result d1 s1) e t
 
 -- a call that writes is of a regular file
 pub write_regular : (creds : Creds) (m : Met) (call : Call) → IsFileCall call → grant_for call ≡ WriteGrant → checked creds m call ≡ None → m.kind ≡ Regular
@@ -340,10 +327,9 @@ unread_regular creds m (ListNames path from) file w e = absurd file
 unread_regular creds m (Chmod path mode) file w e = absurd file
 
 -- a grant of the library's own that keeps a file busy is one of the session's
-pub busy_stopped : {D : Type 0} (called : D → Ask → Told → D → Type 0) (seen : D → DeskSeen) (d : D) (s : SessionSeen) (call : Call) (m : Met) (d1 : D) (s1 : SessionSeen) (stop : Stop)
-    → IsFileCall call → checked (seen d).creds m call ≡ None → TookFile called seen d s m (grant_for call) (Err stop) d1 s1 → BusyAt (seen d) s m call (try_ends (Err stop))
-busy_stopped called seen d s call m d1 s1 (IsBusy holder) file e t = λ mine. (t.taken.3 mine, λ writes. unread_regular (seen d).creds m call file writes e)
-busy_stopped called seen d s call m d1 s1 LacksMemory file e t = tt
+pub busy_stopped : {D : Type 0} (called : D → Ask → Told → D → Type 0) (seen : D → DeskSeen) (d : D) (s : SessionSeen) (call : Call) (m : Met) (d1 : D) (s1 : SessionSeen) (holder : Holder)
+    → MayCall (seen d) s → IsFileCall call → checked (seen d).creds m call ≡ None → Took called seen d s m (grant_for call) (Err (IsBusyWalk holder)) d1 s1 → CallBusyAt (seen d) s m call (Busy holder)
+busy_stopped called seen d s call m d1 s1 holder may file e t = λ mine. (took_busy called seen d s m (grant_for call) may.edits.on d1 s1 holder t mine, λ writes. unread_regular (seen d).creds m call file writes e)
 
 -- a call that no check refuses may take its file
 pub may_take : (desk : DeskSeen) (s : SessionSeen) (m : Met) (call : Call) → IsFileCall call → checked desk.creds m call ≡ None → MayTake desk s m (grant_for call)

@@ -3,12 +3,13 @@ use Rattle.trio_calls_file.proofs.Words.{◌<◌, ◌∙◌, ◌≡◌, ArePossi
 use Rattle.std.specs.Option.{option_or}
 use Rattle.trio_nodes.specs.declared.call.Answer.TheVariants.{Stat as IsStat}
 use Rattle.trio_laws.proofs.session.FileCalls.{stats_directory}
-use Rattle.trio_calls_file.specs.inner.Goes.{bytes_reply, size_had, stat_reply}
+use Rattle.trio_calls_file.specs.inner.Goes.{bytes_reply, stat_reply}
+use Rattle.trio_deeds.specs.Reads.{size_had}
 use Rattle.trio_calls_file.proofs.AtFile.{look_pages, write_regular}
 use Rattle.trio_calls_file.proofs.Checking.{regular_unrefused}
 use Rattle.trio_calls_file.proofs.Contents.{HadHere, had_count, had_here, had_length}
 use Rattle.trio_calls_file.proofs.Looked.{IsLook, look_goes, read_look, refused_look}
-use Rattle.trio_calls_file.proofs.Shown.{stood}
+use Rattle.trio_walk.proofs.Ways.{went_none}
 
 -- a regular file that is taken for writing is open
 pub open_served : (s : SessionSeen) (ino : ℕ) → serves s ino WriteGrant ≡ true → kind_shown s ino ≡ Some Regular → IsOpen s ino
@@ -58,7 +59,7 @@ module _ {D : Type 0} (called : D → Ask → Told → D → Type 0) (seen : D �
         → MatchResult result (λ r. (r ≡ bytes_reply s m.ino at len) × (length s'.calls < s'.room.calls)) (λ stop. stop ≡ LacksMemory)
         → Goes called seen d s (Read path at len) m.ino (wants_pages_for (seen d).creds (Read path at len)) (try_ends result) d s'
     read_goes s' kept result ends =
-        look_goes called seen d s (Read path at len) m.ino (wants_pages_for (seen d).creds (Read path at len)) [] d s s' (stood called seen d s may)
+        look_goes called seen d s (Read path at len) m.ino (wants_pages_for (seen d).creds (Read path at len)) [] d s s' (went_none called seen d s s refl) may
         (λ nodes rows p. look_pages (seen d).creds (Read path at len) (batch_nodes (seen d).creds s.calls nodes) tt)
         (bytes_reply s m.ino at len) (read_look path at len (take len (drop at (bytes_had s m.ino)))) read_does kept result ends
 
@@ -105,7 +106,7 @@ module _ {D : Type 0} (called : D → Ask → Told → D → Type 0) (seen : D �
         → MatchResult result (λ x. (x ≡ stat_reply (seen d).creds s m.ino m.kind) × (length s'.calls < s'.room.calls)) (λ stop. stop ≡ LacksMemory)
         → Goes called seen d s (Stat path) m.ino (wants_pages_for (seen d).creds (Stat path)) (try_ends result) d s'
     stat_goes s' kept result ends =
-        look_goes called seen d s (Stat path) m.ino (wants_pages_for (seen d).creds (Stat path)) [] d s s' (stood called seen d s may)
+        look_goes called seen d s (Stat path) m.ino (wants_pages_for (seen d).creds (Stat path)) [] d s s' (went_none called seen d s s refl) may
         (λ nodes rows p. look_pages (seen d).creds (Stat path) (batch_nodes (seen d).creds s.calls nodes) tt)
         (stat_reply (seen d).creds s m.ino m.kind) (stat_look (gives (seen d).creds ToRead (rights_in m.kind (body_had s m.ino))) (size_had s m.ino m.kind))
         (λ nodes rows p. by_gives nodes rows p (gives (seen d).creds ToRead (rights_in m.kind (body_had s m.ino))) refl) kept result ends

@@ -1,8 +1,9 @@
 -- What the checks of a call say of the nodes that are shown.
-use Rattle.trio_calls_file.proofs.Words.{◌++◌, ◌+◌, ◌∙◌, ◌∷◌, ◌≡◌, ArePossible, Bool, Call, Chmod, ComesHere, Create, Creds, Denied, DeskSeen, Directory, DoesCall, Grant, HasMet, HasRights, IsDir, IsFileCall, IsMet, Kind, List, ListNames, MayBeDone, MayCall, Met, Mkdir, Needed, Nodes, None, Option, Read, Regular, Rename, Reply, Rights, Rmdir, Row, SessionSeen, Some, Stat, TooLarge, Truncate, Unlink, Write, [], allot_asks, ap, applied, arith, asked, asks_at, batch_nodes, bytes_refusal, checked, cond, false, file_path, gives, gives_met, grant_ask, grant_for, in_hand, is_directory, is_done, is_some, largest_size, leb, length, ltb, map, need_for, node_at, not, one_ask, option_map, or-false, path_of, refl, refusal, refusal_at, refused_by_check, rights_of, sees_root, served_by, serves, shown_by, subst, sym, true, walk, walked_growth, wanted_pages, ℕ}
+use Rattle.trio_calls_file.proofs.Words.{◌++◌, ◌+◌, ◌∙◌, ◌∷◌, ◌≡◌, ArePossible, Bool, Call, Chmod, ComesHere, Create, Creds, Denied, DeskSeen, Directory, DoesCall, HasMet, HasRights, IsDir, IsFileCall, IsMet, Kind, List, ListNames, MayBeDone, MayCall, Met, Mkdir, Nodes, None, Option, Read, Regular, Rename, Reply, Rights, Rmdir, Row, SessionSeen, Some, Stat, TooLarge, Truncate, Unlink, Write, [], allot_asks, ap, applied, arith, asked, asks_at, batch_nodes, bytes_refusal, checked, cond, false, file_path, gives, gives_met, grant_ask, grant_for, in_hand, is_directory, is_done, is_some, largest_size, leb, length, ltb, map, need_for, node_at, not, one_need, option_map, path_of, refl, refusal, refusal_at, refused_by_check, rights_of, sees_root, served_by, shown_by, subst, sym, true, walk, walked_growth, wanted_pages, ℕ}
 use Rattle.std.proofs.lemmas.Bool.Decides.{nat_tests}
 use Rattle.trio_walk.specs.declared.met.Rights as shown_rights
-use Rattle.trio_calls_file.proofs.KnownRights.{gives_known}
+use Rattle.trio_walk.proofs.Entering.{asked-one}
+use Rattle.trio_walk.proofs.Meeting.{gives_known}
 use Rattle.trio_calls_file.proofs.Looked.{IsRefused}
 
 -- ---- refusals
@@ -79,14 +80,6 @@ directory_refuses b (Chmod path mode) r e = e
 
 -- ---- what is asked
 
--- one need is asked where nothing serves it
-pub asked_one : (s : SessionSeen) (n : Needed) → map grant_ask (asked (served_by s) (n ∷ [])) ≡ one_ask s n.ino n.kind
-asked_one s n = ap (λ b. map grant_ask (cond b [] (n ∷ []))) (or-false (serves s n.ino n.kind)) ∙ map_cond (serves s n.ino n.kind)
-  where
-    map_cond : (b : Bool) → map grant_ask (cond b [] (n ∷ [])) ≡ cond b [] (Grant n.ino n.kind ∷ [])
-    map_cond true = refl
-    map_cond false = refl
-
 module _ (creds : Creds) (s : SessionSeen) (m : Met) (call : Call) (now : Nodes) where
   -- nothing, where a check has refused
   pub asks_none : (r : Reply) → checked creds m call ≡ Some r → is_done (applied now creds call 0).reply ≡ false → asks_at creds s m call now ≡ []
@@ -95,10 +88,10 @@ module _ (creds : Creds) (s : SessionSeen) (m : Met) (call : Call) (now : Nodes)
       ∙ ap (λ b. allot_asks (cond b (walked_growth now call (walk now creds [] (path_of call))) 0) 0) undone
 
   -- and else the file's grant, and pages
-  pub asks_own : checked creds m call ≡ None → asks_at creds s m call now ≡ one_ask s m.ino (grant_for call) ++ allot_asks (wanted_pages now creds call) 0
+  pub asks_own : checked creds m call ≡ None → asks_at creds s m call now ≡ map grant_ask (one_need s m.ino (grant_for call)) ++ allot_asks (wanted_pages now creds call) 0
   asks_own e =
       ap (λ (o : Option Reply). map grant_ask (asked (served_by s) (cond (is_some o) [] (record { ino = m.ino; kind = grant_for call } ∷ []))) ++ allot_asks (wanted_pages now creds call) 0) e
-      ∙ ap (λ l. l ++ allot_asks (wanted_pages now creds call) 0) (asked_one s (record { ino = m.ino; kind = grant_for call }))
+      ∙ ap (λ l. map grant_ask l ++ allot_asks (wanted_pages now creds call) 0) (asked-one s m.ino (grant_for call))
 
   pub no_pages_undone : is_done (applied now creds call 0).reply ≡ false → allot_asks (wanted_pages now creds call) 0 ≡ []
   no_pages_undone undone = ap (λ b. allot_asks (cond b (walked_growth now call (walk now creds [] (path_of call))) 0) 0) undone

@@ -215,17 +215,13 @@ module _ {D : Type 0} (called : D → Ask → Told → D → Type 0) (seen : D �
         record {
           given = room.given;
           last = room.last;
-          each = room.wanted.each;
-          made = room.wanted.made;
+          passes = record { each = room.wanted.each; made = room.wanted.made; calls = e.calls ∙ room.wanted.calls; same = room.wanted.same; more = λ nodes rows p. room.wanted.more nodes rows (e.becomes.more nodes rows p) };
           ends = ends.0;
           leaves =
               alike_then (edited call ino (took s (map (λ c. c.told) room.given))) (edited call ino s1) t
               (edited_alike call ino (took s (map (λ c. c.told) room.given)) s1 room.alike) alike;
-          calls = e.calls ∙ room.wanted.calls;
-          same = room.wanted.same;
           asks = λ nodes rows p.
               asked t e.becomes.more e.calls nodes rows p ∙ ends.1 ∙ sym (ap (λ (l : List desk_calls.Call). map (λ c. c.ask) (room.given ++ l)) ends.0 ∙ ap (map (λ c. c.ask)) (append-nil room.given));
-          more = λ nodes rows p. room.wanted.more nodes rows (e.becomes.more nodes rows p);
           after = (
             may_noted (seen d') s1 call new answer ino room.wanted.may opens writing unrefused_room (no_length (spare_numbers s1) ends.4.many) t e,
             places,
@@ -250,14 +246,10 @@ module _ {D : Type 0} (called : D → Ask → Told → D → Type 0) (seen : D �
         goes_by end ends leaves asks after = record {
           given = room.given;
           last = room.last;
-          each = room.wanted.each;
-          made = room.wanted.made;
+          passes = record { each = room.wanted.each; made = room.wanted.made; calls = room.wanted.calls; same = room.wanted.same; more = room.wanted.more };
           ends = ends;
           leaves = leaves;
-          calls = room.wanted.calls;
-          same = room.wanted.same;
           asks = asks;
-          more = room.wanted.more;
           after = after;
         }
 

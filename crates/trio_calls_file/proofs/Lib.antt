@@ -1,13 +1,10 @@
 pub mod Alike
-pub mod KnownRights
-pub mod Shown
 pub mod Looked
 pub mod AfterTaking
 pub mod Checking
 pub mod Noted
 pub mod Walkable
 pub mod Walked
-pub mod Taking
 pub mod Contents
 pub mod Rooms
 pub mod Writes

@@ -1,9 +1,10 @@
 -- A call that looks or is refused, and its note.
-use Rattle.trio_calls_file.proofs.Words.{◌++◌, ◌<◌, ◌∙◌, ◌≡◌, Ask, Bytes, Call, Denied, DeskSeen, DoesCall, Err, Exists, Goes, InAllShown, IntoItself, IsAlike, IsBytes, IsDir, IsPlain, IsRead, IsReplied, LacksMemory, LeavesHere, List, MatchResult, MayCall, NoInodes, NoMemory, NoSpace, Nodes, NotDir, NotEmpty, NotFound, Ok, Read, Replied, Reply, Result, SessionSeen, Stop, Told, TooLarge, TryEnds, Went, [], alike_room, ap, append-nil, applied, false, inl, inr, is_done, length, map, noted, refl, subst, sym, took, try_ends, ℕ}
+use Rattle.trio_calls_file.proofs.Words.{◌++◌, ◌<◌, ◌∙◌, ◌≡◌, Ask, Bytes, Call, Denied, DeskSeen, DoesCall, Err, Exists, Goes, InAllShown, IntoItself, IsAlike, IsBytes, IsDir, IsPlain, IsRead, IsReplied, LacksMemory, LeavesHere, List, MatchResult, MayCall, NoInodes, NoMemory, NoSpace, Nodes, NotDir, NotEmpty, NotFound, Ok, Read, Replied, Reply, Result, SessionSeen, Stop, Told, TooLarge, TryEnds, Went, [], alike_room, ap, append-nil, applied, false, inl, inr, is_done, length, map, may_alike, noted, refl, subst, sym, took, try_ends, ℕ}
 use Rattle.trio_nodes.specs.Apply.{Apply}
 use Rattle.trio_nodes.specs.After.{call_nodes}
 use Rattle.trio_desk.specs.Calls as desk_calls
-use Rattle.trio_calls_file.proofs.Shown.{both_alike, went_alike}
+use Rattle.trio_calls_file.proofs.Alike.{both_alike}
+use Rattle.trio_walk.proofs.Ways.{went_alike}
 use Rattle.trio_edit_laws.proofs.Noting.{may_looked as note_look}
 
 -- ---- the note
@@ -70,7 +71,7 @@ read_look path at len bytes = record { ends = refl; leaves = λ ino x s' e. e; p
 
 -- ---- the end of a look
 
-module _ {D : Type 0} (called : D → Ask → Told → D → Type 0) (seen : D → DeskSeen) (d : D) (s : SessionSeen) (call : Call) (ino : ℕ) (wants : Nodes → List Ask) (given : List desk_calls.Call) (d' : D) (s' : SessionSeen) (went : Went called seen d s given [] d' s')
+module _ {D : Type 0} (called : D → Ask → Told → D → Type 0) (seen : D → DeskSeen) (d : D) (s : SessionSeen) (call : Call) (ino : ℕ) (wants : Nodes → List Ask) (given : List desk_calls.Call) (d' : D) (s' : SessionSeen) (went : Went called seen d s given [] d' s') (may : MayCall (seen d') s')
     (asks : InAllShown (seen d') s' (λ now. wants now ≡ map (λ c. c.ask) given)) where
   given_alone : map (λ (c : desk_calls.Call). c.ask) given ≡ map (λ (c : desk_calls.Call). c.ask) (given ++ [])
   given_alone = ap (map (λ (c : desk_calls.Call). c.ask)) (sym (append-nil given))
@@ -80,30 +81,22 @@ module _ {D : Type 0} (called : D → Ask → Told → D → Type 0) (seen : D �
   looks reply look does room = record {
     given = given;
     last = [];
-    each = went.each;
-    made = went.made;
+    passes = went.passes;
     ends = look.ends;
     leaves = look.leaves ino (took s (map (λ c. c.told) given)) s' went.alike;
-    calls = went.calls;
-    same = went.same;
     asks = λ nodes rows p. asks nodes rows p ∙ given_alone;
-    more = went.more;
-    after = (may_looked (seen d') s' call reply went.may does, room, look.plain, λ b. (went.may, look.reads b));
+    after = (may_looked (seen d') s' call reply may does, room, look.plain, λ b. (may, look.reads b));
   }
 
   lacks : Goes called seen d s call ino wants NoMemory d' s'
   lacks = record {
     given = given;
     last = [];
-    each = went.each;
-    made = went.made;
+    passes = went.passes;
     ends = inl refl;
     leaves = went.alike;
-    calls = went.calls;
-    same = went.same;
     asks = λ nodes rows p. ([], asks nodes rows p ∙ given_alone ∙ sym (append-nil (map (λ (c : desk_calls.Call). c.ask) (given ++ []))));
-    more = went.more;
-    after = went.may;
+    after = may;
   }
 
   -- its reply, or want of memory for its note
@@ -114,12 +107,11 @@ module _ {D : Type 0} (called : D → Ask → Told → D → Type 0) (seen : D �
 
 -- So it is of a session whose room alone is another then.
 pub look_goes : {D : Type 0} (called : D → Ask → Told → D → Type 0) (seen : D → DeskSeen) (d : D) (s : SessionSeen) (call : Call) (ino : ℕ) (wants : Nodes → List Ask) (given : List desk_calls.Call) (d' : D) (s2 s' : SessionSeen)
-    → Went called seen d s given [] d' s2 → InAllShown (seen d') s2 (λ now. wants now ≡ map (λ c. c.ask) given)
+    → Went called seen d s given [] d' s2 → MayCall (seen d') s2 → InAllShown (seen d') s2 (λ now. wants now ≡ map (λ c. c.ask) given)
     → (reply : Reply) → IsLook call reply → InAllShown (seen d') s2 (λ now. DoesCall (seen d') (record { call = call; reply = reply; made = 0 }) now now)
     → s' ≡ record s2 { room = s'.room } → (result : Result Reply Stop)
     → MatchResult result (λ r. (r ≡ reply) × (length s'.calls < s'.room.calls)) (λ stop. stop ≡ LacksMemory) → Goes called seen d s call ino wants (try_ends result) d' s'
-look_goes called seen d s call ino wants given d' s2 s' went asks reply look does kept result m =
+look_goes called seen d s call ino wants given d' s2 s' went may asks reply look does kept result m =
     let e : IsAlike s2 s' = alike_room s2 s' kept in
-    let now = went_alike called seen d s given [] d' s2 went s' e in
-    by_result called seen d s call ino wants given d' s' now (both_alike (seen d') s2 s' (λ nodes x. wants x ≡ map (λ c. c.ask) given) e asks)
+    by_result called seen d s call ino wants given d' s' (went_alike called seen d s given [] d' s2 s' e went) (may_alike (seen d') s2 s' e may) (both_alike (seen d') s2 s' (λ nodes x. wants x ≡ map (λ c. c.ask) given) e asks)
     reply look (both_alike (seen d') s2 s' (λ nodes x. DoesCall (seen d') (record { call = call; reply = reply; made = 0 }) x x) e does) result m

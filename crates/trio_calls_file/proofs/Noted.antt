@@ -1,5 +1,5 @@
 -- A try that is noted.
-use Rattle.trio_calls_file.proofs.Words.{◌++◌, ◌∙◌, ◌≡◌, ArePossible, Ask, Busy, Bytes, Call, DeskSeen, Done, FileTried, Holder, IsAlike, IsBytes, IsPlain, IsRead, IsReplied, LeavesHere, List, MayCall, NoMemory, Nodes, Option, Outcome, Read, Replied, RepliesTo, Reply, Row, SessionSeen, Told, TryEnds, [], ap, append-nil, batch_nodes, edited, inl, map, noted, refl, subst, sym, took, ℕ}
+use Rattle.trio_calls_file.proofs.Words.{◌++◌, ◌∙◌, ◌≡◌, ArePossible, Ask, Busy, Bytes, Call, DeskSeen, Done, FileTried, Holder, IsAlike, IsBytes, IsPlain, IsRead, IsReplied, LeavesHere, List, NoMemory, Nodes, Option, Outcome, Read, Replied, RepliesTo, Reply, Row, SessionSeen, Told, TryEnds, [], ap, append-nil, batch_nodes, edited, inl, map, noted, refl, subst, sym, took, ℕ}
 use Rattle.trio_nodes.specs.declared.call.Answer.TheVariants.{Names}
 use Rattle.trio_desk.specs.Calls as desk_calls
 use Rattle.trio_walk.specs.Tries.{TakesMemory}
@@ -43,7 +43,7 @@ module _ {D : Type 0} (called : D → Ask → Told → D → Type 0) (seen : D �
   shown_then : (end : Outcome) (t : RepliesTo called seen d s call end d' s') (nodes : Nodes) (rows : List (Option Row)) → ArePossible (seen d') s'.parcel s'.reads nodes rows
       → TriedIn (seen d').creds s call end t.file (map (λ c. c.ask) (t.goes.given ++ t.goes.last)) (batch_nodes (seen d').creds s.calls nodes)
   shown_then end t nodes rows p =
-      subst (λ (cs : List Done). TriedIn (seen d').creds s call end t.file (map (λ c. c.ask) (t.goes.given ++ t.goes.last)) (batch_nodes (seen d').creds cs nodes)) t.goes.calls
+      subst (λ (cs : List Done). TriedIn (seen d').creds s call end t.file (map (λ c. c.ask) (t.goes.given ++ t.goes.last)) (batch_nodes (seen d').creds cs nodes)) t.goes.passes.calls
       (record { comes = t.comes nodes rows p; asks = t.goes.asks nodes rows p })
 
   -- a try that is busy
@@ -53,8 +53,8 @@ module _ {D : Type 0} (called : D → Ask → Told → D → Type 0) (seen : D �
     record {
       given = t.goes.given;
       last = t.goes.last;
-      each = t.goes.each;
-      made = t.goes.made;
+      each = t.goes.passes.each;
+      made = t.goes.passes.made;
       ends = t.goes.ends;
       leaves = t.goes.leaves;
       shown = shown_then (Busy holder) t;
@@ -68,8 +68,8 @@ module _ {D : Type 0} (called : D → Ask → Told → D → Type 0) (seen : D �
     record {
       given = t.goes.given;
       last = t.goes.last;
-      each = t.goes.each;
-      made = t.goes.made;
+      each = t.goes.passes.each;
+      made = t.goes.passes.made;
       ends = t.goes.ends;
       leaves = t.goes.leaves;
       shown = shown_then NoMemory t;
@@ -83,8 +83,8 @@ module _ {D : Type 0} (called : D → Ask → Told → D → Type 0) (seen : D �
     record {
       given = t.goes.given;
       last = t.goes.last;
-      each = t.goes.each;
-      made = t.goes.made;
+      each = t.goes.passes.each;
+      made = t.goes.passes.made;
       ends = unnoted_ends reply t.goes.last bytes t.goes.ends;
       leaves = unnoted_leaves call reply t.file (took s (map (λ c. c.told) t.goes.given)) s' bytes (t.goes.after.3 bytes).1 t.goes.leaves;
       shown = λ nodes rows p.
@@ -99,14 +99,10 @@ module _ {D : Type 0} (called : D → Ask → Told → D → Type 0) (seen : D �
     record {
       given = t.goes.given;
       last = t.goes.last;
-      each = t.goes.each;
-      made = t.goes.made;
+      each = t.goes.passes.each;
+      made = t.goes.passes.made;
       ends = t.goes.ends;
       leaves = leaves_noted call t.file (took s (map (λ c. c.told) t.goes.given)) s' reply t.goes.leaves;
       shown = λ nodes rows p. shown_then (Replied reply) t nodes rows p;
     },
   )
-
-  -- the library stays
-  pub lib_same : (may : MayCall (seen d) s) (may' : MayCall (seen d') s') (end : Outcome) → RepliesTo called seen d s call end d' s' → s'.lib ≡ s.lib
-  lib_same may may' end t = may'.edits.on.lib ∙ t.goes.same.lib ∙ sym may.edits.on.lib

@@ -1,17 +1,16 @@
 -- A walk takes directories alone, for reading, so none of its leases keeps a regular file busy.
-use Rattle.trio_calls_file.proofs.Words.{◌++◌, ◌||◌, ◌∙◌, ◌∷◌, ◌≡◌, ◌≢◌, ◌⊎◌, ArePossible, Ask, At, Bool, Busy, BusyAt, Call, Creds, Denied, DeskSeen, Err, Exists, GrantKind, HasNothing, HoldLease, In, In-cases, IntoItself, IsDir, IsMetIn, IsReplied, Lease, List, Met, Need, Needed, NoInodes, NoMemory, NoSpace, Node, Nodes, None, NotDir, NotEmpty, NotFound, Ok, Option, OthersHold, Outcome, Parcel, Path, ReadLease, Regular, Replied, Reply, Result, Row, SessionSeen, Shown, Some, Told, TooLarge, Walked, Walks, WriteLease, [], ap, append-nil, asked, batch_nodes, cond, eqb, false, false≢true, grant_for, inl, inr, is_directory, map, need_of, node_at, not, path_of, refl, served_by, shows_root, subst, sym, true, walk_needs, with_lease, with_leases, ℕ}
+use Rattle.trio_calls_file.proofs.Words.{◌++◌, ◌||◌, ◌∙◌, ◌∷◌, ◌≡◌, ◌≢◌, ArePossible, Ask, At, Bool, Busy, Call, CallBusyAt, Creds, Denied, DeskSeen, Err, Exists, GrantKind, HasNothing, HoldLease, In, In-cases, IntoItself, IsDir, IsMetIn, IsReplied, Lease, List, Met, Need, Needed, NoInodes, NoMemory, NoSpace, Node, Nodes, None, NotDir, NotEmpty, NotFound, Ok, Option, OthersHold, Outcome, Path, ReadLease, Regular, Replied, Reply, Result, Row, SessionSeen, Shown, Some, Told, TooLarge, Walked, Walks, WriteLease, [], ap, append-nil, asked, batch_nodes, cond, eqb, false, false≢true, grant_for, inl, inr, is_directory, map, need_of, node_at, not, path_of, refl, served_by, shows_root, subst, sym, true, walk_needs, ℕ}
 use Rattle.trio_rights.specs.declared.rights.Need.TheVariants.{Read as NeedsRead, Write as NeedsWrite}
-use Rattle.trio_lists.proofs.Members.{In-map, map-In}
+use Rattle.trio_lists.proofs.Members.{In-map}
 use Rattle.trio_lease.specs.declared.parts.HoldParts.{HoldParts}
 use Rattle.trio_nodes.specs.declared.grant.GrantKind.TheVariants.{Read, Hold}
 use Rattle.trio_nodes.specs.Nodes.{find_named}
 use Rattle.trio_nodes.specs.Walk.{enter, enter_node, lacks, need_at}
-use Rattle.trio_desk.specs.Out.{file_numbers, hold_numbers}
 use Rattle.trio_walk.specs.Needs.{entered_needs, found_needs, kind_for, needs_from}
-use Rattle.trio_walk.specs.Walks.{IsOwnBusy}
+use Rattle.trio_walk.specs.Walks.{IsOwnGrant, file_of}
+use Rattle.trio_walk.proofs.OwnBusy.{Excludes, busy_took, nothing_own}
 use Rattle.trio_walk.proofs.Agreeing.{asked_beside-In, in_order, walk_need}
 use Rattle.trio_walk.proofs.Possible.{lib_same}
-use Rattle.trio_calls_file.specs.inner.Goes.{IsOwnGrant}
 use Rattle.trio_calls_file.proofs.AtFile.{not_held}
 
 -- a directory stands there
@@ -80,37 +79,6 @@ never_held : (need : Need) → kind_for need ≡ Hold → ⊥
 never_held NeedsRead e = cc e
 never_held NeedsWrite e = cc e
 
--- ---- the leases that a session has
-
-reads_from : (more : List Lease) (s : SessionSeen) (f : Shown) → In f (with_leases s more).reads → In f s.reads ⊎ In (ReadLease f) more
-reads_from [] s f i = inl i
-reads_from (WriteLease g ∷ more) s f i = elim (reads_from more (with_lease s (WriteLease g)) f i) [ inl j ↦ inl j | inr j ↦ inr (inr j) ]
-reads_from (ReadLease g ∷ more) s f i =
-    elim (reads_from more (with_lease s (ReadLease g)) f i) [
-      | inl j ↦ elim (In-cases f s.reads (g ∷ []) j) [ inl k ↦ inl k | inr (inl e) ↦ inr (inl (ap ReadLease e)) | inr (inr none) ↦ absurd none ]
-      | inr j ↦ inr (inr j)
-    ]
-reads_from (HoldLease h ∷ more) s f i = elim (reads_from more (with_lease s (HoldLease h)) f i) [ inl j ↦ inl j | inr j ↦ inr (inr j) ]
-
-holds_from : (more : List Lease) (s : SessionSeen) (h : HoldParts) → In h (with_leases s more).parcel.holds → In h s.parcel.holds ⊎ In (HoldLease h) more
-holds_from [] s h i = inl i
-holds_from (WriteLease g ∷ more) s h i = elim (holds_from more (with_lease s (WriteLease g)) h i) [ inl j ↦ inl j | inr j ↦ inr (inr j) ]
-holds_from (ReadLease g ∷ more) s h i = elim (holds_from more (with_lease s (ReadLease g)) h i) [ inl j ↦ inl j | inr j ↦ inr (inr j) ]
-holds_from (HoldLease g ∷ more) s h i =
-    elim (holds_from more (with_lease s (HoldLease g)) h i) [
-      | inl j ↦ elim (In-cases h s.parcel.holds (g ∷ []) j) [ inl k ↦ inl k | inr (inl e) ↦ inr (inl (ap HoldLease e)) | inr (inr none) ↦ absurd none ]
-      | inr j ↦ inr (inr j)
-    ]
-
--- one that has nothing keeps no file busy
-pub none_busy : (s : SessionSeen) (n : ℕ) (kind : GrantKind) → HasNothing s → IsOwnBusy s n kind → ⊥
-none_busy s n kind none own =
-    elim own.has [
-      | inl read ↦ subst (λ (l : List Shown). In n (map (λ (f : Shown). f.ino) l)) none.reads read.0
-      | inr (inl written) ↦ subst (λ (b : Parcel). In n (file_numbers b.writes)) none.parcel written.0
-      | inr (inr held) ↦ subst (λ (b : Parcel). In n (hold_numbers b.holds)) none.parcel held
-    ]
-
 -- ---- the second try
 
 module _ {D : Type 0} (called : D → Ask → Told → D → Type 0) (seen : D → DeskSeen) (d : D) (s : SessionSeen) (call : Call) (m : Met) (d1 : D) (s1 : SessionSeen)
@@ -139,39 +107,28 @@ module _ {D : Type 0} (called : D → Ask → Told → D → Type 0) (seen : D �
         never_held (need_at [] (in_order n.names)) (sym n.kind)
 
     -- the file isn't one of the directories that are read
-    unread : m.kind ≡ Regular → In m.ino (map (λ (f : Shown). f.ino) s1.reads) → ⊥
-    unread regular i =
-        let f = map-In (λ (x : Shown). x.ino) m.ino s1.reads i in
-        let j : In f.0 (with_leases s w.more).reads = subst (λ (l : List Shown). In f.0 l) (ap (λ (x : SessionSeen). x.reads) w.way.took.same) f.1 in
-        let dir : IsDirAt (node_at now f.0.ino) =
-        elim (reads_from w.more s f.0 j) [
-          | inl old ↦ absurd (subst (λ (l : List Shown). In f.0 l) none.reads old)
-          | inr new ↦ read_dir f.0 new
-        ] in
+    unread : m.kind ≡ Regular → (f : Shown) → In (ReadLease f) w.more → f.ino ≡ m.ino → ⊥
+    unread regular f i same =
+        let dir = read_dir f i in
         let t = met.met nodes rows p in
-        let same : Some dir.0 ≡ Some t.after = sym dir.1 ∙ ap (node_at now) (sym f.2) ∙ t.there_now in
-        let node : dir.0 ≡ t.after = cc same in
+        let one : Some dir.0 ≡ Some t.after = sym dir.1 ∙ ap (node_at now) same ∙ t.there_now in
+        let node : dir.0 ≡ t.after = cc one in
         false≢true (sym (ap is_directory (ap (λ (x : Node). x.kind) node ∙ t.kind ∙ regular)) ∙ dir.2)
 
-    unheld : In m.ino (hold_numbers s1.parcel.holds) → ⊥
-    unheld i =
-        let h = map-In (λ (x : HoldParts). x.ino) m.ino s1.parcel.holds i in
-        let j : In h.0 (with_leases s w.more).parcel.holds = subst (λ (l : List HoldParts). In h.0 l) (ap (λ (x : SessionSeen). x.parcel.holds) w.way.took.same) h.1 in
-        elim (holds_from w.more s h.0 j) [
-          | inl old ↦ subst (λ (b : Parcel). In h.0 b.holds) none.parcel old
-          | inr new ↦ no_hold h.0 new
-        ]
-
-  not_own : IsOwnGrant (seen d1) s1 m (grant_for call) → (grant_for call ≢ Read → m.kind ≡ Regular) → ⊥
+  not_own : IsOwnGrant (seen d1) s1 m.ino (grant_for call) → (grant_for call ≢ Read → m.kind ≡ Regular) → ⊥
   not_own own regular =
-      elim own.busy.has [
-        | inl read ↦ unread own.nodes own.rows own.possible (regular read.1) read.0
-        | inr (inl written) ↦ not_held call written.1
-        | inr (inr held) ↦ unheld own.nodes own.rows own.possible held
+      elim (busy_took s s1 w.more w.way.took w.way.as_lent m.ino (grant_for call) own.busy) [
+        | inl old ↦ nothing_own s m.ino (grant_for call) none old
+        | inr l ↦ by l.0 l.1 l.2 l.3
       ]
+    where
+      by : (l : Lease) → In l w.more → file_of l ≡ m.ino → Excludes l (grant_for call) → ⊥
+      by (WriteLease f) i same ex = not_held call ex
+      by (ReadLease f) i same ex = unread own.nodes own.rows own.possible (regular ex) f i same
+      by (HoldLease h) i same ex = no_hold own.nodes own.rows own.possible h i
 
   -- the file of a try that had nothing is kept busy by another library
-  pub others_there : (end : Outcome) → BusyAt (seen d1) s1 m call end → OthersHold s.lib end
+  pub others_there : (end : Outcome) → CallBusyAt (seen d1) s1 m call end → OthersHold s.lib end
   others_there (Replied reply) busy = tt
   others_there NoMemory busy = tt
   others_there (Busy holder) busy = λ mine. (let own = busy (mine ∙ sym (lib_same (seen d) (seen d1) s s1 w.more w.way.took)) in not_own own.0 own.1)

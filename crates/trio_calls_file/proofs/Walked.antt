@@ -1,52 +1,9 @@
--- A try after its walk.
-use Rattle.trio_calls_file.proofs.Words.{◌+◌, ◌||◌, ◌∙◌, ◌∷◌, ◌≡◌, Ask, Bool, Call, Chmod, Create, Creds, Denied, DeskSeen, Directory, In, IsAlike, IsFileCall, IsMet, Kind, Lease, List, ListNames, MayCall, MayWalk, Met, Mkdir, Needed, Nodes, None, Option, Path, Read, ReadGrant, Regular, Rename, Rmdir, SessionSeen, Shown, Some, Stat, ToRead, Told, Truncate, Unlink, Went, Write, WriteGrant, WriteLease, [], ap, asked, asked_beside, bytes_refusal, checked, cond, eqb, false, gives, gives_met, grant_for, is_directory, is_some, largest_size, leb, length, lent_call, ltb, map, may_alike, met_needs, need_for, need_of, not, on_alike, or-false, own_needs, refl, rights_of, served_by, serves, subst, sym, took, true, with_leases, ℕ}
+-- What a call needs of the file that its walk has met.
+use Rattle.trio_calls_file.proofs.Words.{◌+◌, ◌||◌, ◌∙◌, ◌∷◌, ◌≡◌, Bool, Call, Chmod, Create, Creds, Denied, Directory, IsFileCall, IsMet, Kind, ListNames, Met, Mkdir, Needed, Nodes, None, Option, Path, Read, ReadGrant, Regular, Rename, Rmdir, SessionSeen, Some, Stat, ToRead, Truncate, Unlink, Write, WriteGrant, [], ap, bytes_refusal, cond, eqb, false, gives, gives_met, is_directory, is_some, largest_size, leb, length, ltb, met_needs, need_for, not, own_needs, refl, rights_of, sym, true, ℕ}
 use Rattle.std.specs.Prelude.{◌&&◌}
-use Rattle.trio_lease.specs.Shown.{LentFile}
-use Rattle.trio_desk.specs.Calls as desk_calls
 use Rattle.trio_walk.specs.declared.met.Rights as shown_rights
-use Rattle.trio_walk.specs.Walks.{TookLeases, Way}
-use Rattle.trio_walk.proofs.Possible.{calls_same, possible_before}
-use Rattle.trio_walk.proofs.Stepping.{served_more}
-use Rattle.trio_calls_file.proofs.KnownRights.{gives_known}
+use Rattle.trio_walk.proofs.Meeting.{gives_known}
 use Rattle.trio_calls_file.proofs.Checking.{not-leb}
-use Rattle.trio_calls_file.proofs.Walkable.{lends_may}
-use Rattle.trio_session.proofs.Alike.{alike_back}
-use Rattle.trio_walk.proofs.Then.{given_all, took_leases}
-
--- ---- what a walk takes
-
-module _ {D : Type 0} (called : D → Ask → Told → D → Type 0) (seen : D → DeskSeen) (d : D) (s : SessionSeen) (more : List Lease) (last : List desk_calls.Call) (d1 : D) (s1 : SessionSeen) (may : MayCall (seen d) s) (way : Way called seen d s more last d1 s1) (walks : MayWalk (seen d1) s1) where
-  abbrev x : SessionSeen
-  x = with_leases s more
-
-  alike : IsAlike (with_leases s more) s1
-  alike = way.took.same
-
-  pub walked_went : Went called seen d s (map lent_call more) last d1 s1
-  walked_went = record {
-    each = given_all more;
-    made = way.made;
-    alike = subst (λ (y : SessionSeen). IsAlike y s1) (sym (took_leases s more)) alike;
-    calls = calls_same (seen d) (seen d1) s s1 more way.took;
-    same = record { lib = way.lib; creds = way.creds; sizes = way.sizes; root = way.root };
-    may = may_alike (seen d1) x s1 alike (lends_may more (seen d) (seen d1) s may way.lends (on_alike (seen d1) s1 x (alike_back x s1 alike) walks.on));
-    more = λ nodes rows p. possible_before (seen d1) (seen d1) s s1 more way.took nodes rows refl refl p;
-  }
-
--- ---- what is asked, one after another
-
-module _ (s s1 : SessionSeen) (more : List Lease) (took_them : TookLeases s more s1) (as_lent : (f : LentFile) → In (WriteLease f) more → f.stands ≡ f.lent) where
-  pub own_asked : (creds : Creds) (m : Met) (call : Call) → asked_beside (served_by s) (map need_of more) (met_needs creds m call) ≡ asked (served_by s1) (met_needs creds m call)
-  own_asked creds m call = by (is_some (checked creds m call))
-    where
-      n : Needed
-      n = record { ino = m.ino; kind = grant_for call }
-
-      by : (b : Bool) → asked_beside (served_by s) (map need_of more) (cond b [] (record { ino = m.ino; kind = grant_for call } ∷ [])) ≡ asked (served_by s1) (cond b [] (record { ino = m.ino; kind = grant_for call } ∷ []))
-      by true = refl
-      by false =
-          ap (λ b. cond b [] (record { ino = m.ino; kind = grant_for call } ∷ [])) (sym (served_more s s1 more took_them (λ f i. ap (λ (y : Shown). y.ino) (as_lent f i)) m.ino (grant_for call)))
-          ∙ sym (ap (λ b. cond b [] (record { ino = m.ino; kind = grant_for call } ∷ [])) (or-false (serves s1 m.ino (grant_for call))))
 
 -- ---- the needs of the file
 

@@ -1,6 +1,5 @@
 -- The words that the proofs of this crate share: of the standard library, of the crates below, and of this crate's own definitions.
-pub use Rattle.std.proofs.Common.{◌++◌, ◌+◌, ◌-◌, ◌/◌, ◌<◌, ◌∙◌, ◌∷◌, ◌≡◌, ◌≤◌, ◌⊎◌, Bool, Err, List, None, Ok, Option, Result, Some, [], ap, append_assoc, arith, cond, drop, eqb, false, inl, inr, leb, length, ltb, max, refl, subst, suc, sym, take, true, zero, ℕ}
-pub use Rattle.std.proofs.Math.Bool.{or-false}
+pub use Rattle.std.proofs.Common.{◌++◌, ◌+◌, ◌-◌, ◌/◌, ◌<◌, ◌∙◌, ◌∷◌, ◌≡◌, ◌≤◌, Bool, Err, List, None, Ok, Option, Result, Some, [], ap, append_assoc, arith, cond, drop, eqb, false, inl, inr, leb, length, ltb, max, refl, subst, suc, sym, take, true, zero, ℕ}
 pub use Rattle.std.proofs.lemmas.Bool.{eqb-true, false≢true}
 pub use Rattle.std.proofs.lemmas.List.{append-nil, map-append}
 pub use Rattle.std.specs.Option.{option_map}
@@ -13,6 +12,7 @@ pub use Rattle.trio_desk.specs.Edits.{DoesCall, MayShow}
 pub use Rattle.trio_desk.specs.Out.{Parcel}
 pub use Rattle.trio_desk.specs.Ready.{ArePossible}
 pub use Rattle.trio_edit_laws.proofs.Alike.{may_alike}
+pub use Rattle.trio_edit_laws.proofs.Called.{may_same}
 pub use Rattle.trio_edit_laws.proofs.OpenChain.{open_chain}
 pub use Rattle.trio_edit_laws.proofs.Reading.{length-bytes_in, sees_bytes}
 pub use Rattle.trio_edit_laws.proofs.Resized.{length-resized}
@@ -57,21 +57,22 @@ pub use Rattle.trio_rights.specs.declared.rights.Need.TheVariants.{Read as ToRea
 pub use Rattle.trio_session.proofs.Alike.{alike_by, alike_room, alike_then, on_alike}
 pub use Rattle.trio_session.proofs.Others.{put_alike}
 pub use Rattle.trio_session.proofs.Shows.{body_had-open}
-pub use Rattle.trio_session.specs.Asked.{Allots, IsAlike, allot_asks, took, with_lease}
+pub use Rattle.trio_session.specs.Asked.{Allots, IsAlike, SameDesk, allot_asks, took, with_lease}
 pub use Rattle.trio_session.specs.Deeds.{IsHad, body_had, bytes_had, sized}
 pub use Rattle.trio_session.specs.Layout.{growth, size_in}
 pub use Rattle.trio_session.specs.Seen.{IsOn, IsOpen, SessionSeen, body_in, chain_in, in_hand, kind_shown, open_kind, pages_shown, put, read_file, room_in, serves, spare_numbers, spare_pages}
+pub use Rattle.trio_walk.proofs.Ways.{Went}
 pub use Rattle.trio_walk.proofs.Then.{asks_lent, both_then}
 pub use Rattle.trio_walk.specs.Asks.{AskedBy, IsNotBusy, TryEnds, grant_ask, noted}
 pub use Rattle.trio_walk.specs.Needs.{Needed, asked, asked_beside, own_needs, path_of, walk_needs}
 pub use Rattle.trio_walk.specs.Tries.{HasNothing, OthersHold}
-pub use Rattle.trio_walk.specs.Walks.{EndsBy, HasMet, InAllShown, InBoth, IsMet, IsMetIn, MayTake, MayWalk, Walked, Walks, gives_met, lent_call, need_of, served_by, shows_root, with_leases}
+pub use Rattle.trio_walk.specs.Walks.{HasMet, InAllShown, InBoth, IsMet, IsMetIn, MayTake, MayWalk, Took, Walked, Walks, Way, gives_met, lent_call, need_of, one_need, served_by, shows_root, with_leases}
 pub use Rattle.trio_walk.specs.declared.met.Met.{Met}
 pub use Rattle.trio_walk.specs.declared.outcome.Outcome.{Outcome}
 pub use Rattle.trio_walk.specs.declared.outcome.Outcome.TheVariants.{Busy, NoMemory, Replied}
 pub use Rattle.trio_walk.specs.declared.outcome.Stop.{Stop}
-pub use Rattle.trio_walk.specs.declared.outcome.Stop.TheVariants.{Busy as IsBusy, NoMemory as LacksMemory}
+pub use Rattle.trio_walk.specs.declared.outcome.Stop.TheVariants.{NoMemory as LacksMemory}
 pub use Rattle.trio_walk.specs.declared.walks.WalkEnd.TheVariants.{At, NoMemory as HasNoMemory, Reply as IsReply}
 pub use Rattle.trio_calls_file.specs.Asks.{FileTried, IsFileCall, edited, growth_of, new_length, walked_growth, wanted_pages}
-pub use Rattle.trio_calls_file.specs.inner.Goes.{AfterTry, BusyAt, ComesHere, Goes, IsBytes, IsPlain, IsRead, LeavesHere, MayBeDone, RepliesTo, TookFile, Unrefused, Went, asks_at, bytes_refusal, checked, grant_for, met_needs, need_for, one_ask, refusal_at, try_ends, wants_pages_for}
+pub use Rattle.trio_calls_file.specs.inner.Goes.{AfterTry, CallBusyAt, ComesHere, Goes, IsBytes, IsPlain, IsRead, LeavesHere, MayBeDone, RepliesTo, Unrefused, asks_at, bytes_refusal, checked, grant_for, met_needs, need_for, refusal_at, try_ends, wants_pages_for}
 pub use Rattle.trio_calls_file.specs.inner.Rooms.{HasPlaces, MadeRoom}

@@ -11,18 +11,17 @@ ghost use Rattle.trio_walk.specs.Needs.{path_of};
 ghost use Rattle.trio_edit_laws.specs.Calls.{MayCall};
 ghost use Rattle.trio_walk.specs.Walks.{HasMet};
 ghost use Rattle.trio_calls_file.specs.Asks.{IsFileCall};
-ghost use Rattle.trio_calls_file.specs.inner.Goes.{BusyAt, ComesHere, Goes, Unrefused, asks_at, bytes_refusal, bytes_reply, checked, grant_for, need_for, refusal_at, stat_reply, try_ends, wants_pages_for};
+ghost use Rattle.trio_calls_file.specs.inner.Goes.{CallBusyAt, ComesHere, Goes, Unrefused, asks_at, bytes_refusal, bytes_reply, checked, grant_for, need_for, refusal_at, stat_reply, try_ends, wants_pages_for};
 ghost use Rattle.trio_walk.specs.Asks.{IsNotBusy};
 ghost use Rattle.trio_session.specs.Deeds.{IsHad};
 ghost use Rattle.trio_calls_file.specs.inner.Rooms.{MadeRoom};
 
 use std::alloc::Global;
-use trio_deeds::{allot, block_count, bytes_of, entry_count, growth, places, resize, size_of};
+use trio_deeds::{allot, allows, block_count, bytes_of, growth, places, resize, size_of, stat_of};
 use trio_desk::Desk;
 use trio_nodes::{AllotFault, Answer, Call, GrantKind, Reply};
 use trio_page::NoMemory;
-use trio_page::field::{u16_in, u32_in};
-use trio_rights::{Creds, Kind, Mode, Need, may};
+use trio_rights::{Creds, Kind, Need};
 use trio_session::Session;
 use trio_walk::{Met, Stop, WalkEnd, allot_reply, gives, take};
 
@@ -43,7 +42,7 @@ pub(crate) fn at_file<D: Desk>(
     requires file { IsFileCall call.now }
     requires comes { ComesHere (D.seen desk.old) session.old (path_of call.now) met.ino }
     ensures goes { Goes D.called D.seen desk.old session.old call.now met.ino (asks_at (D.seen desk.old).creds session.old met call.now) (try_ends result) desk.new session.new }
-    ensures busy { BusyAt (D.seen desk.old) session.old met call.now (try_ends result) }
+    ensures busy { CallBusyAt (D.seen desk.old) session.old met call.now (try_ends result) }
 {
     let given = gives(desk.creds(), met, need_for(call));
     match refusal(met.kind, given, call) {
@@ -67,7 +66,7 @@ fn at_unrefused<D: Desk>(
     requires limits { AreWithinLimits (D.seen desk.old).sizes }
     requires unrefused { checked (D.seen desk.old).creds met call.now ≡ None }
     ensures goes { Goes D.called D.seen desk.old session.old call.now met.ino (asks_at (D.seen desk.old).creds session.old met call.now) (try_ends result) desk.new session.new }
-    ensures busy { BusyAt (D.seen desk.old) session.old met call.now (try_ends result) }
+    ensures busy { CallBusyAt (D.seen desk.old) session.old met call.now (try_ends result) }
 {
     match take(session, desk, met, grant_for(call)) {
         Ok(true) => at_taken(alloc, session, desk, call, met),
@@ -276,25 +275,9 @@ fn stat(session: &mut Session, creds: Creds, met: Met) -> Result<Reply, Stop>
     ensures kept { session.new ≡ record session.old { room = session.new.room } }
     ensures ends { MatchResult result (λ r. (r ≡ stat_reply creds session.old met.ino met.kind) × (length session.new.calls < session.new.room.calls)) (λ stop. stop ≡ Stop.NoMemory) }
 {
-    let Some(body) = session.body(met.ino) else {
-        unreachable!()
-    };
-    let (mode, uid, gid) = (Mode(u16_in(body, 0)), u32_in(body, 4), u32_in(body, 8));
-    if !may(creds, met.kind, mode, uid, gid, Need::Read) {
+    if !allows(session, met.ino, met.kind, creds, Need::Read) {
         return noted_reply(session, Reply::Denied);
     }
-    let size = match met.kind {
-        Kind::Directory => entry_count(session, met.ino),
-        Kind::Regular => size_of(session, met.ino),
-    };
-    noted_reply(
-        session,
-        Reply::Ok(Answer::Stat {
-            kind: met.kind,
-            mode,
-            uid,
-            gid,
-            size,
-        }),
-    )
+    let told = stat_of(session, met.ino, met.kind);
+    noted_reply(session, Reply::Ok(told))
 }

@@ -2,3 +2,4 @@ mod Wanting
 pub mod Reading
 mod Listing
 mod Moving
+mod NewFiles

@@ -1,4 +1,4 @@
--- When a directory may get an empty slot, and when a file may move to one, without memory; and what that leaves.
+-- When a directory may get an empty slot, and when a file may be made in one or move to one, without memory; and what that leaves.
 use Rattle.std.specs.Prelude.{◌≡◌, ◌≢◌, ◌<◌, ◌≤◌, ◌+◌, ◌%◌, ℕ, IsTrue, List, None, Some, is_some, length}
 use Rattle.std.specs.Option.{option_map_or}
 use Rattle.trio_lists.specs.Lists.{In}
@@ -6,9 +6,9 @@ use Rattle.trio_rights.specs.declared.kind.Kind.{Kind}
 use Rattle.trio_rights.specs.declared.kind.Kind.TheVariants.{Directory}
 use Rattle.trio_layout.specs.Body.{block_count}
 use Rattle.trio_session.specs.Asked.{IsAlike}
-use Rattle.trio_session.specs.Deeds.{moved_shown, slot_growth}
+use Rattle.trio_session.specs.Deeds.{moved_shown, new_number, slot_growth}
 use Rattle.trio_session.specs.Layout.{size_in}
-use Rattle.trio_session.specs.Seen.{IsOpenDir, MadeFile, SessionSeen, body_in, chain_in, clear, cleared_file, empty_shown, fill, grant_in, is_allotted, kept_chain, place_shown, room_in, spare_pages}
+use Rattle.trio_session.specs.Seen.{IsOpenDir, MadeFile, SessionSeen, body_in, chain_in, clear, cleared_file, empty_shown, fill, grant_in, is_allotted, kept_chain, place_shown, room_in, spare_number, spare_pages}
 
 -- A directory of this size without an empty slot may grow by a block: pages are spare, and there are places for it.
 pub record MayAddSlot (s : SessionSeen) (dir' size' : ℕ) : Type 0 where
@@ -20,6 +20,19 @@ pub record MayAddSlot (s : SessionSeen) (dir' size' : ℕ) : Type 0 where
   pub pages : slot_growth s dir' ≤ length (spare_pages s)
   pub room : block_count size' + 1 ≤ room_in s dir'
   pub slots : In dir' s.room.slots
+
+-- A new file takes no memory under this name in a directory: the directory has an empty slot and no such name, a number is spare, which is
+-- that of no other file, and there are places.
+pub record MayMakeFile (s : SessionSeen) (name' : List ℕ) (dir' : ℕ) : Type 0 where
+  pub opens : IsOpenDir s dir'
+  pub new : place_shown s dir' name' ≡ None
+  pub empty : IsTrue (is_some (empty_shown s dir'))
+  pub spare : IsTrue (is_some (spare_number s))
+  pub number : 0 < new_number s
+  pub nothing : grant_in s (new_number s) ≡ None
+  pub uncleared : cleared_file s (new_number s) ≡ None
+  pub names : In dir' s.room.names
+  pub place : length s.made < s.room.made
 
 -- What a file that was made brings into a slot again, but for a place for it: its kind, and a body that says as many blocks as it has.
 pub record BringsMade (s : SessionSeen) (ino' : ℕ) (kind' : Kind) (body' : List ℕ) : Type 0 where

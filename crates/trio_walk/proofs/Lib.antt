@@ -15,4 +15,8 @@ pub mod Stepping
 pub mod Agreeing
 pub mod Walking
 pub mod Retrying
+pub mod OwnBusy
+pub mod Ways
+pub mod Asking
+pub mod Stops
 mod Words

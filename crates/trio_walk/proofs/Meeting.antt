@@ -43,17 +43,20 @@ module _ (desk desk' : DeskSeen) (s s' : SessionSeen) (more : List Lease) (took 
 -- ---- rights that are known
 
 module _ (shown : Bool) (s : SessionSeen) (nodes now : Nodes) (creds : Creds) (m : Met) (t : IsMet shown s nodes now creds m) (need : Need) where
-  -- they are the node's
-  pub lacks_known : (r : shown_rights.Rights) → m.rights ≡ Some r → lacks creds need t.after ≡ not (gives_met creds m need)
-  lacks_known r e =
+  -- they are the node's, and give what those do
+  pub gives_known : (r : shown_rights.Rights) → m.rights ≡ Some r → permits creds t.after.kind t.after.mode t.after.uid t.after.gid need ≡ gives_met creds m need
+  gives_known r e =
       let are : RightsAre (Some r) t.after = subst (λ o. RightsAre o t.after) e t.rights in
       let same : rights_of t.after ≡ record { kind = m.kind; mode = r.mode; uid = r.uid; gid = r.gid } =
       ap (λ k. record { kind = k; mode = t.after.mode; uid = t.after.uid; gid = t.after.gid }) t.kind
       ∙ ap (λ (q : Mode). record { kind = m.kind; mode = q; uid = t.after.uid; gid = t.after.gid }) are.0
       ∙ ap (λ q. record { kind = m.kind; mode = r.mode; uid = q; gid = t.after.gid }) are.1
       ∙ ap (λ q. record { kind = m.kind; mode = r.mode; uid = r.uid; gid = q }) are.2 in
-      ap (λ (q : Rights). not (permits creds q.kind q.mode q.uid q.gid need)) same
-      ∙ ap not (sym (ap (λ o. option_map_or (λ (q : shown_rights.Rights). permits creds m.kind q.mode q.uid q.gid need) o true) e))
+      ap (λ (q : Rights). permits creds q.kind q.mode q.uid q.gid need) same
+      ∙ sym (ap (λ o. option_map_or (λ (q : shown_rights.Rights). permits creds m.kind q.mode q.uid q.gid need) o true) e)
+
+  pub lacks_known : (r : shown_rights.Rights) → m.rights ≡ Some r → lacks creds need t.after ≡ not (gives_met creds m need)
+  lacks_known r e = ap not (gives_known r e)
 
 -- ---- bodies
 

@@ -47,24 +47,26 @@ possible_desk desk desk' b back nodes rows sizes root p = record {
 
 -- ---- what leases leave
 
--- the same library, calls, files that were made, numbers and indexes
+-- the same library, calls, files that were made, allotted pages and numbers, and indexes
 pub record Stays (s s' : SessionSeen) : Type 0 where
   pub lib : s'.lib ≡ s.lib
   pub calls : s'.calls ≡ s.calls
   pub made : s'.made ≡ s.made
   pub indexed : s'.indexed ≡ s.indexed
+  pub pages : s'.parcel.pages ≡ s.parcel.pages
+  pub inodes : s'.parcel.inodes ≡ s.parcel.inodes
 
 stays_one : (s : SessionSeen) (lease : Lease) → Stays s (with_lease s lease)
-stays_one s (WriteLease f) = record { lib = refl; calls = refl; made = refl; indexed = refl }
-stays_one s (ReadLease f) = record { lib = refl; calls = refl; made = refl; indexed = refl }
-stays_one s (HoldLease h) = record { lib = refl; calls = refl; made = refl; indexed = refl }
+stays_one s (WriteLease f) = record { lib = refl; calls = refl; made = refl; indexed = refl; pages = refl; inodes = refl }
+stays_one s (ReadLease f) = record { lib = refl; calls = refl; made = refl; indexed = refl; pages = refl; inodes = refl }
+stays_one s (HoldLease h) = record { lib = refl; calls = refl; made = refl; indexed = refl; pages = refl; inodes = refl }
 
 pub stays_many : (more : List Lease) (s : SessionSeen) → Stays s (with_leases s more)
-stays_many [] s = record { lib = refl; calls = refl; made = refl; indexed = refl }
+stays_many [] s = record { lib = refl; calls = refl; made = refl; indexed = refl; pages = refl; inodes = refl }
 stays_many (lease ∷ more) s =
     let a = stays_one s lease in
     let b = stays_many more (with_lease s lease) in
-    record { lib = b.lib ∙ a.lib; calls = b.calls ∙ a.calls; made = b.made ∙ a.made; indexed = b.indexed ∙ a.indexed }
+    record { lib = b.lib ∙ a.lib; calls = b.calls ∙ a.calls; made = b.made ∙ a.made; indexed = b.indexed ∙ a.indexed; pages = b.pages ∙ a.pages; inodes = b.inodes ∙ a.inodes }
 
 -- room, indexes and look-ups change nothing of what leases make
 leases_but : (more : List Lease) (x : SessionSeen) (i : List ℕ) (k : ℕ) (r : Room) → with_leases (record x { indexed = i; finds = k; room = r }) more ≡ record (with_leases x more) { indexed = i; finds = k; room = r }

@@ -161,6 +161,13 @@ pub record IsOwnBusy (s : SessionSeen) (n : ℕ) (kind : GrantKind) : Type 0 whe
       (In n (map (λ f. f.ino) s.reads) × (kind ≢ ToRead))
       ⊎ ((In n (file_numbers s.parcel.writes) × (kind ≡ ToHold)) ⊎ In n (hold_numbers s.parcel.holds))
 
+-- So it is on this file, in nodes that are possible.
+pub record IsOwnGrant (desk : DeskSeen) (s : SessionSeen) (n : ℕ) (kind' : GrantKind) : Type 0 where
+  pub busy : IsOwnBusy s n kind'
+  pub nodes : Nodes
+  pub rows : List (Option Row)
+  pub possible : ArePossible desk s.parcel s.reads nodes rows
+
 -- From a desk and a session to these: each of these leases was asked for and lent, in this order, and then this call was made. A file that
 -- was lent for writing stands as it was lent. Where the desk told that a file is busy, another library keeps it so, or a grant of the
 -- session's own does; and some nodes are possible then.

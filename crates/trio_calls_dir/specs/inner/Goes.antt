@@ -4,7 +4,6 @@ use Rattle.trio_rights.specs.declared.kind.Kind.{Kind}
 use Rattle.trio_rights.specs.declared.kind.Kind.TheVariants.{Regular, Directory}
 use Rattle.trio_rights.specs.declared.rights.Creds.{Creds}
 use Rattle.trio_rights.specs.declared.rights.Mode.{Mode}
-use Rattle.trio_lists.specs.Lists.{In}
 use Rattle.trio_nodes.specs.declared.call.Answer.TheVariants.{Done as IsDone, Names}
 use Rattle.trio_nodes.specs.declared.call.Call.{Call}
 use Rattle.trio_nodes.specs.declared.call.Call.TheVariants.{Mkdir, Create, Unlink, Rmdir}
@@ -14,22 +13,22 @@ use Rattle.trio_nodes.specs.Nodes.{Nodes}
 use Rattle.trio_nodes.specs.Walk.{Path}
 use Rattle.trio_desk.specs.Call.{Ask, DeskSeen, Told}
 use Rattle.trio_desk.specs.Calls as desk_calls
-use Rattle.trio_desk.specs.Calls.{Calls}
-use Rattle.trio_desk.specs.Edits.{DoesCall, TakesMore}
-use Rattle.trio_session.specs.Seen.{SessionSeen, in_hand}
+use Rattle.trio_desk.specs.Edits.{DoesCall}
+use Rattle.trio_session.specs.Seen.{SessionSeen}
 use Rattle.trio_edit_laws.specs.Calls.{MayCall}
 use Rattle.trio_walk.specs.Needs.{Needed, asked}
 use Rattle.trio_walk.specs.Walks.{InAllShown, served_by}
 use Rattle.trio_walk.specs.declared.walks.WalkEnd.{WalkEnd}
 use Rattle.trio_walk.specs.declared.walks.WalkEnd.TheVariants.{At, Reply as IsReply, Busy as IsBusyWalk, NoMemory as NoWalkMemory}
 use Rattle.trio_walk.specs.Asks.{AskedBy, TryEnds, grant_ask, noted}
+use Rattle.trio_walk.specs.Tries.{LeavesUnnoted, Passes}
 use Rattle.trio_walk.specs.declared.outcome.Outcome.{Outcome}
 use Rattle.trio_walk.specs.declared.outcome.Outcome.TheVariants.{Busy, NoMemory, Replied}
 use Rattle.trio_calls_dir.specs.declared.replies.Replied as replied
 use Rattle.trio_walk.specs.declared.outcome.Stop.{Stop}
 use Rattle.trio_walk.specs.declared.outcome.Stop.TheVariants.{Busy as IsBusy, NoMemory as LacksMemory}
 use Rattle.trio_calls_dir.specs.Asks.{ComesBy, Target, edited, made_by, wants_of}
-use Rattle.trio_session.specs.Asked.{SameDesk, IsAlike, IsGiven, took}
+use Rattle.trio_session.specs.Asked.{took}
 use Rattle.trio_session.specs.Deeds.{as_lent}
 
 -- ---- the end
@@ -57,8 +56,7 @@ IsNumber call s end made = made ≡ 0
 
 -- What a try leaves that isn't noted yet: its edits where the call is done, and else nothing was written.
 abbrev pub LeavesHere : Creds → Call → Target → SessionSeen → Outcome → SessionSeen → Type 0
-LeavesHere creds call t s (Replied (IsReplied answer)) s' = IsAlike (edited creds call t s) s'
-LeavesHere creds call t s end s' = IsAlike s s'
+LeavesHere creds call t s end s' = LeavesUnnoted (edited creds call t) s end s'
 
 -- the answer is a list of names
 abbrev pub IsNames : Reply → Type 0
@@ -82,18 +80,6 @@ AfterTry desk call made end s' = MayCall desk s'
 
 -- ---- in progress
 
--- From a desk and a session to these, by calls that were given what they asked: nothing was written or allotted, and what was known of the
--- nodes still is.
-pub record Went {D : Type 0} (called : D → Ask → Told → D → Type 0) (seen : D → DeskSeen) (d : D) (s : SessionSeen) (given : List desk_calls.Call) (d' : D) (s' : SessionSeen) : Type 0 where
-  pub each : (c : desk_calls.Call) → In c given → IsGiven c
-  pub made : Calls called d given d'
-  pub alike : IsAlike (took s (map (λ c. c.told) given)) s'
-  pub pages : s'.parcel.pages ≡ s.parcel.pages
-  pub inodes : s'.parcel.inodes ≡ s.parcel.inodes
-  pub calls : s'.calls ≡ s.calls
-  pub same : SameDesk (seen d) (seen d')
-  pub more : TakesMore (seen d') (in_hand s) (in_hand s')
-
 -- what is to be asked: the grants that are needed and no lease serves, and then the allotment
 abbrev pub asks_from : SessionSeen → List Needed → Nodes → Creds → Call → Target → SessionSeen → List Ask
 asks_from s needs now creds call t all = map grant_ask (asked (served_by s) needs) ++ wants_of now creds call t (as_lent s all)
@@ -104,18 +90,14 @@ pub record Goes {D : Type 0} (called : D → Ask → Told → D → Type 0) (see
   pub target : Target
   pub given : List desk_calls.Call
   pub last : List desk_calls.Call
-  pub each : (c : desk_calls.Call) → In c given → IsGiven c
-  pub made : Calls called d (given ++ last) d'
+  pub passes : Passes called seen d s given last d' s'
   pub ends : TryEnds end last
   pub leaves : LeavesHere (seen d').creds call target (took s (map (λ c. c.told) given)) end s'
   pub numbered : IsNumber call (took s (map (λ c. c.told) given)) end number
-  pub calls : s'.calls ≡ s.calls
-  pub same : SameDesk (seen d) (seen d')
   pub comes : InAllShown (seen d') s' (λ now. ComesBy end target now (seen d').creds call)
   pub asks :
       InAllShown (seen d') s' (λ now.
       AskedBy end (map (λ c. c.ask) (given ++ last)) (asks_from s (needs now) now (seen d').creds call target (took s (map (λ c. c.told) given))))
-  pub more : TakesMore (seen d') (in_hand s) (in_hand s')
   pub after : AfterTry (seen d') call number end s'
 
 -- ---- what is known

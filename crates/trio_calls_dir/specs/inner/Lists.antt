@@ -1,7 +1,5 @@
 -- Words of a list of names: of the file to which its walk comes, and of a directory that the session has.
-use Rattle.std.specs.Prelude.{◌≡◌, ℕ, Bool, false, not, is_some, List, [], ◌∷◌, length, take, drop, Option, Some, None, Ok, if◌then◌else◌}
-use Rattle.std.specs.Option.{option_map_or}
-use Rattle.trio_rights.specs.Row.{Row}
+use Rattle.std.specs.Prelude.{◌≡◌, ℕ, not, is_some, List, [], ◌∷◌, length, take, drop, Option, Some, None, Ok, if◌then◌else◌}
 use Rattle.trio_rights.specs.declared.kind.Kind.TheVariants.{Directory}
 use Rattle.trio_rights.specs.declared.rights.Creds.{Creds}
 use Rattle.trio_rights.specs.declared.rights.Need.TheVariants.{Read as ToRead}
@@ -9,19 +7,14 @@ use Rattle.trio_nodes.specs.declared.call.Answer.TheVariants.{Names}
 use Rattle.trio_nodes.specs.declared.call.Reply.{Reply}
 use Rattle.trio_nodes.specs.declared.call.Reply.TheVariants.{Ok as IsReplied, Denied, NotDir}
 use Rattle.trio_nodes.specs.declared.grant.GrantKind.TheVariants.{Read}
-use Rattle.trio_nodes.specs.Nodes.{Nodes}
 use Rattle.trio_nodes.specs.Walk.{Path, is_directory, walk}
 use Rattle.trio_desk.specs.Call.{DeskSeen}
-use Rattle.trio_desk.specs.Contents.{rights_in}
-use Rattle.trio_desk.specs.Ready.{ArePossible}
-use Rattle.trio_laws.specs.session.FileCalls.{gives}
-use Rattle.trio_session.specs.Seen.{SessionSeen, body_shown}
+use Rattle.trio_session.specs.Seen.{SessionSeen}
 use Rattle.trio_walk.specs.declared.met.Met.{Met}
-use Rattle.trio_walk.specs.declared.outcome.Outcome.{Outcome}
-use Rattle.trio_walk.specs.declared.outcome.Outcome.TheVariants.{Busy}
 use Rattle.trio_walk.specs.Needs.{Needed}
-use Rattle.trio_walk.specs.Walks.{InAllShown, IsOwnBusy, gives_met}
+use Rattle.trio_walk.specs.Walks.{InAllShown, gives_met}
 use Rattle.trio_session.specs.Deeds.{names_here}
+use Rattle.trio_deeds.specs.Reads.{allows}
 
 -- ---- the file that was met
 
@@ -37,25 +30,9 @@ met_refusal creds m = if not (is_directory m.kind) then Some NotDir else (if not
 abbrev pub listing_at : Creds → Met → List Needed
 listing_at creds m = if is_some (met_refusal creds m) then [] else record { ino = m.ino; kind = Read } ∷ []
 
--- a grant of the session's own excludes one for reading on this file, in nodes that are possible
-pub record IsOwnGrant (desk : DeskSeen) (s : SessionSeen) (n : ℕ) : Type 0 where
-  pub busy : IsOwnBusy s n Read
-  pub nodes : Nodes
-  pub rows : List (Option Row)
-  pub possible : ArePossible desk s.parcel s.reads nodes rows
-
--- where the library's own grant keeps the file busy it is one of the session's
-abbrev pub BusyAt : DeskSeen → SessionSeen → ℕ → Outcome → Type 0
-BusyAt desk s n (Busy holder) = holder.lib ≡ s.lib → IsOwnGrant desk s n
-BusyAt desk s n end = Unit {0}
-
 -- ---- a directory that is had
-
--- the rights that the session shows of a directory give reading
-abbrev pub lets_read : SessionSeen → Creds → ℕ → Bool
-lets_read s creds dir = option_map_or (λ body. gives creds ToRead (rights_in Directory body)) (body_shown s dir) false
 
 -- what is replied of it: the count of its names, and at most 64 of them in byte order from a position on, where its rights give reading
 abbrev pub list_reply : Creds → SessionSeen → ℕ → ℕ → Reply
 list_reply creds s dir from =
-    if lets_read s creds dir then IsReplied (Names (length (names_here s dir)) (take 64 (drop from (names_here s dir)))) else Denied
+    if allows s dir Directory creds ToRead then IsReplied (Names (length (names_here s dir)) (take 64 (drop from (names_here s dir)))) else Denied

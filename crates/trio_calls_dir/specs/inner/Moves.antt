@@ -1,8 +1,7 @@
 -- Words of a rename: its stages, and what keeps its grants off.
-use Rattle.std.specs.Prelude.{◌≡◌, ◌≢◌, ℕ, Bool, List, [], ◌∷◌, ◌++◌, Option, Some, None, Ok}
+use Rattle.std.specs.Prelude.{◌≡◌, ◌≢◌, ℕ, Bool, List, [], ◌∷◌, ◌++◌, Some, None, Ok}
 use Rattle.trio_lists.specs.Lists.{In}
 use Rattle.trio_names.specs.Name.{IsName}
-use Rattle.trio_rights.specs.Row.{Row}
 use Rattle.trio_rights.specs.declared.rights.Creds.{Creds}
 use Rattle.trio_nodes.specs.declared.grant.GrantKind.{GrantKind}
 use Rattle.trio_nodes.specs.declared.call.Call.{Call}
@@ -11,7 +10,6 @@ use Rattle.trio_nodes.specs.Nodes.{Nodes, find_named}
 use Rattle.trio_nodes.specs.Walk.{Path, dir_of, name_of, walk_into}
 use Rattle.trio_nodes.specs.After.{batch_nodes}
 use Rattle.trio_desk.specs.Call.{DeskSeen}
-use Rattle.trio_desk.specs.Ready.{ArePossible}
 use Rattle.trio_laws.specs.session.DirCalls.{ComesAcross, early_refusal}
 use Rattle.trio_session.specs.Seen.{IsOpenDir, SessionSeen, place_shown}
 use Rattle.trio_edit_laws.specs.Calls.{MayCall}
@@ -19,7 +17,7 @@ use Rattle.trio_walk.specs.declared.met.Met.{Met}
 use Rattle.trio_walk.specs.declared.outcome.Outcome.{Outcome}
 use Rattle.trio_walk.specs.declared.outcome.Outcome.TheVariants.{Busy}
 use Rattle.trio_walk.specs.Needs.{Needed, into_needs, reached_by, moving_needs}
-use Rattle.trio_walk.specs.Walks.{FindsEntry, HasMet, InAllShown, IsOwnBusy, MayLookIn}
+use Rattle.trio_walk.specs.Walks.{FindsEntry, HasMet, InAllShown, IsOwnGrant, MayLookIn}
 
 -- ---- what is needed
 
@@ -33,15 +31,12 @@ across_needs now creds shown from to dir =
     into_needs now creds shown (both_dirs from to) (dir_of to)
     ++ reached_by (walk_into now creds (both_dirs from to) (dir_of to)) (λ new_dir. moving_needs now from to dir new_dir)
 
--- a grant of the session's own excludes one of these that are needed, in nodes that are possible
+-- a grant of the session's own excludes one of these that are needed
 pub record OwnKeepsOff (desk : DeskSeen) (s : SessionSeen) (needs : Nodes → List Needed) : Type 0 where
   pub ino : ℕ
   pub kind : GrantKind
-  pub busy : IsOwnBusy s ino kind
-  pub nodes : Nodes
-  pub rows : List (Option Row)
-  pub possible : ArePossible desk s.parcel s.reads nodes rows
-  pub needed : In (record { ino = ino; kind = kind }) (needs (batch_nodes desk.creds s.calls nodes))
+  pub own : IsOwnGrant desk s ino kind
+  pub needed : In (record { ino = ino; kind = kind }) (needs (batch_nodes desk.creds s.calls own.nodes))
 
 -- where the library itself keeps a file busy that is needed, a grant of the session's does
 abbrev pub NeedsBusyAt : DeskSeen → SessionSeen → (Nodes → List Needed) → Outcome → Type 0

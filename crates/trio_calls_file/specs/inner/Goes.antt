@@ -1,16 +1,13 @@
 -- Words of a try in progress: from where a walk has met a file, to how the try ends.
-use Rattle.std.specs.Prelude.{◌≡◌, ◌≢◌, ◌<◌, ℕ, ◌+◌, nat_le, Bool, true, not, is_some, IsTrue, List, [], ◌∷◌, ◌++◌, map, length, take, drop, Option, None, Some, Result, Ok, Err, if◌then◌else◌}
-use Rattle.trio_rights.specs.Row.{Row}
+use Rattle.std.specs.Prelude.{◌≡◌, ◌≢◌, ◌<◌, ℕ, ◌+◌, nat_le, Bool, true, not, is_some, List, [], ◌∷◌, ◌++◌, map, length, take, drop, Option, None, Some, Result, Ok, Err, if◌then◌else◌}
 use Rattle.trio_rights.specs.declared.kind.Kind.{Kind}
-use Rattle.trio_rights.specs.declared.kind.Kind.TheVariants.{Regular, Directory}
+use Rattle.trio_rights.specs.declared.kind.Kind.TheVariants.{Regular}
 use Rattle.trio_rights.specs.declared.rights.Creds.{Creds}
 use Rattle.trio_rights.specs.declared.rights.Need.{Need}
 use Rattle.trio_rights.specs.declared.rights.Need.TheVariants.{Read as ToRead, Write as ToWrite}
-use Rattle.trio_lists.specs.Lists.{In}
 use Rattle.trio_nodes.specs.declared.grant.GrantKind.{GrantKind}
-use Rattle.trio_nodes.specs.declared.grant.GrantKind.TheVariants.{Read, Write, Hold}
-use Rattle.trio_nodes.specs.declared.answers.GrantFault.TheVariants.{Busy as BusyGrant, Denied as DeniedGrant}
-use Rattle.trio_nodes.specs.declared.call.Answer.TheVariants.{Bytes, Names, Stat as IsStat}
+use Rattle.trio_nodes.specs.declared.grant.GrantKind.TheVariants.{Read, Write}
+use Rattle.trio_nodes.specs.declared.call.Answer.TheVariants.{Bytes, Names}
 use Rattle.trio_nodes.specs.declared.call.Call.{Call}
 use Rattle.trio_nodes.specs.declared.call.Call.TheVariants.{Write as WriteCall, Read as ReadCall, Truncate, Stat}
 use Rattle.trio_nodes.specs.declared.call.Reply.{Reply}
@@ -18,29 +15,26 @@ use Rattle.trio_nodes.specs.declared.call.Reply.TheVariants.{Ok as IsReplied, De
 use Rattle.trio_nodes.specs.Nodes.{Nodes, node_at}
 use Rattle.trio_nodes.specs.Walk.{Path, is_directory, walk}
 use Rattle.trio_nodes.specs.Apply.{largest_size}
-use Rattle.trio_desk.specs.Call.{Ask, DeskSeen, Grant, Told, NotLent}
+use Rattle.trio_desk.specs.Call.{Ask, DeskSeen, Told}
 use Rattle.trio_desk.specs.Calls as desk_calls
-use Rattle.trio_desk.specs.Calls.{Calls}
-use Rattle.trio_desk.specs.Edits.{TakesMore}
-use Rattle.trio_desk.specs.Ready.{ArePossible}
 use Rattle.trio_desk.specs.Agrees.{HasRights}
-use Rattle.trio_desk.specs.Contents.{Rights, rights_in}
-use Rattle.trio_laws.specs.session.FileCalls.{gives, refusal}
-use Rattle.trio_session.specs.Layout.{size_in}
-use Rattle.trio_session.specs.Seen.{SessionSeen, in_hand, kind_shown, pages_shown, serves}
+use Rattle.trio_desk.specs.Contents.{Rights}
+use Rattle.trio_laws.specs.session.FileCalls.{refusal}
+use Rattle.trio_session.specs.Seen.{SessionSeen}
 use Rattle.trio_edit_laws.specs.Calls.{MayCall}
 use Rattle.trio_walk.specs.declared.met.Met.{Met}
 use Rattle.trio_walk.specs.declared.outcome.Outcome.{Outcome}
 use Rattle.trio_walk.specs.declared.outcome.Outcome.TheVariants.{Replied, Busy, NoMemory}
 use Rattle.trio_walk.specs.Needs.{Needed, asked, path_of}
 use Rattle.trio_walk.specs.Asks.{AskedBy, TryEnds, grant_ask, noted}
-use Rattle.trio_walk.specs.Walks.{InAllShown, IsOwnBusy, denies, gives_met, served_by}
+use Rattle.trio_walk.specs.Tries.{LeavesUnnoted, Passes}
+use Rattle.trio_walk.specs.Walks.{InAllShown, IsOwnGrant, gives_met, served_by}
 use Rattle.trio_walk.specs.declared.outcome.Stop.{Stop}
 use Rattle.trio_walk.specs.declared.outcome.Stop.TheVariants.{Busy as IsBusy, NoMemory as LacksMemory}
 use Rattle.trio_calls_file.specs.Asks.{ComesTo, asks_of, edited, wanted_pages}
-use Rattle.trio_session.specs.Asked.{IsAlike, IsGiven, allot_asks, took, SameDesk}
-use Rattle.trio_session.specs.Deeds.{body_had, bytes_had}
-use Rattle.trio_deeds.specs.Reads.{entries_counted}
+use Rattle.trio_session.specs.Asked.{allot_asks, took}
+use Rattle.trio_session.specs.Deeds.{bytes_had}
+use Rattle.trio_deeds.specs.Reads.{allows, stat_had}
 
 -- ---- checks
 
@@ -84,10 +78,6 @@ met_needs creds m call = if is_some (checked creds m call) then [] else record {
 abbrev pub asks_at : Creds → SessionSeen → Met → Call → Nodes → List Ask
 asks_at creds s m call now = map grant_ask (asked (served_by s) (met_needs creds m call)) ++ allot_asks (wanted_pages now creds call) 0
 
--- one grant is asked, unless a lease serves
-abbrev pub one_ask : SessionSeen → ℕ → GrantKind → List Ask
-one_ask s ino kind = if serves s ino kind then [] else Grant ino kind ∷ []
-
 -- the pages alone
 abbrev pub wants_pages_for : Creds → Call → Nodes → List Ask
 wants_pages_for creds call now = allot_asks (wanted_pages now creds call) 0
@@ -115,57 +105,9 @@ Unrefused desk s call ino = InAllShown desk s (MayBeDone desk.creds call ino)
 abbrev pub bytes_reply : SessionSeen → ℕ → ℕ → ℕ → Reply
 bytes_reply s ino at len = IsReplied (Bytes (take len (drop at (bytes_had s ino))))
 
--- the size of a file, which of a directory is its number of entries
-abbrev pub size_had : SessionSeen → ℕ → Kind → ℕ
-size_had s ino Directory = entries_counted (pages_shown s ino)
-size_had s ino Regular = size_in (body_had s ino)
-
 -- what a file is, by its body, where that gives reading
 abbrev pub stat_reply : Creds → SessionSeen → ℕ → Kind → Reply
-stat_reply creds s ino kind =
-    let r = rights_in kind (body_had s ino) in
-    if gives creds ToRead r then IsReplied (IsStat r.kind r.mode r.uid r.gid (size_had s ino kind)) else Denied
-
--- ---- in progress
-
--- From a desk and a session to these, by calls that were given what they asked, and then by this one. Nothing was written, and what
--- was known of the nodes still is.
-pub record Went {D : Type 0} (called : D → Ask → Told → D → Type 0) (seen : D → DeskSeen) (d : D) (s : SessionSeen) (given last : List desk_calls.Call) (d' : D) (s' : SessionSeen) : Type 0 where
-  pub each : (c : desk_calls.Call) → In c given → IsGiven c
-  pub made : Calls called d (given ++ last) d'
-  pub alike : IsAlike (took s (map (λ c. c.told) given)) s'
-  pub calls : s'.calls ≡ s.calls
-  pub same : SameDesk (seen d) (seen d')
-  pub may : MayCall (seen d') s'
-  pub more : TakesMore (seen d') (in_hand s) (in_hand s')
-
--- a grant of the session's own excludes the one that is asked of the file, in nodes that are possible
-pub record IsOwnGrant (desk : DeskSeen) (s : SessionSeen) (m : Met) (kind' : GrantKind) : Type 0 where
-  pub busy : IsOwnBusy s m.ino kind'
-  pub nodes : Nodes
-  pub rows : List (Option Row)
-  pub possible : ArePossible desk s.parcel s.reads nodes rows
-
--- How the taking of a file ends; only the root may be denied, where its rights aren't known. Where the desk told that the file is busy,
--- another library keeps it so, or a grant of the session's own does.
-abbrev pub TakenAs : DeskSeen → SessionSeen → Met → GrantKind → List desk_calls.Call → List desk_calls.Call → Result Bool Stop → SessionSeen → Type 0
-TakenAs desk s m kind given last (Ok true) s' =
-    (last ≡ []) × (one_ask s m.ino kind ≡ map (λ c. c.ask) given) × IsTrue (serves s' m.ino kind) × (kind ≢ Hold → kind_shown s' m.ino ≡ Some m.kind)
-TakenAs desk s m kind given last (Ok denied) s' =
-    (given ≡ []) × (last ≡ record { ask = Grant 1 kind; told = NotLent (DeniedGrant 1) } ∷ []) × (one_ask s m.ino kind ≡ Grant 1 kind ∷ [])
-    × (m.ino ≡ 1) × (m.rights ≡ None) × IsTrue (denies desk.creds desk.root kind)
-TakenAs desk s m kind given last (Err (IsBusy holder)) s' =
-    (given ≡ []) × (last ≡ record { ask = Grant m.ino kind; told = NotLent (BusyGrant holder) } ∷ []) × (one_ask s m.ino kind ≡ Grant m.ino kind ∷ [])
-    × (holder.lib ≡ s.lib → IsOwnGrant desk s m kind)
-TakenAs desk s m kind given last (Err LacksMemory) s' =
-    TryEnds NoMemory last × ((rest : List Ask) × (one_ask s m.ino kind ≡ map (λ c. c.ask) (given ++ last) ++ rest))
-
--- A file is taken, from a desk and a session to these.
-pub record TookFile {D : Type 0} (called : D → Ask → Told → D → Type 0) (seen : D → DeskSeen) (d : D) (s : SessionSeen) (m : Met) (kind : GrantKind) (result' : Result Bool Stop) (d' : D) (s' : SessionSeen) : Type 0 where
-  pub given : List desk_calls.Call
-  pub last : List desk_calls.Call
-  pub went : Went called seen d s given last d' s'
-  pub taken : TakenAs (seen d) s m kind given last result' s'
+stat_reply creds s ino kind = if allows s ino kind creds ToRead then IsReplied (stat_had s ino kind) else Denied
 
 -- ---- the end
 
@@ -177,8 +119,7 @@ try_ends (Err LacksMemory) = NoMemory
 
 -- What a try leaves that isn't noted yet: an edit where the call is done, and else nothing was written.
 abbrev pub LeavesHere : Call → ℕ → SessionSeen → Outcome → SessionSeen → Type 0
-LeavesHere call ino s (Replied (IsReplied answer)) s' = IsAlike (edited call ino s) s'
-LeavesHere call ino s end s' = IsAlike s s'
+LeavesHere call ino s end s' = LeavesUnnoted (edited call ino) s end s'
 
 -- the answer is bytes that were read
 abbrev pub IsBytes : Reply → Type 0
@@ -207,20 +148,16 @@ AfterTry desk call end s' = MayCall desk s'
 pub record Goes {D : Type 0} (called : D → Ask → Told → D → Type 0) (seen : D → DeskSeen) (d : D) (s : SessionSeen) (call : Call) (ino : ℕ) (wants : Nodes → List Ask) (end : Outcome) (d' : D) (s' : SessionSeen) : Type 0 where
   pub given : List desk_calls.Call
   pub last : List desk_calls.Call
-  pub each : (c : desk_calls.Call) → In c given → IsGiven c
-  pub made : Calls called d (given ++ last) d'
+  pub passes : Passes called seen d s given last d' s'
   pub ends : TryEnds end last
   pub leaves : LeavesHere call ino (took s (map (λ c. c.told) given)) end s'
-  pub calls : s'.calls ≡ s.calls
-  pub same : SameDesk (seen d) (seen d')
   pub asks : InAllShown (seen d') s' (λ now. AskedBy end (map (λ c. c.ask) (given ++ last)) (wants now))
-  pub more : TakesMore (seen d') (in_hand s) (in_hand s')
   pub after : AfterTry (seen d') call end s'
 
 -- a grant of the library's own that keeps a file busy is one of the session's that excludes this call's; what isn't read is a regular file
-abbrev pub BusyAt : DeskSeen → SessionSeen → Met → Call → Outcome → Type 0
-BusyAt desk s m call (Busy holder) = holder.lib ≡ s.lib → IsOwnGrant desk s m (grant_for call) × (grant_for call ≢ Read → m.kind ≡ Regular)
-BusyAt desk s m call end = Unit {0}
+abbrev pub CallBusyAt : DeskSeen → SessionSeen → Met → Call → Outcome → Type 0
+CallBusyAt desk s m call (Busy holder) = holder.lib ≡ s.lib → IsOwnGrant desk s m.ino (grant_for call) × (grant_for call ≢ Read → m.kind ≡ Regular)
+CallBusyAt desk s m call end = Unit {0}
 
 -- the whole try, but for its note: it comes to this file, and what is to be asked of the desk is asked
 pub record RepliesTo {D : Type 0} (called : D → Ask → Told → D → Type 0) (seen : D → DeskSeen) (d : D) (s : SessionSeen) (call : Call) (end : Outcome) (d' : D) (s' : SessionSeen) : Type 0 where

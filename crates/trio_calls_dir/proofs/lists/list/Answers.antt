@@ -1,7 +1,7 @@
 use Rattle.trio_calls_dir.proofs.Words.{Call, Goes, dir_needs, number_made, shows_root, subst, sym, try_ends}
 use Rattle.trio_calls_dir.proofs.Others.{stop_others}
 use Rattle.trio_calls_dir.proofs.ListsWalked.{comes_here, list_goes, list_others, list_stops}
-use Rattle.trio_calls_dir.proofs.Walked.{way_may}
+use Rattle.trio_calls_dir.proofs.Walkable.{way_may}
 use Rattle.trio_calls_dir.proofs.lists.list.Goals as goal
 use Rattle.trio_calls_dir.proofs.Walkable.{may_walk}
 

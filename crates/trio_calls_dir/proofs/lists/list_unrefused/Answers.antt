@@ -1,6 +1,7 @@
-use Rattle.trio_calls_dir.proofs.Words.{◌<◌, ◌≡◌, BusyAt, Creds, Goes, Holder, LacksMemory, ListNames, MatchResult, length, list_reply, listing_at, subst, sym}
+use Rattle.trio_calls_dir.proofs.Words.{◌<◌, ◌≡◌, BusyAt, Creds, Goes, Holder, LacksMemory, ListNames, MatchResult, Read, length, list_reply, listing_at, subst, sym}
 use Rattle.trio_walk.specs.declared.outcome.Outcome.TheVariants.{Busy as IsBusyEnd}
-use Rattle.trio_calls_dir.proofs.ListsMet.{busy_at, busy_goes, denied_goes, listed_goes, may_take, short_goes, taken_had}
+use Rattle.trio_walk.proofs.Ways.{took_busy}
+use Rattle.trio_calls_dir.proofs.ListsMet.{busy_goes, denied_goes, listed_goes, may_take, short_goes, taken_had}
 use Rattle.trio_calls_dir.proofs.lists.list_unrefused.Goals as goal
 use Rattle.trio_calls_dir.proofs.Walkable.{may_walk}
 
@@ -37,8 +38,8 @@ returns-in-Err-Busy-clause-goes g c path comes =
 
 pub returns-in-Err-Busy-clause-busy : goal.returns-in-Err-Busy-clause-busy
 returns-in-Err-Busy-clause-busy g c =
-    subst (λ (h : Holder). BusyAt (g.D.Desk.seen c.args.desk.now) c.args.session.now c.args.met.ino (IsBusyEnd h)) (sym c.in-Err-Busy.holder-is)
-    (busy_at g.D.Desk.called g.D.Desk.seen c.args.desk.now c.args.session.now c.args.met c.requires.may c.take.new.desk c.take.new.session c.in-Err-Busy.holder (rw c.in-Err-Busy.field-0-is at c.in-Err-Busy.ensures))
+    subst (λ (h : Holder). BusyAt (g.D.Desk.seen c.args.desk.now) c.args.session.now c.args.met.ino Read (IsBusyEnd h)) (sym c.in-Err-Busy.holder-is)
+    (took_busy g.D.Desk.called g.D.Desk.seen c.args.desk.now c.args.session.now c.args.met Read c.requires.may.edits.on c.take.new.desk c.take.new.session c.in-Err-Busy.holder (rw c.in-Err-Busy.field-0-is at c.in-Err-Busy.ensures))
 
 pub returns-in-Err-NoMemory-clause-goes : goal.returns-in-Err-NoMemory-clause-goes
 returns-in-Err-NoMemory-clause-goes g c path comes =

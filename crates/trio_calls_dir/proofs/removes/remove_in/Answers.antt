@@ -1,5 +1,6 @@
-use Rattle.trio_calls_dir.proofs.Words.{◌∙◌, Busy, Goes, Hold, HoldBusyAt, Holder, Ok, Some, Took, ap, name_of, named_needs, number_made, removing_needs, subst, sym, try_ends}
-use Rattle.trio_calls_dir.proofs.RemovesTake.{busy_goes, busy_off, held_goes, may_clear, may_hold, short_goes}
+use Rattle.trio_calls_dir.proofs.Words.{◌∙◌, Busy, BusyAt, Goes, Hold, Holder, Ok, Some, Took, ap, name_of, named_needs, number_made, removing_needs, subst, sym, try_ends}
+use Rattle.trio_walk.proofs.Ways.{took_busy}
+use Rattle.trio_calls_dir.proofs.RemovesTake.{busy_goes, held_goes, may_clear, may_hold, short_goes}
 use Rattle.trio_calls_dir.proofs.RemovesClear.{above_none, cleared_goes, full_goes, there_some}
 use Rattle.trio_calls_dir.proofs.removes.remove_in.Goals as goal
 use Rattle.trio_calls_dir.proofs.Walkable.{may_walk}
@@ -33,8 +34,8 @@ returns-in-Err-Busy-clause-goes g c =
 
 pub returns-in-Err-Busy-clause-others : goal.returns-in-Err-Busy-clause-others
 returns-in-Err-Busy-clause-others g c =
-    subst (λ (h : Holder). HoldBusyAt (g.D.Desk.seen c.args.desk.now) c.args.session.now c.args.file.ino (Busy h)) (sym c.in-Err-Busy.holder-is)
-    (busy_off g.D.Desk.called g.D.Desk.seen c.args.desk.now c.args.session.now c.args.call.now c.args.path.now c.args.dir c.args.file (record { may = c.requires.may; call = c.requires.call; root = c.requires.root; opens = c.requires.open; comes = c.requires.comes; entry = c.requires.entry; met = c.requires.met; named = c.requires.named }) c.take.new.desk c.take.new.session c.in-Err-Busy.holder (rw c.in-Err-Busy.field-0-is at c.in-Err-Busy.ensures))
+    subst (λ (h : Holder). BusyAt (g.D.Desk.seen c.args.desk.now) c.args.session.now c.args.file.ino Hold (Busy h)) (sym c.in-Err-Busy.holder-is)
+    (took_busy g.D.Desk.called g.D.Desk.seen c.args.desk.now c.args.session.now c.args.file Hold c.requires.may.edits.on c.take.new.desk c.take.new.session c.in-Err-Busy.holder (rw c.in-Err-Busy.field-0-is at c.in-Err-Busy.ensures))
 
 pub returns-in-Err-NoMemory-clause-goes : goal.returns-in-Err-NoMemory-clause-goes
 returns-in-Err-NoMemory-clause-goes g c = short_goes g.D.Desk.called g.D.Desk.seen c.args.desk.now c.args.session.now c.args.call.now c.args.path.now c.args.dir c.args.file (record { may = c.requires.may; call = c.requires.call; root = c.requires.root; opens = c.requires.open; comes = c.requires.comes; entry = c.requires.entry; met = c.requires.met; named = c.requires.named }) c.take.new.desk c.take.new.session (rw c.in-Err-NoMemory.field-0-is at c.in-Err-NoMemory.ensures)
