@@ -24,7 +24,7 @@ use trio_rights::LibNo;
 use trio_runner::laws::{
     order_is_logged, order_is_one, ran_ends_free, ran_is_order, ran_is_printed,
 };
-use trio_runner::{LibTold, creds_of, play, run};
+use trio_runner::{LibTold, RawAndHonest, creds_of, play, run};
 use trio_script::ScriptLib;
 
 /// What a run left.
@@ -99,7 +99,7 @@ pub fn play_in_turns(alloc: Global, image: Image, libs: &[ScriptLib]) -> Result<
         Ok(ctl) => ctl,
         Err((_image, fault)) => return Err(fault),
     };
-    let tolds = play(alloc, &mut ctl, libs)?;
+    let tolds = play::<RawAndHonest>(alloc, &mut ctl, libs)?;
     ctl.is_recorded();
     let image = last_image(ctl)?;
     Ok(PlayEnd { tolds, image })
@@ -129,7 +129,7 @@ fn play_in_threads<R: Threads + Wait + Sync, G: Gate + Sync>(
         Ok(ctl) => ctl,
         Err((_image, fault)) => return Err(fault),
     };
-    let (ctl, tolds) = run(rt, alloc, ctl, libs, gate)?;
+    let (ctl, tolds) = run::<RawAndHonest, _, _>(rt, alloc, ctl, libs, gate)?;
     let image = last_image(ctl)?;
     Ok(PlayEnd { tolds, image })
 }

@@ -16,7 +16,7 @@ use trio_ctl::Ctl;
 use trio_image::make;
 use trio_page::NoMemory;
 use trio_report::LineAnswer;
-use trio_runner::{LibTold, creds_of, play};
+use trio_runner::{LibTold, RawAndHonest, creds_of, play};
 use trio_script::{ScriptLib, read_script};
 
 /// The pages of the image, of 4096 bytes each, and its inode numbers.
@@ -147,7 +147,7 @@ fn is_released(alloc: Global, ctl: &mut Ctl, libs: &[ScriptLib]) -> bool
     requires few { length libs.now ≤ 16 }
     requires within { AreWithin libs.now }
 {
-    match play(alloc, ctl, libs) {
+    match play::<RawAndHonest>(alloc, ctl, libs) {
         Ok(tolds) => ends_accepted(&tolds),
         Err(_) => false,
     }

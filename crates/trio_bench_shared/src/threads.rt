@@ -18,7 +18,7 @@ use trio_ctl::Ctl;
 use trio_io::OpenGate;
 use trio_page::NoMemory;
 use trio_rights::Creds;
-use trio_runner::{creds_of, play, run};
+use trio_runner::{RawAndHonest, creds_of, play, run};
 use trio_samples::files::root;
 use trio_samples::regular;
 use trio_script::{ScriptLib, read_script};
@@ -192,7 +192,7 @@ fn nanos_of_play<R: Clock>(rt: &R, alloc: Global, ctl: &mut Ctl, libs: &[ScriptL
     requires within { AreWithin libs.now }
 {
     let start = now(rt);
-    match play(alloc, ctl, libs) {
+    match play::<RawAndHonest>(alloc, ctl, libs) {
         Ok(_tolds) => nanos_since(rt, start),
         Err(_) => None,
     }
@@ -209,7 +209,7 @@ fn nanos_in_threads<R: Threads + Wait + Sync + Clock>(
 {
     let ctl = four_files(alloc, libs)?;
     let start = now(rt);
-    match run(rt, alloc, ctl, libs, &OpenGate) {
+    match run::<RawAndHonest, _, _>(rt, alloc, ctl, libs, &OpenGate) {
         Ok(_ran) => nanos_since(rt, start),
         Err(_) => None,
     }

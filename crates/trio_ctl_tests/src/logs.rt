@@ -17,7 +17,7 @@ use trio_nodes::Nodes;
 use trio_page::NoMemory;
 use trio_report::put_answer;
 use trio_rights::{Creds, Kind, Mode};
-use trio_runner::{LibTold, creds_of, play};
+use trio_runner::{LibTold, RawAndHonest, creds_of, play};
 use trio_script::{ScriptLib, read_script};
 
 /// What is looked at once a script was played.
@@ -47,7 +47,7 @@ fn plays(alloc: Global, ctl: &mut Ctl, libs: &[ScriptLib], look: Look) -> bool
     requires few { length libs.now ≤ 16 }
     requires within { AreWithin libs.now }
 {
-    match play(alloc, ctl, libs) {
+    match play::<RawAndHonest>(alloc, ctl, libs) {
         Ok(tolds) => shows(alloc, ctl, &tolds, look),
         Err(_) => false,
     }

@@ -19,7 +19,7 @@ use trio_names::Path;
 use trio_nodes::ReleaseAnswer;
 use trio_page::Reads;
 use trio_rights::LibNo;
-use trio_runner::{creds_of, play};
+use trio_runner::{RawAndHonest, creds_of, play};
 use trio_script::ScriptLib;
 
 /// The image that the generated workload of 1,000 files leaves.
@@ -53,7 +53,7 @@ fn is_played(alloc: Global, ctl: &mut Ctl, libs: &[ScriptLib]) -> Option<()>
     requires few { length libs.now ≤ 16 }
     requires within { AreWithin libs.now }
 {
-    play(alloc, ctl, libs).ok()?;
+    play::<RawAndHonest>(alloc, ctl, libs).ok()?;
     Some(())
 }
 

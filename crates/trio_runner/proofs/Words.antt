@@ -127,14 +127,15 @@ pub use Rattle.trio_walk.specs.declared.outcome.Outcome.{Outcome}
 pub use Rattle.trio_walk.specs.declared.outcome.Outcome.TheVariants.{Busy, NoMemory, Replied}
 pub use Rattle.trio_runner.specs.Courses.{CourseGoes, Goes, Going, LibRan, Place, TurnGoes, arrives, sees_at}
 pub use Rattle.trio_runner.specs.Honest.{HonestComes, Noted, Notes, SessionCalled, is_dir_call, sees, told_outcome, unnoted}
+pub use Rattle.trio_runner.specs.Kinds.{Suits}
 pub use Rattle.trio_runner.specs.Line.{Alone, Asks, EndComes, EndsAll, EndsAlone, LineComes, ask_of, end_of, has_after, told_grant, told_of}
 pub use Rattle.trio_runner.specs.Logged.{AreEntries, IsBack, LineMakes, Prints, call_told, calls_in, entries_by}
 pub use Rattle.trio_runner.specs.Moves.{AreMoves, apart, back_call, entries_of}
 pub use Rattle.trio_runner.specs.Play.{AtStart, BeginsWith, Heard, InSession, IsLibraryOf, Players, Plays, Share, TakesTurn, Things, TurnComes, creds_in, heard_by, new_session, share_of, told_to, untold, with_answer, with_end}
 pub use Rattle.trio_runner.specs.PlayLaws.{NothingOut}
-pub use Rattle.trio_runner.specs.Players.{Answer, Ended, GoesOn, HasClosed, Said, TurnMade, with_told}
+pub use Rattle.trio_runner.specs.Players.{Answer, Ended, GoesOn, HasClosed, Said, TurnMade, TurnTaken, with_told}
 pub use Rattle.trio_runner.specs.Rounds.{Ends, Placed, Says, SaysHonest, Turn, course, courses_from, in_rounds, line_turns, longest, placed, round_of, turn_list, turns_of}
 pub use Rattle.trio_runner.specs.Runs.{IsSeenIn, ScriptRan, origin_in}
 pub use Rattle.trio_runner.specs.declared.threads.LibRun.{LibRun}
-pub use Rattle.trio_runner.specs.inner.Ready.{AreNew, AreSeated, HasAll, HoldsAll, IsHeld, Took, TookNext, TookTurn, TurnTaken, lines_in, share_in, table}
+pub use Rattle.trio_runner.specs.inner.Ready.{AreNew, AreSeated, HasAll, HoldsAll, IsHeld, Took, TookNext, TookTurn, table}
 pub use Rattle.trio_runner.specs.inner.Threads.{Arrives, MayGoOn, RanAll, Went, WentThrough, place_at}

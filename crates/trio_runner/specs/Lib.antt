@@ -4,6 +4,7 @@ pub mod Honest
 pub mod Rounds
 pub mod Play
 pub mod Players
+pub mod Kinds
 pub mod Logged
 pub mod History
 pub mod PlayLaws

@@ -1,5 +1,5 @@
 -- What a turn of a library comes to at its desk, whatever its kind and its desk.
-use Rattle.std.specs.Prelude.{◌≡◌, ⊤, List, length}
+use Rattle.std.specs.Prelude.{◌≡◌, ⊤, List, length, Option, None, Some}
 use Rattle.trio_rights.specs.declared.rights.LibNo.{LibNo}
 use Rattle.trio_desk.specs.Call.{Ask, DeskSeen, Told}
 use Rattle.trio_desk.specs.Calls.{Call, Calls}
@@ -56,3 +56,9 @@ TurnMade called seen (SaysHonest line) d (InSession s) (Said answer) d' (InSessi
 TurnMade called seen Ends d (Things has) (Ended end) d' (Things has') = EndCalled called d has end d' × (has' ≡ nothing)
 TurnMade called seen Ends d (InSession s) (Ended end) d' (InSession s') = Settles called d s d' s' × (end ≡ Settled (length s.calls))
 TurnMade called seen turn d share answer d' share' = ⊥
+
+-- a turn was taken at a desk, where one is left, and its answer is kept; else nothing changed
+abbrev pub TurnTaken : {D : Type 0} → (D → Ask → Told → D → Type 0) → (D → DeskSeen) → Option Turn → D → Share → Heard → D → Share → Heard → Type 0
+TurnTaken called seen None d share told d' share' told' = (d' ≡ d) × (share' ≡ share) × (told' ≡ told)
+TurnTaken called seen (Some turn) d share told d' share' told' =
+    (answer : Answer) × TurnMade called seen turn d share answer d' share' × (told' ≡ with_told told answer)

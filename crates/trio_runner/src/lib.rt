@@ -5,6 +5,9 @@
 //! its own a library plays its lines one after another, and then its end, at its seat at the controller.
 //! What that comes to is said in `specs/Courses.antt`, and what the whole does in `specs/Runs.antt`.
 //!
+//! Which kinds of libraries there are is the caller's choice ([`Kinds`]). This crate has two, raw and
+//! honest ([`RawAndHonest`]).
+//!
 //! A line is played at the library's desk, whatever desk that is: a raw library's as it stands, and
 //! an honest one's by the library's session. What they come to is said in `specs/Line.antt` and
 //! `specs/Honest.antt`, the order of the turns in `specs/Rounds.antt`, and the whole in
@@ -23,7 +26,8 @@ mod rounds;
 mod threads;
 mod told;
 
-pub use players::Player;
+pub use kinds::{AnyPlayer, Kinds, RawAndHonest};
+pub use players::{Player, take_turn};
 pub use rounds::{creds_of, play};
 pub use threads::run;
 pub use told::LibTold;

@@ -2,9 +2,8 @@
 
 ghost use Rattle.std.specs.Prelude.{◌≡◌, ◌++◌, ◌∷◌, [], ℕ, IfOk, OnOk, Some, map, slice_get};
 ghost use Rattle.trio_runner.specs.Play.{Share};
-ghost use Rattle.trio_runner.specs.Players.{Ended, GoesOn, HasClosed, Said, TurnMade};
+ghost use Rattle.trio_runner.specs.Players.{Ended, GoesOn, HasClosed, Said, TurnMade, TurnTaken};
 ghost use Rattle.trio_runner.specs.Rounds.{Ends, Turn};
-ghost use Rattle.trio_runner.specs.inner.Ready.{TurnTaken};
 
 use crate::told::LibTold;
 use std::alloc::Global;
@@ -53,7 +52,7 @@ pub trait Player: Sized {
 
 /// Takes the turn of this number at the library's desk, and keeps the answer: the line, or behind the
 /// last one the end. A library that has ended is passed over.
-pub(crate) fn take_turn<P: Player, D: Desk>(
+pub fn take_turn<P: Player, D: Desk>(
     alloc: Global,
     desk: &mut D,
     player: &mut P,

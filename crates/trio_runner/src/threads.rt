@@ -8,13 +8,13 @@ ghost use Rattle.trio_rights.specs.declared.rights.LibNo.{LibNo};
 ghost use Rattle.trio_script.specs.Within.{AreWithin, LinesWithin};
 ghost use Rattle.trio_shared.specs.Seats.{desk};
 ghost use Rattle.trio_turn.specs.Seats.{OfEach, seen};
+ghost use Rattle.trio_runner.specs.Kinds.{Suits};
 ghost use Rattle.trio_runner.specs.Play.{creds_in};
 ghost use Rattle.trio_runner.specs.Rounds.{Ends, Turn, line_turns};
 ghost use Rattle.trio_runner.specs.Runs.{ScriptRan};
-ghost use Rattle.trio_runner.specs.inner.Ready.{lines_in, share_in};
 ghost use Rattle.trio_runner.specs.inner.Threads.{Arrives, HasRun, HaveRun, MayGoOn, Sits, TookAtSeat, Went, WentThrough};
 
-use crate::kinds::{AnyPlayer, line_count, line_number};
+use crate::kinds::{Kinds, line_count, line_number};
 use crate::told::LibTold;
 use std::alloc::Global;
 use std::sync::Wait;
@@ -36,7 +36,8 @@ pub(crate) struct LibRun {
 
 /// Runs a script on a controller that has just started, with the script's credentials: each library
 /// plays its lines and then its end on a thread of its own, at its seat at the controller, which they
-/// share. Returns the controller, and what each library was told, in the order of the libraries.
+/// share. Returns the controller, and what each library was told, in the order of the libraries. The
+/// kinds of libraries are those of `K`.
 ///
 /// Before each line, and before the end, the library comes to the gate, while it has no turn. No
 /// answer depends on the gate. Where no thread can be made, libraries run one after another.
@@ -44,7 +45,7 @@ pub(crate) struct LibRun {
 /// The calls of honest lines are within the limits of a call, as all that
 /// [`read_script`](trio_script::read_script) gives are. On want of memory in one of the libraries the
 /// others still come to their ends, and then the controller is let go.
-pub fn run<R: Threads + Wait + Sync, G: Gate + Sync>(
+pub fn run<K: Kinds + Sync, R: Threads + Wait + Sync, G: Gate + Sync>(
     rt: &R,
     alloc: Global,
     ctl: Ctl,
@@ -67,7 +68,7 @@ pub fn run<R: Threads + Wait + Sync, G: Gate + Sync>(
     let Ok((shared, seats)) = Shared::start(alloc, ctl, libs.len() as u32) else {
         return Err(NoMemory);
     };
-    let runs = run_all(rt, alloc, &shared, libs, gate, seats)?;
+    let runs = run_all::<K, _, _>(rt, alloc, &shared, libs, gate, seats)?;
     let (seats, tolds) = parted(alloc, runs)?;
     match shared.close(seats) {
         Ok(ctl) => Ok((ctl, tolds)),
@@ -76,7 +77,7 @@ pub fn run<R: Threads + Wait + Sync, G: Gate + Sync>(
 }
 
 /// Runs all libraries, each on a thread of its own.
-fn run_all<R: Threads + Wait + Sync, G: Gate + Sync>(
+fn run_all<K: Kinds + Sync, R: Threads + Wait + Sync, G: Gate + Sync>(
     rt: &R,
     alloc: Global,
     shared: &Shared,
@@ -92,7 +93,7 @@ fn run_all<R: Threads + Wait + Sync, G: Gate + Sync>(
     let run_one = |seat: LibSeat| -> LibRun
         requires { (length libs.now ≤ 16) × AreWithin libs.now × Arrives shared.now libs.now seat }
         ensures { HasRun shared.entry.now libs.entry.now seat result }
-    { run_lib(rt, alloc, shared, libs, gate, seat) };
+    { run_lib::<K, _, _>(rt, alloc, shared, libs, gate, seat) };
     thread::map_vec(rt, seats, &run_one)
 }
 
@@ -115,7 +116,7 @@ fn parted(alloc: Global, runs: Vec<LibRun>) -> Result<(Vec<LibSeat>, Vec<LibTold
 }
 
 /// Runs the library of a seat.
-fn run_lib<R: Wait, G: Gate>(
+fn run_lib<K: Kinds, R: Wait, G: Gate>(
     rt: &R,
     alloc: Global,
     shared: &Shared,
@@ -130,7 +131,7 @@ fn run_lib<R: Wait, G: Gate>(
 {
     let script = &libs[(seat.library().0 - 1) as usize];
     let mut told = LibTold::untold(alloc);
-    match run_script(rt, alloc, shared, gate, script, &mut seat, &mut told) {
+    match run_script::<K, _, _>(rt, alloc, shared, gate, script, &mut seat, &mut told) {
         Ok(()) => LibRun {
             seat,
             told: Some(told),
@@ -140,7 +141,7 @@ fn run_lib<R: Wait, G: Gate>(
 }
 
 /// Plays all of a library's script at its seat, from what it begins with.
-fn run_script<R: Wait, G: Gate>(
+fn run_script<K: Kinds, R: Wait, G: Gate>(
     rt: &R,
     alloc: Global,
     shared: &Shared,
@@ -155,8 +156,8 @@ fn run_script<R: Wait, G: Gate>(
     requires creds { (desk seat.old).creds ≡ script.now.creds }
     ensures { OnOk result (WentThrough shared.now script.now.creds script.now.lines seat.old told.old seat.new told.new) }
 {
-    let mut player = AnyPlayer::new(alloc, seat.library(), script);
-    let went = run_turns(
+    let mut player = K::begin(alloc, seat.library(), script);
+    let went = run_turns::<K, _, _>(
         rt,
         alloc,
         shared,
@@ -166,54 +167,56 @@ fn run_script<R: Wait, G: Gate>(
         &mut player,
         told,
     );
-    player.discard();
+    K::discard(player);
     went
 }
 
 /// Takes all turns of a library at its seat: its lines one after another, and then its end.
-fn run_turns<R: Wait, G: Gate>(
+fn run_turns<K: Kinds, R: Wait, G: Gate>(
     rt: &R,
     alloc: Global,
     shared: &Shared,
     gate: &G,
     lines: &Lines,
     seat: &mut LibSeat,
-    player: &mut AnyPlayer,
+    player: &mut K::Player,
     told: &mut LibTold,
 ) -> Result<(), NoMemory>
-    requires lines { lines_in player.old ≡ lines.now }
     requires within { LinesWithin lines.now }
+    requires suits { Suits lines.now (K.share player.old) }
     requires sits { Sits shared.now seat.old }
-    requires may { MayGoOn (desk seat.old) (share_in player.old) }
-    ensures { OnOk result (Went shared.now (line_turns lines.now ++ Ends ∷ []) seat.old (share_in player.old) told.old seat.new (share_in player.new) told.new) }
+    requires may { MayGoOn (desk seat.old) (K.share player.old) }
+    ensures { OnOk result (Went shared.now (line_turns lines.now ++ Ends ∷ []) seat.old (K.share player.old) told.old seat.new (K.share player.new) told.new) }
 {
     let lib = seat.library();
     for at in 0..line_count(lines) + 1 {
         gate.arrive(lib, line_number(lines, at));
-        turn_at_seat(rt, alloc, shared, at, seat, player, told)?;
+        turn_at_seat::<K, _>(rt, alloc, shared, lines, at, seat, player, told)?;
     }
     Ok(())
 }
 
 /// Takes a library's turn of this number at its seat.
-fn turn_at_seat<R: Wait>(
+fn turn_at_seat<K: Kinds, R: Wait>(
     rt: &R,
     alloc: Global,
     shared: &Shared,
+    lines: &Lines,
     at: usize,
     seat: &mut LibSeat,
-    player: &mut AnyPlayer,
+    player: &mut K::Player,
     told: &mut LibTold,
 ) -> Result<(), NoMemory>
-    requires within { LinesWithin (lines_in player.old) }
+    requires within { LinesWithin lines.now }
+    requires suits { Suits lines.now (K.share player.old) }
     requires sits { Sits shared.now seat.old }
-    requires may { MayGoOn (desk seat.old) (share_in player.old) }
-    ensures turn { OnOk result ((turn : Turn) → slice_get (line_turns (lines_in player.old) ++ Ends ∷ []) at ≡ Some turn
-        → TookAtSeat shared.now turn seat.old (share_in player.old) told.old seat.new (share_in player.new) told.new) }
-    ensures lines { OnOk result (lines_in player.new ≡ lines_in player.old) }
+    requires may { MayGoOn (desk seat.old) (K.share player.old) }
+    ensures turn { OnOk result ((turn : Turn) → slice_get (line_turns lines.now ++ Ends ∷ []) at ≡ Some turn
+        → TookAtSeat shared.now turn seat.old (K.share player.old) told.old seat.new (K.share player.new) told.new) }
+    ensures suits { OnOk result (Suits lines.now (K.share player.new)) }
 {
     desk_is_left();
     others_leave();
     let mut desk = SeatDesk::of(rt, shared, seat);
-    player.turn(alloc, &mut desk, at, told)
+    K::turn(alloc, &mut desk, player, lines, at, told)
 }

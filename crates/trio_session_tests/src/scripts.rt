@@ -9,7 +9,7 @@ use trio_ctl::Ctl;
 use trio_image::{Counts, Image};
 use trio_page::NoMemory;
 use trio_report::{LineAnswer, put_answer};
-use trio_runner::{LibTold, creds_of, play};
+use trio_runner::{LibTold, RawAndHonest, creds_of, play};
 use trio_script::{ScriptLib, read_script};
 
 /// A line of a library, and what it is told.
@@ -91,7 +91,7 @@ fn played_by<I: Inspect>(
     let Ok(mut ctl) = Ctl::start(alloc, image, creds) else {
         return Err(NOT_PLAYED);
     };
-    match play(alloc, &mut ctl, libs) {
+    match play::<RawAndHonest>(alloc, &mut ctl, libs) {
         Ok(tolds) => inspector.inspect(alloc, &mut ctl, &tolds),
         Err(_) => Err(NOT_PLAYED),
     }

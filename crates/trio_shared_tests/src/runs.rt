@@ -15,7 +15,7 @@ use trio_image::Image;
 use trio_io::{Gate, GateStop, HoldGate, OpenGate};
 use trio_report::{put_answer, put_end};
 use trio_rights::LibNo;
-use trio_runner::{LibTold, creds_of, play, run};
+use trio_runner::{LibTold, RawAndHonest, creds_of, play, run};
 use trio_script::{ScriptLib, read_script};
 
 /// A script, and what it comes to.
@@ -172,7 +172,7 @@ fn play_so(alloc: Global, libs: &[ScriptLib], end: &End) -> Option<bool>
     let Ok(mut ctl) = Ctl::start(alloc, image, creds) else {
         return None;
     };
-    let tolds = play(alloc, &mut ctl, libs).ok()?;
+    let tolds = play::<RawAndHonest>(alloc, &mut ctl, libs).ok()?;
     has_ended(alloc, &mut ctl, libs, &tolds, end)
 }
 
@@ -193,7 +193,7 @@ fn run_so<R: Threads + Wait + Sync, G: Gate + Sync>(
     let Ok(ctl) = Ctl::start(alloc, image, creds) else {
         return None;
     };
-    let (mut ctl, tolds) = run(rt, alloc, ctl, libs, gate).ok()?;
+    let (mut ctl, tolds) = run::<RawAndHonest, _, _>(rt, alloc, ctl, libs, gate).ok()?;
     has_ended(alloc, &mut ctl, libs, &tolds, end)
 }
 

@@ -1,10 +1,10 @@
 -- What holds between the turns of a script. Cited by private functions alone.
-use Rattle.std.specs.Prelude.{◌≡◌, ⊤, ℕ, ◌+◌, List, [], ◌∷◌, ◌++◌, length, map, Option, None, Some}
+use Rattle.std.specs.Prelude.{◌≡◌, ⊤, ℕ, ◌+◌, List, [], ◌∷◌, ◌++◌, length, Option, None, Some}
 use Rattle.trio_rights.specs.declared.rights.LibNo.{LibNo}
 use Rattle.trio_lists.specs.Lists.{In}
 use Rattle.trio_lease.specs.Shown.{Shown}
 use Rattle.trio_lease.specs.declared.parts.HoldParts.{HoldParts}
-use Rattle.trio_desk.specs.Call.{Ask, DeskSeen, Told}
+use Rattle.trio_desk.specs.Call.{DeskSeen}
 use Rattle.trio_desk.specs.Out.{LibOut, file_numbers, hold_numbers, page_numbers, ino_numbers}
 use Rattle.trio_desk.specs.Calls.{Call}
 use Rattle.trio_layout.specs.Image.{Image}
@@ -16,13 +16,10 @@ use Rattle.trio_ctl.specs.Ctl.{AreAsTold, Controller, IsLibrary}
 use Rattle.trio_ctl.specs.Desk.{desk_of, out_of}
 use Rattle.trio_raw.specs.Has.{Has, nothing, read_numbers}
 use Rattle.trio_edit_laws.specs.Calls.{MayCall}
-use Rattle.trio_script.specs.declared.Lines.{Lines}
-use Rattle.trio_script.specs.declared.Lines.TheVariants.{Raw as RawLines, Honest as HonestLines}
 use Rattle.trio_script.specs.declared.ScriptLib.{ScriptLib}
-use Rattle.trio_runner.specs.Players.{Answer, GoesOn, TurnMade, with_told}
+use Rattle.trio_runner.specs.Kinds.{Suits}
+use Rattle.trio_runner.specs.Players.{GoesOn}
 use Rattle.trio_runner.specs.Rounds.{Placed, Turn}
-use Rattle.trio_runner.specs.declared.kinds.AnyPlayer.{AnyPlayer}
-use Rattle.trio_runner.specs.declared.kinds.AnyPlayer.TheVariants.{Raw, Honest}
 use Rattle.trio_runner.specs.Honest.{unnoted}
 use Rattle.trio_runner.specs.Moves.{AreMoves, entries_of}
 use Rattle.trio_runner.specs.Play.{BeginsWith, Heard, Players, Plays, Share, Things, InSession, TurnComes, share_of}
@@ -56,17 +53,9 @@ pub record IsReady (p : Players) : Type 0 where
 
 -- ---- libraries as they are played
 
-abbrev pub share_in : AnyPlayer → Share
-share_in (Raw raw lines) = Things raw.has
-share_in (Honest session lines) = InSession session
-
-abbrev pub lines_in : AnyPlayer → Lines
-lines_in (Raw raw lines) = RawLines lines.now
-lines_in (Honest session lines) = HonestLines lines.now
-
--- how it stands with the controller and these libraries
-abbrev pub players : Controller → List AnyPlayer → List Heard → Players
-players ctl all tolds = record { state = ctl.state; log = ctl.log; shares = map share_in all; told = tolds }
+-- how it stands with the controller and with libraries that have these shares and were told this
+abbrev pub players : Controller → List Share → List Heard → Players
+players ctl shares tolds = record { state = ctl.state; log = ctl.log; shares = shares; told = tolds }
 
 -- how it stands, the image that the controller began from, and which releases have begun and not ended
 pub record Table : Type 0 where
@@ -75,23 +64,26 @@ pub record Table : Type 0 where
   pub players : Players
 
 -- the same of the controller and these libraries
-abbrev pub table : Controller → List AnyPlayer → List Heard → Table
-table ctl all tolds = record { first = ctl.first; begun = ctl.begun; players = players ctl all tolds }
+abbrev pub table : Controller → List Share → List Heard → Table
+table ctl shares tolds = record { first = ctl.first; begun = ctl.begun; players = players ctl shares tolds }
 
--- there is a place for each library of a script, and at it stand its lines
-pub record AreSeated (libs : List ScriptLib) (all : List AnyPlayer) (tolds : List Heard) : Type 0 where
-  pub lines : map lines_in all ≡ map (λ l. l.lines) libs
+-- what each library of a script has suits its lines
+abbrev pub AllSuit : List ScriptLib → List Share → Type 0
+AllSuit [] [] = ⊤
+AllSuit (l ∷ libs) (share ∷ shares) = Suits l.lines share × AllSuit libs shares
+AllSuit [] (share ∷ shares) = ⊥
+AllSuit (l ∷ libs) [] = ⊥
+
+-- there is a place for each library of a script, and what stands at it suits its lines
+pub record AreSeated (libs : List ScriptLib) (shares : List Share) (tolds : List Heard) : Type 0 where
+  pub suit : AllSuit libs shares
   pub told_count : length tolds ≡ length libs
 
--- it has its library's lines, and begins with what the library begins with
-abbrev pub IsNew : LibNo → ScriptLib → AnyPlayer → Type 0
-IsNew lib l p = (lines_in p ≡ l.lines) × BeginsWith lib l.creds l.lines (share_in p)
-
--- each does, and the first has this number
-abbrev pub AreNew : ℕ → List ScriptLib → List AnyPlayer → Type 0
+-- each has what its library begins with, and the first has this number
+abbrev pub AreNew : ℕ → List ScriptLib → List Share → Type 0
 AreNew n [] [] = ⊤
-AreNew n (l ∷ libs) (p ∷ all) = IsNew (record { 0 = n }) l p × AreNew (n + 1) libs all
-AreNew n [] (p ∷ all) = ⊥
+AreNew n (l ∷ libs) (share ∷ shares) = BeginsWith (record { 0 = n }) l.creds l.lines share × AreNew (n + 1) libs shares
+AreNew n [] (share ∷ shares) = ⊥
 AreNew n (l ∷ libs) [] = ⊥
 
 -- these turns were taken
@@ -117,9 +109,3 @@ pub record TookTurn (lib : LibNo) (turn : Turn) (ctl : Controller) (share : Shar
 abbrev pub TookNext : LibNo → Option Turn → Controller → Share → Heard → Controller → Share → Heard → Type 0
 TookNext lib None ctl share told ctl' share' told' = (ctl' ≡ ctl) × (share' ≡ share) × (told' ≡ told)
 TookNext lib (Some turn) ctl share told ctl' share' told' = TookTurn lib turn ctl share told ctl' share' told'
-
--- the same at any desk
-abbrev pub TurnTaken : {D : Type 0} → (D → Ask → Told → D → Type 0) → (D → DeskSeen) → Option Turn → D → Share → Heard → D → Share → Heard → Type 0
-TurnTaken called seen None d share told d' share' told' = (d' ≡ d) × (share' ≡ share) × (told' ≡ told)
-TurnTaken called seen (Some turn) d share told d' share' told' =
-    (answer : Answer) × TurnMade called seen turn d share answer d' share' × (told' ≡ with_told told answer)

@@ -1,23 +1,19 @@
-use Rattle.trio_runner.proofs.Words.{◌++◌, ◌<◌, ◌∙◌, ◌∷◌, ◌≡◌, ◌≤◌, Ends, LinesWithin, Some, Went, [], arith, get_or, length, length-append, line_turns, share_in, slice_get, slice_get-get_or, subst, sym, take_all}
+use Rattle.trio_runner.proofs.Words.{◌++◌, ◌<◌, ◌∷◌, ◌≤◌, Ends, Went, [], arith, get_or, length, length-append, line_turns, slice_get-get_or, subst, take_all}
 use Rattle.trio_runner.proofs.Going.{went_next, went_none}
 use Rattle.trio_runner.proofs.threads.run_turns.Goals as goal
 
 pub loop-at-init : goal.loop-at-init
-loop-at-init g c = record { went = went_none _ _ _ _ c.requires.sits; lines = c.requires.lines; may = c.requires.may }
-
-pub turn_at_seat-requires-clause-within : goal.turn_at_seat-requires-clause-within
-turn_at_seat-requires-clause-within g c = subst LinesWithin (sym c.loop-at.invariant.lines) c.requires.within
+loop-at-init g c = record { went = went_none _ _ _ _ c.requires.sits; suits = c.requires.suits; may = c.requires.may }
 
 pub loop-at-preserved : goal.loop-at-preserved
 loop-at-preserved g c =
     let turns = line_turns c.args.lines.now ++ Ends ∷ [] in
     let long = length-append (line_turns c.args.lines.now) (Ends ∷ []) in
     let low : c.loop-at.at < length turns = omega (arith, c.loop-at-test.true, c.line_count-at-end.ensures.count, long) in
-    let took = c.in_ok-turn_at_seat.ensures.turn (get_or turns c.loop-at.at Ends)
-    (subst (λ ls. slice_get (line_turns ls ++ Ends ∷ []) c.loop-at.at ≡ Some (get_or turns c.loop-at.at Ends)) (sym c.loop-at.invariant.lines) (slice_get-get_or turns c.loop-at.at Ends low)) in
+    let took = c.in_ok-turn_at_seat.ensures.turn (get_or turns c.loop-at.at Ends) (slice_get-get_or turns c.loop-at.at Ends low) in
     record {
       went = went_next c.args.shared.now turns c.loop-at.at _ _ _ _ _ _ _ _ _ low c.loop-at.invariant.went took.went;
-      lines = c.in_ok-turn_at_seat.ensures.lines ∙ c.loop-at.invariant.lines;
+      suits = c.in_ok-turn_at_seat.ensures.suits;
       may = took.may;
     }
 
@@ -26,4 +22,5 @@ returns g c =
     let turns = line_turns c.args.lines.now ++ Ends ∷ [] in
     let long = length-append (line_turns c.args.lines.now) (Ends ∷ []) in
     let past : length turns ≤ c.loop-at.at = omega (arith, c.loop-at-test.false, c.line_count-at-end.ensures.count, long) in
-    subst (λ ts. Went c.args.shared.now ts c.args.seat.now (share_in c.args.player.now) c.args.told.now c.loop-at.seat (share_in c.loop-at.player) c.loop-at.told) (take_all c.loop-at.at turns past) c.loop-at.invariant.went
+    let share = g.K.Kinds.share in
+    subst (λ ts. Went c.args.shared.now ts c.args.seat.now (share c.args.player.now) c.args.told.now c.loop-at.seat (share c.loop-at.player) c.loop-at.told) (take_all c.loop-at.at turns past) c.loop-at.invariant.went
