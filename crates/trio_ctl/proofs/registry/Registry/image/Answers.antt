@@ -1,4 +1,4 @@
-use Rattle.trio_ctl.proofs.Words.{◌∙◌, IsVerified, Pages, State, Superblock, ap, arith, length, settled, stored_pages, subst, superblock_at_home, superblock_facts, superblock_for, sym, Registered, refl}
+use Rattle.trio_ctl.proofs.Words.{◌∙◌, IsVerified, Pages, State, Superblock, ap, arith, length, settled, stored_pages, subst, superblock_at_home, superblock_facts, superblock_for, sym, Registered, refl, ◌≤◌}
 use Rattle.trio_ctl.proofs.Views.{state_is}
 use Rattle.trio_ctl.proofs.AtHome.{at_home, same_settled, state_at_home, writer_is}
 use Rattle.trio_ctl.proofs.Storing.{stored_count, stored_tables, stored_verified, tells, tells_alike}
@@ -129,3 +129,18 @@ returns c =
 
 pub returns-in-Some-clause-kept : goal.returns-in-Some-clause-kept
 returns-in-Some-clause-kept c = kept_is c.self.view_is c.self.invariant.stored.kept
+
+pub stored_pages-requires-clause-order : goal.stored_pages-requires-clause-order
+stored_pages-requires-clause-order c =
+    let s = c.self.inside in
+    let facts = superblock_facts (superblock_at_home s.store s.first_core) c.self.invariant.stored.fits in
+    let sizes = c.superblock-superblock.ensures ∙ ap (λ (x : State). superblock_for x.home.core) (sym (state_is c.self.view_is)) in
+    let core = facts.core in
+    subst (λ (x : Superblock). x.first_core ≤ x.pages) (sym sizes) (omega (arith, core))
+
+pub stored_pages-requires-clause-few : goal.stored_pages-requires-clause-few
+stored_pages-requires-clause-few c =
+    let s = c.self.inside in
+    let facts = superblock_facts (superblock_at_home s.store s.first_core) c.self.invariant.stored.fits in
+    let sizes = c.superblock-superblock.ensures ∙ ap (λ (x : State). superblock_for x.home.core) (sym (state_is c.self.view_is)) in
+    subst (λ (x : Superblock). x.pages ≤ 8192) (sym sizes) facts.pages

@@ -1,4 +1,4 @@
-use Rattle.trio_ctl.proofs.Words.{◌∙◌, IsVerified, Pages, State, Superblock, ap, arith, length, settled, stored_pages, subst, superblock_at_home, superblock_facts, superblock_for, sym, Registered, refl}
+use Rattle.trio_ctl.proofs.Words.{◌∙◌, IsVerified, Pages, State, Superblock, ap, arith, length, settled, stored_pages, subst, superblock_at_home, superblock_facts, superblock_for, sym, Registered, refl, ◌≤◌}
 use Rattle.trio_ctl.proofs.Views.{state_is}
 use Rattle.trio_ctl.proofs.AtHome.{at_home, same_settled, state_at_home, writer_is}
 use Rattle.trio_ctl.proofs.Storing.{stored_count, stored_tables, stored_verified, tells, tells_alike}
@@ -82,3 +82,18 @@ returns-in_default-moved_pages c =
       floor = looked_more c.ctl.view_is c.moved_pages.ensures.floor;
       kept = kept_is c.ctl.view_is c.ctl.invariant.stored.kept;
     }
+
+pub moved_pages-requires-clause-order : goal.moved_pages-requires-clause-order
+moved_pages-requires-clause-order c =
+    let s = c.ctl.inside in
+    let facts = superblock_facts (superblock_at_home s.store s.first_core) c.ctl.invariant.stored.fits in
+    let sizes = c.superblock-superblock.ensures ∙ ap (λ (x : State). superblock_for x.home.core) (sym (state_is c.ctl.view_is)) in
+    let core = facts.core in
+    subst (λ (x : Superblock). x.first_core ≤ x.pages) (sym sizes) (omega (arith, core))
+
+pub moved_pages-requires-clause-few : goal.moved_pages-requires-clause-few
+moved_pages-requires-clause-few c =
+    let s = c.ctl.inside in
+    let facts = superblock_facts (superblock_at_home s.store s.first_core) c.ctl.invariant.stored.fits in
+    let sizes = c.superblock-superblock.ensures ∙ ap (λ (x : State). superblock_for x.home.core) (sym (state_is c.ctl.view_is)) in
+    subst (λ (x : Superblock). x.pages ≤ 8192) (sym sizes) facts.pages
