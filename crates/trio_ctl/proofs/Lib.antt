@@ -41,6 +41,7 @@ pub mod Sames
 mod SamePages
 pub mod Underways
 mod Recording
+pub mod HandedBundles
 mod RecordedReleases
 pub mod Ends
 mod Ending

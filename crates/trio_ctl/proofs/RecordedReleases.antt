@@ -1,12 +1,12 @@
 -- The entry of a release is what its bundle, its listing and the notes tell.
-use Rattle.trio_ctl.proofs.Words.{◌++◌, ◌+◌, ◌∙◌, ◌∷◌, ◌≡◌, ◌≤◌, ◌⊎◌, Accepted, AreMarked, Bundle, Bundled, Case, CaseShown, Entry, FreshParts, GivenTo, Handed, HandedFile, HandedPage, HasHistory, Image, In, In-map, IsAccepted, IsJudgeable, IsLibrary, IsOutcome, IsRefused, IsTrue, KeepsUntouched, Kept, KeptUnderway, LentFile, LentPage, LibNo, List, Logged, NoMemory, None, Notes, OpenGrant, Option, Outline, Parted, Refused, Release, ReleaseAnswer, Row, Sheet, Shown, Some, State, Step, TellsOutcome, Told, WasLentAs, WereLent, Why, Written, [], ap, arith, block_in, bundle_in, case_in, case_shown, creds_of, entries_made, false≢true, file_in, fresh_in, fresh_sheet, handed_in, index_in, inl, inr, is_accepted, is_some, length, lent_sheet, listing, map, map-In, meets_rules, next, noted_by, notes_of, option_map, plain, refl, refused_image, row_in, row_of, rules_are_accept, settled, slice_index_or, step_keeps_lent, step_keeps_root, subst, survey, sym, tabulated-length, true, untouched, verdict_of, verdict_on, whole_case, with_bundle, with_copied, write_alone, written_in, ℕ}
+use Rattle.trio_ctl.proofs.Words.{◌++◌, ◌+◌, ◌∙◌, ◌∷◌, ◌≡◌, ◌≤◌, ◌⊎◌, Accepted, AreMarked, Bundle, Bundled, Case, CaseShown, Entry, GivenTo, Handed, HandedFile, HandedPage, HasHistory, Image, In, In-map, IsAccepted, IsJudgeable, IsLibrary, IsOutcome, IsRefused, IsTrue, KeepsUntouched, Kept, KeptUnderway, LentFile, LentPage, LibNo, List, Logged, NoMemory, None, Notes, OpenGrant, Option, Outline, Parted, Refused, Release, ReleaseAnswer, Row, Shown, Some, State, Step, TellsOutcome, Told, WasLentAs, WereLent, Why, [], ap, arith, block_in, bundle_in, case_in, case_shown, creds_of, entries_made, false≢true, file_in, handed_in, inl, inr, is_accepted, is_some, length, listing, map, map-In, meets_rules, next, noted_by, notes_of, option_map, plain, refl, refused_image, row_in, row_of, rules_are_accept, settled, slice_index_or, step_keeps_lent, step_keeps_root, subst, survey, sym, tabulated-length, true, untouched, verdict_of, verdict_on, whole_case, with_bundle, with_copied, write_alone, written_in, ℕ}
 use Rattle.trio_entries.specs.Telling.{AreNoted}
 use Rattle.trio_case.specs.Listed.{Listed}
 use Rattle.trio_nodes.specs.declared.entry.Entry.TheVariants as entry
 use Rattle.trio_nodes.specs.declared.entry.RawFile.{RawFile}
 use Rattle.trio_state.specs.Listed.{accepted_blocks, accepted_files, notes_after, refused_blocks, refused_files}
 use Rattle.trio_state.specs.Step.{NotClosed, Accepted as StepAccepted, Refused as StepRefused}
-use Rattle.trio_laws.specs.history.Entries.{bundle_handed, raw_entry, raw_files, sheet_handed, written_handed}
+use Rattle.trio_laws.specs.history.Entries.{bundle_handed, raw_entry, raw_files, sheet_handed}
 use Rattle.trio_laws.specs.history.Recorded.{HandedFits, IsMarked}
 use Rattle.trio_laws.proofs.history.NotesFacts.{noted_at}
 use Rattle.trio_laws.specs.history.ToldLaws.{note_of}
@@ -19,38 +19,8 @@ use Rattle.trio_laws.proofs.history.RefusedTold.{refused_is_listed}
 use Rattle.trio_ctl.specs.DeskLaws.{LentIsMarked}
 use Rattle.trio_ctl.specs.declared.outcome.Outcome.{Outcome}
 use Rattle.trio_ctl.specs.declared.outcome.Outcome.TheVariants.{Accepted as OutAccepted, Refused as OutRefused}
+use Rattle.trio_ctl.proofs.HandedBundles.{handed_is}
 use Rattle.trio_ctl.proofs.Recording.{grown, still_mine}
-
--- ---- a bundle as it was handed in is the bundle
-
-blocks_are : (ps : List LentPage) → map sheet_handed (map block_in ps) ≡ map lent_sheet ps
-blocks_are [] = refl
-blocks_are (p ∷ ps) = ap (λ l. lent_sheet p ∷ l) (blocks_are ps)
-
-index_is : (ps : List LentPage) → map sheet_handed (map index_in ps) ≡ map lent_sheet ps
-index_is [] = refl
-index_is (p ∷ ps) = ap (λ l. lent_sheet p ∷ l) (index_is ps)
-
-fresh_are : (ps : List FreshParts) → map sheet_handed (map fresh_in ps) ≡ map fresh_sheet ps
-fresh_are [] = refl
-fresh_are (p ∷ ps) = ap (λ l. fresh_sheet p ∷ l) (fresh_are ps)
-
-file_is : (f : Shown) → written_handed (file_in f) ≡ written_in f
-file_is f =
-    ap (λ i. record { ino = f.ino; kind = f.kind; body = f.body; index = i; blocks = map sheet_handed (map block_in f.blocks) }) (index_is f.index)
-    ∙ ap (λ b. record { ino = f.ino; kind = f.kind; body = f.body; index = map lent_sheet f.index; blocks = b }) (blocks_are f.blocks)
-
-files_are : (fs : List LentFile) → map written_handed (map (λ f. file_in f.stands) fs) ≡ map (λ f. written_in f.stands) fs
-files_are [] = refl
-files_are (f ∷ fs) = ap (λ w. w ∷ map written_handed (map (λ f. file_in f.stands) fs)) (file_is f.stands) ∙ ap (λ l. written_in f.stands ∷ l) (files_are fs)
-
-abbrev with_writes : Bundled → List Sheet → List Written → Bundle
-with_writes b pages ws = record { writes = ws; holds = map (λ h. h.ino) b.holds; pages = pages; numbers = map (λ n. n.no) b.inodes }
-
-pub handed_is : (b : Bundled) → bundle_handed (handed_in b) ≡ bundle_in b
-handed_is b =
-    ap (with_writes b (map sheet_handed (map fresh_in b.pages))) (files_are b.writes)
-    ∙ ap (λ ps. with_writes b ps (map (λ f. written_in f.stands) b.writes)) (fresh_are b.pages)
 
 -- ---- marks
 

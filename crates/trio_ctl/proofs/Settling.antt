@@ -26,7 +26,8 @@ use Rattle.trio_ctl.proofs.LeasesBack.{all_back_is, are_back, backs_kept, backs_
 use Rattle.trio_ctl.proofs.DeskGiven.{behind, given_to}
 use Rattle.trio_ctl.proofs.DeskOuts.{In-numbers_to, alike, ended_out, hold_is, left_numbers, read_is, written_among}
 use Rattle.trio_ctl.proofs.Recording.{backs_history, still_mine}
-use Rattle.trio_ctl.proofs.RecordedReleases.{handed_is, lent_fit, noted_then}
+use Rattle.trio_ctl.proofs.HandedBundles.{handed_is}
+use Rattle.trio_ctl.proofs.RecordedReleases.{lent_fit, noted_then}
 
 -- ---- what a grant lent, as its lease shows it
 

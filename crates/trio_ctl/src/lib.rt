@@ -29,6 +29,7 @@ mod mode_calls;
 mod mode_change;
 mod outcome;
 mod pending;
+mod pooled;
 mod read;
 mod registry;
 mod release_calls;

@@ -1,4 +1,3 @@
-pub mod Handed
 pub mod Standing
 pub mod Again
 pub mod Redone

@@ -19,7 +19,7 @@ use Rattle.trio_ctl.specs.Desk.{CallStep, LeaseIs, after_mode_refusal, bundled_o
 use Rattle.trio_ctl.specs.Open.{lent_by}
 use Rattle.trio_ctl.proofs.DeskSteps.{plain_step}
 use Rattle.trio_ctl.proofs.LeasesBack.{all_back_is}
-use Rattle.trio_order.proofs.Handed.{handed_is}
+use Rattle.trio_ctl.proofs.HandedBundles.{handed_is}
 use Rattle.trio_order.proofs.Standing.{Alike, both_back, given_event}
 use Rattle.trio_order.proofs.Again.{Grew, IsBeside, entry_same, entry_tells, mode_again, moded_grew, rests}
 

@@ -1,12 +1,6 @@
 -- A bundle as it was handed in is the bundle.
-use Rattle.trio_order.proofs.Words.{◌∙◌, ◌∷◌, ◌≡◌, Bundle, List, Shown, Written, [], ap, bundle_handed, map, refl}
-use Rattle.std.proofs.lemmas.Simd.{map-map}
-use Rattle.trio_rights.specs.Sheets.{Sheet}
-use Rattle.trio_lease.specs.Shown.{LentFile}
-use Rattle.trio_lease.specs.Views.{bundle_in, lent_sheet, written_in}
-use Rattle.trio_lease.specs.Bundles.{Bundled}
-use Rattle.trio_laws.specs.history.Entries.{sheet_handed, written_handed}
-use Rattle.trio_entries.specs.Handed.{block_in, file_in, fresh_in, handed_in, index_in}
+use Rattle.trio_ctl.proofs.Words.{◌∙◌, ◌∷◌, ◌≡◌, Bundle, Bundled, LentFile, List, Sheet, Shown, Written, [], ap, block_in, bundle_in, file_in, fresh_in, handed_in, index_in, lent_sheet, map, map-map, refl, written_in}
+use Rattle.trio_laws.specs.history.Entries.{bundle_handed, sheet_handed, written_handed}
 
 file_is : (f : Shown) → written_handed (file_in f) ≡ written_in f
 file_is f =
