@@ -1,11 +1,10 @@
 -- What belongs to a library goes by what it has out.
-use Rattle.trio_shared.proofs.Words.{◌&&◌, ◌+◌, ◌==◌, ◌∙◌, ◌≡◌, AreMarked, Belongs, Bool, Bundle, Bundled, GrantKind, HoldParts, In, In-map, LibNo, LibOut, List, OpenGrant, Option, Shown, Sizes, State, ap, eq-eqb, hold_of, inl, inr, is_hold, is_write, length, map, out_of, shown_of, subst, sym, true, ℕ}
+use Rattle.trio_shared.proofs.Words.{◌&&◌, ◌+◌, ◌==◌, ◌∙◌, ◌≡◌, AreMarked, Belongs, Bool, Bundle, Bundled, GrantKind, Handed, HoldParts, In, In-map, LibNo, LibOut, List, OpenGrant, Option, Shown, Sizes, State, ap, eq-eqb, hold_of, inl, inr, is_hold, is_write, length, map, out_of, shown_of, subst, sym, true, ℕ}
 use Rattle.std.proofs.Common.{◌*◌}
 use Rattle.std.proofs.lemmas.Simd.{map-map}
 use Rattle.trio_rights.specs.Sheets.{Sheet, sheet_numbers}
 use Rattle.trio_lists.proofs.Filters.{In-filter}
 use Rattle.trio_lists.proofs.Members.{map-In}
-use Rattle.trio_nodes.specs.Handed.{Handed}
 use Rattle.trio_lease.specs.Views.{lent_sheet}
 use Rattle.trio_lease.specs.declared.parts.LentPage.{LentPage}
 use Rattle.trio_rights.specs.Bundle.{bundle_pages}

@@ -1,6 +1,5 @@
 -- The end of a release at a seat, whether it is taken or comes back.
-use Rattle.trio_shared.proofs.Words.{◌∙◌, ◌≡◌, ◌≤◌, CaseShown, Controller, Ends, EndsHere, Err, Found, Grows, IfOk, IsAwaited, IsNotAwaited, LibNo, Looks, Mark, None, Ok, ReleaseAnswer, Result, Same, Seated, ap, case_shown, desk_left, length, marked, underway_of, ℕ}
-use Rattle.std.proofs.Common.{IfErr}
+use Rattle.trio_shared.proofs.Words.{◌∙◌, ◌≡◌, ◌≤◌, CaseShown, Controller, Ends, EndsHere, Err, Found, Grows, IfErr, IfOk, IsAwaited, IsNotAwaited, LibNo, Looks, Mark, None, Ok, ReleaseAnswer, Result, Same, Seated, ap, case_shown, desk_left, length, marked, underway_of, ℕ}
 use Rattle.trio_shared.proofs.Grown.{Saw, desk_same, grew_none, looked}
 use Rattle.trio_shared.proofs.TwoMoves.{end_grows, ended, idle_end, not_awaited}
 

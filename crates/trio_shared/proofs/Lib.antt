@@ -7,5 +7,6 @@ mod Belongs
 mod TwoMoves
 mod Finish
 mod Releases
+mod Mailed
 pub mod Sends
 mod Words

@@ -1,5 +1,5 @@
 -- The words that the proofs of this crate share: of the standard library, of the crates below, and of this crate's own definitions.
-pub use Rattle.std.proofs.Common.{◌&&◌, ◌++◌, ◌+◌, ◌<◌, ◌==◌, ◌∙◌, ◌∷◌, ◌≡◌, ◌≤◌, Bool, Err, IfOk, IfSome, IsTrue, List, None, Ok, Option, Result, Some, [], ap, append-nil, arith, inl, inr, length, map, refl, slice_get, subst, suc, sym, take, true, ℕ}
+pub use Rattle.std.proofs.Common.{◌&&◌, ◌++◌, ◌+◌, ◌<◌, ◌==◌, ◌∙◌, ◌∷◌, ◌≡◌, ◌≤◌, Bool, Err, IfErr, IfOk, IfSome, IsTrue, List, None, Ok, Option, Result, Some, [], ap, append-nil, arith, inl, inr, length, map, refl, slice_get, subst, suc, sym, take, true, ℕ}
 pub use Rattle.std.proofs.lemmas.Bool.{cases_Bool, eq-eqb, eqb-true}
 pub use Rattle.std.proofs.lemmas.List.Elements.{All-nil, filter-append}
 pub use Rattle.std.specs.List.{filter}
@@ -33,6 +33,7 @@ pub use Rattle.trio_lease.specs.declared.parts.HoldParts.{HoldParts}
 pub use Rattle.trio_lists.proofs.Members.{In-map}
 pub use Rattle.trio_lists.specs.Lists.{In}
 pub use Rattle.trio_nodes.specs.GrantKinds.{is_hold, is_write}
+pub use Rattle.trio_nodes.specs.Handed.{Handed}
 pub use Rattle.trio_nodes.specs.declared.answers.GrantFault.{GrantFault}
 pub use Rattle.trio_nodes.specs.declared.answers.GrantFault.TheVariants.{Busy, NoParent, NotLive}
 pub use Rattle.trio_nodes.specs.declared.answers.ModeFault.{ModeFault}
@@ -60,3 +61,4 @@ pub use Rattle.trio_shared.specs.Seats.{library_of, seated}
 pub use Rattle.trio_shared.specs.Standing.{TellsHolding}
 pub use Rattle.trio_shared.specs.Turns.{Calls, Looks, Seated}
 pub use Rattle.trio_shared.specs.inner.Found.{EndsHere, Found, Grows, Same}
+pub use Rattle.trio_shared.specs.inner.Underway.{HasBegun, MarksStand, SeesMore, Waits}

@@ -6,3 +6,4 @@ pub mod Moves
 pub mod Seats
 pub mod Laws
 pub mod inner
+pub mod Pooled

@@ -8,9 +8,11 @@ mod desk;
 mod held;
 mod laws;
 mod moves;
+mod pool_desk;
 mod shared;
 
 pub use cell::Shared;
 pub use desk::SeatDesk;
 pub use laws::{desk_is_left, leaves_one, others_leave};
+pub use pool_desk::PoolDesk;
 pub use shared::LibSeat;

@@ -16,6 +16,7 @@ ghost use Rattle.trio_shared.specs.Moves.{Ends, IsNotAwaited, MayEnd, TellsBegin
 ghost use Rattle.trio_shared.specs.Seats.{IsIdle as SitsIdle, IsSeatOf, desk, library_of, out, seated};
 ghost use Rattle.trio_shared.specs.Turns.{Looks};
 ghost use Rattle.trio_shared.specs.inner.Found.{EndsHere};
+ghost use Rattle.trio_shared.specs.inner.Underway.{HasBegun};
 
 use crate::cell::Shared;
 use crate::held::Held;
@@ -123,5 +124,27 @@ impl Shared {
         let answer = held.finish(seat.library(), judged, reads);
         self.leave(seat, held);
         answer
+    }
+
+    // Judges a release that the seat's library has begun, with no turn, and ends it in one.
+    pub(crate) fn end_here<R: Wait>(
+        &self,
+        rt: &R,
+        seat: &mut LibSeat,
+        pending: Pending,
+        reads: &mut Reads,
+    ) -> ReleaseAnswer
+        requires seat { IsSeatOf self.now seat.old }
+        requires begun { HasBegun (seated seat.old) pending }
+        requires marked { MayEnd (seated seat.old) pending }
+        ensures seat { IsSeatOf self.now seat.new × IsSameSeat seat.old seat.new }
+        ensures ends { Ends (seated seat.old) pending result (seated seat.new) }
+        ensures idle { SitsIdle seat.new }
+    {
+        let judged = pending.weigh(reads);
+        match self.finish(rt, seat, judged, reads) {
+            Ok(answer) => answer,
+            Err(_) => unreachable!(),
+        }
     }
 }

@@ -211,14 +211,9 @@ impl Shared {
     {
         bundle.keeps_untouched();
         lent_is_marked();
-        let pending = match self.begin(rt, seat, bundle) {
-            Ok(pending) => pending,
-            Err(back) => return Err(back),
-        };
-        let judged = pending.weigh(reads);
-        match self.finish(rt, seat, judged, reads) {
-            Ok(answer) => Ok(answer),
-            Err(_) => unreachable!(),
+        match self.begin(rt, seat, bundle) {
+            Ok(pending) => Ok(self.end_here(rt, seat, pending, reads)),
+            Err(back) => Err(back),
         }
     }
 
