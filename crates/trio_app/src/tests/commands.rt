@@ -110,44 +110,35 @@ const NUMBERS: &[Command] = &[
 
 fn command_ends<R: Threads + Wait + Sync + AllocGlobal>(
     rt: &R,
-    (words, status, text, (file, kept)): Command,
-) -> Option<bool> {
+    (words, status, text, (file, kept)): &Command,
+) -> bool {
     let row = Row {
         image: Start::OneFile,
         length: IMAGE_SIZE,
         changes: &[],
         script: &[SCRIPT],
         failing: (0, 0),
-        status,
-        text: &[text],
+        status: *status,
+        text: &[*text],
         is_all: true,
-        file,
-        kept,
+        file: *file,
+        kept: *kept,
     };
     row_ends(rt, words, &row)
 }
 
-// Which of the commands is the first that ends otherwise.
-fn other_command<R: Threads + Wait + Sync + AllocGlobal>(
-    rt: &R,
-    commands: &[Command],
-) -> Option<usize> {
+fn all_end<R: Threads + Wait + Sync + AllocGlobal + Abort>(rt: &R, commands: &[Command]) {
     for (i, command) in commands.iter().enumerate() {
-        if command_ends(rt, *command) != Some(true) {
-            return Some(i);
-        }
+        assert!(rt; command_ends(rt, command), "row {i}");
     }
-    None
 }
 
 #[test]
 fn words_are_read(rt: HostRuntime) {
-    let other = other_command(&rt, WORDS);
-    assert!(rt; other.is_none(), "row {}", other.unwrap_or(0));
+    all_end(&rt, WORDS);
 }
 
 #[test]
 fn numbers_are_read(rt: HostRuntime) {
-    let other = other_command(&rt, NUMBERS);
-    assert!(rt; other.is_none(), "row {}", other.unwrap_or(0));
+    all_end(&rt, NUMBERS);
 }

@@ -108,28 +108,28 @@ const FAULTS: &[Fault] = &[
 // Whether the run of a row of which this call fails ends so.
 fn fault_ends<R: Threads + Wait + Sync + AllocGlobal>(
     rt: &R,
-    (image, words, _, put, (status, text, (file, kept))): Fault,
+    (image, words, _, put, (status, text, (file, kept))): &Fault,
     call: u64,
 ) -> bool {
     let row = Row {
-        image,
+        image: *image,
         length: IMAGE_SIZE,
         changes: &[],
         script: &[SCRIPT],
-        failing: (call, put),
-        status,
-        text: &[text],
+        failing: (call, *put),
+        status: *status,
+        text: &[*text],
         is_all: true,
-        file,
-        kept,
+        file: *file,
+        kept: *kept,
     };
-    row_ends(rt, words, &row) == Some(true)
+    row_ends(rt, words, &row)
 }
 
 // Whether each run of a row ends so.
-fn faults_end<R: Threads + Wait + Sync + AllocGlobal>(rt: &R, fault: Fault) -> bool {
+fn faults_end<R: Threads + Wait + Sync + AllocGlobal>(rt: &R, fault: &Fault) -> bool {
     let (_, _, (first, end), ..) = fault;
-    for call in first..end {
+    for call in *first..*end {
         if !fault_ends(rt, fault, call) {
             return false;
         }
@@ -137,20 +137,11 @@ fn faults_end<R: Threads + Wait + Sync + AllocGlobal>(rt: &R, fault: Fault) -> b
     true
 }
 
-// Which of the rows is the first of which a run ends otherwise.
-fn other_fault<R: Threads + Wait + Sync + AllocGlobal>(rt: &R) -> Option<usize> {
-    for (i, fault) in FAULTS.iter().enumerate() {
-        if !faults_end(rt, *fault) {
-            return Some(i);
-        }
-    }
-    None
-}
-
 #[test]
 fn each_call_fails(rt: HostRuntime) {
-    let other = other_fault(&rt);
-    assert!(rt; other.is_none(), "row {}", other.unwrap_or(0));
+    for (i, fault) in FAULTS.iter().enumerate() {
+        assert!(rt; faults_end(&rt, fault), "row {i}");
+    }
 }
 
 // ---- damaged images
@@ -222,17 +213,17 @@ const DAMAGED: &[Damaged] = &[
 fn all_refuse<R: Threads + Wait + Sync + AllocGlobal>(
     rt: &R,
     commands: &[&[&str]],
-    (image, length, changes, text): Damaged,
+    (image, length, changes, text): &Damaged,
     (file, kept): Out,
 ) -> bool {
     let row = Row {
-        image,
-        length,
-        changes,
+        image: *image,
+        length: *length,
+        changes: *changes,
         script: &[],
         failing: (0, 0),
         status: 1,
-        text: &[text],
+        text: &[*text],
         is_all: true,
         file,
         kept,
@@ -241,26 +232,17 @@ fn all_refuse<R: Threads + Wait + Sync + AllocGlobal>(
 }
 
 // Whether all commands that read an image refuse it, and nothing is written.
-fn is_refused<R: Threads + Wait + Sync + AllocGlobal>(rt: &R, damaged: Damaged) -> bool {
+fn is_refused<R: Threads + Wait + Sync + AllocGlobal>(rt: &R, damaged: &Damaged) -> bool {
     let (_, length, ..) = damaged;
-    let as_it_was = ("first.img", Kept::Image(length));
+    let as_it_was = ("first.img", Kept::Image(*length));
     all_refuse(rt, CHECKS, damaged, as_it_was) && all_refuse(rt, RUNS, damaged, BEFORE)
-}
-
-// Which of the damaged images is the first that ends otherwise.
-fn other_image<R: Threads + Wait + Sync + AllocGlobal>(rt: &R) -> Option<usize> {
-    for (i, damaged) in DAMAGED.iter().enumerate() {
-        if !is_refused(rt, *damaged) {
-            return Some(i);
-        }
-    }
-    None
 }
 
 #[test]
 fn damaged_images_are_refused(rt: HostRuntime) {
-    let other = other_image(&rt);
-    assert!(rt; other.is_none(), "row {}", other.unwrap_or(0));
+    for (i, damaged) in DAMAGED.iter().enumerate() {
+        assert!(rt; is_refused(&rt, damaged), "row {i}");
+    }
 }
 
 // ---- bad scripts
@@ -339,35 +321,26 @@ const SCRIPTS: &[Script] = &[
 // Whether both commands that run a script end so.
 fn script_ends<R: Threads + Wait + Sync + AllocGlobal>(
     rt: &R,
-    (script, status, text, (file, kept)): Script,
+    (script, status, text, (file, kept)): &Script,
 ) -> bool {
     let row = Row {
         image: Start::Empty,
         length: IMAGE_SIZE,
         changes: &[],
-        script: &[script],
+        script: &[*script],
         failing: (0, 0),
-        status,
-        text: &[text],
+        status: *status,
+        text: &[*text],
         is_all: true,
-        file,
-        kept,
+        file: *file,
+        kept: *kept,
     };
     all_end(rt, RUNS, &row)
 }
 
-// Which of the scripts is the first that ends otherwise.
-fn other_script<R: Threads + Wait + Sync + AllocGlobal>(rt: &R) -> Option<usize> {
-    for (i, script) in SCRIPTS.iter().enumerate() {
-        if !script_ends(rt, *script) {
-            return Some(i);
-        }
-    }
-    None
-}
-
 #[test]
 fn bad_scripts_are_refused(rt: HostRuntime) {
-    let other = other_script(&rt);
-    assert!(rt; other.is_none(), "row {}", other.unwrap_or(0));
+    for (i, script) in SCRIPTS.iter().enumerate() {
+        assert!(rt; script_ends(&rt, script), "row {i}");
+    }
 }

@@ -66,37 +66,28 @@ const TOLD: &[Told] = &[
 // Whether a run ends so, and the image is as before.
 fn is_told<R: Threads + Wait + Sync + AllocGlobal>(
     rt: &R,
-    (words, image, length, status, text): Told,
+    (words, image, length, status, text): &Told,
 ) -> bool {
     let row = Row {
-        image,
-        length,
+        image: *image,
+        length: *length,
         changes: &[],
         script: &[],
         failing: (0, 0),
-        status,
-        text: &[text],
+        status: *status,
+        text: &[*text],
         is_all: true,
         file: "first.img",
-        kept: Kept::Image(length),
+        kept: Kept::Image(*length),
     };
-    row_ends(rt, words, &row) == Some(true)
-}
-
-// Which of the images is the first of which something else is told.
-fn other_image<R: Threads + Wait + Sync + AllocGlobal>(rt: &R) -> Option<usize> {
-    for (i, told) in TOLD.iter().enumerate() {
-        if !is_told(rt, *told) {
-            return Some(i);
-        }
-    }
-    None
+    row_ends(rt, words, &row)
 }
 
 #[test]
 fn images_are_told(rt: HostRuntime) {
-    let other = other_image(&rt);
-    assert!(rt; other.is_none(), "row {}", other.unwrap_or(0));
+    for (i, told) in TOLD.iter().enumerate() {
+        assert!(rt; is_told(&rt, told), "row {i}");
+    }
 }
 
 // Whether runs over a script of this length end so.

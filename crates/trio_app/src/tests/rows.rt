@@ -193,16 +193,16 @@ fn fill(
     Ok(())
 }
 
-/// What is left of a run: how it ended, the files and the sink.
+// What is left of a run: how it ended, the files and the sink.
 #[derive(Drop)]
-pub struct Left {
-    pub status: u8,
-    pub files: MemFiles,
-    pub out: MemSink,
+struct Left {
+    status: u8,
+    files: MemFiles,
+    out: MemSink,
 }
 
-/// A run of these words over an image, with the script and the failing calls of a row.
-pub fn run_over<R: Threads + Wait + Sync + AllocGlobal, G: Gate + Sync>(
+// A run of these words over an image, with the script and the failing calls of a row.
+fn run_over<R: Threads + Wait + Sync + AllocGlobal, G: Gate + Sync>(
     rt: &R,
     gate: &G,
     texts: &[&str],
@@ -218,19 +218,53 @@ pub fn run_over<R: Threads + Wait + Sync + AllocGlobal, G: Gate + Sync>(
     Some(Left { status, files, out })
 }
 
-/// Whether a run of these words ends as its row says.
-pub fn row_ends<R: Threads + Wait + Sync + AllocGlobal>(
+/// What a run of these words puts out, where it ends as its row says.
+pub fn told<R: Threads + Wait + Sync + AllocGlobal, G: Gate + Sync>(
     rt: &R,
+    gate: &G,
     words: &[&str],
     row: &Row,
-) -> Option<bool> {
-    let image = image_of(rt, row)?;
-    let left = run_over(rt, &OpenGate, words, &image, row)?;
-    Some(ends(row, &left, &image) && verifies(rt, row, &left)?)
+) -> Option<Vec<u8>> {
+    match image_of(rt, row) {
+        Some(image) => told_over(rt, gate, words, &image, row),
+        None => None,
+    }
 }
 
-/// Whether a run over this image ended as its row says.
-pub fn ends(row: &Row, left: &Left, image: &[u8]) -> bool {
+/// The same over this image.
+pub fn told_over<R: Threads + Wait + Sync + AllocGlobal, G: Gate + Sync>(
+    rt: &R,
+    gate: &G,
+    words: &[&str],
+    image: &[u8],
+    row: &Row,
+) -> Option<Vec<u8>> {
+    match run_over(rt, gate, words, image, row) {
+        Some(left) => told_by(rt, &left, image, row),
+        None => None,
+    }
+}
+
+fn told_by<R: Threads + Wait + Sync + AllocGlobal>(
+    rt: &R,
+    left: &Left,
+    image: &[u8],
+    row: &Row,
+) -> Option<Vec<u8>> {
+    if ends(row, left, image) && verifies(rt, row, left) {
+        left.out.bytes().to_vec(rt.alloc()).ok()
+    } else {
+        None
+    }
+}
+
+/// Whether a run of these words ends as its row says.
+pub fn row_ends<R: Threads + Wait + Sync + AllocGlobal>(rt: &R, words: &[&str], row: &Row) -> bool {
+    told(rt, &OpenGate, words, row).is_some()
+}
+
+// Whether a run over this image ended as its row says.
+fn ends(row: &Row, left: &Left, image: &[u8]) -> bool {
     left.status == row.status
         && is_spelled(left.out.bytes(), row.text, row.is_all)
         && left.out.faults() == row.failing.1
@@ -280,10 +314,10 @@ fn is_all_of(part: Option<&[u8]>, byte: u8) -> bool {
     }
 }
 
-/// The image of a row.
-pub fn image_of<R: Threads + Wait + Sync + AllocGlobal>(rt: &R, row: &Row) -> Option<Vec<u8>> {
+// The image of a row.
+fn image_of<R: Threads + Wait + Sync + AllocGlobal>(rt: &R, row: &Row) -> Option<Vec<u8>> {
     let mut bytes = match row.image {
-        Start::Made => made_bytes(rt)?,
+        Start::Made => left_by(rt, NEW, b"", &NO_ROW, "a.img")?,
         start => start_bytes(rt.alloc(), start).ok()?,
     };
     for (at, value) in row.changes {
@@ -295,10 +329,25 @@ pub fn image_of<R: Threads + Wait + Sync + AllocGlobal>(rt: &R, row: &Row) -> Op
     Some(bytes)
 }
 
-// What `new` writes.
-fn made_bytes<R: Threads + Wait + Sync + AllocGlobal>(rt: &R) -> Option<Vec<u8>> {
-    let left = run_over(rt, &OpenGate, NEW, b"", &NO_ROW)?;
-    left.files.content("a.img")?.to_vec(rt.alloc()).ok()
+/// What a file has after a run of these words over an image that ends well.
+pub fn left_by<R: Threads + Wait + Sync + AllocGlobal>(
+    rt: &R,
+    words: &[&str],
+    image: &[u8],
+    row: &Row,
+    file: &str,
+) -> Option<Vec<u8>> {
+    match run_over(rt, &OpenGate, words, image, row) {
+        Some(left) => content_of(rt.alloc(), &left, file),
+        None => None,
+    }
+}
+
+fn content_of(alloc: Global, left: &Left, file: &str) -> Option<Vec<u8>> {
+    if left.status != 0 {
+        return None;
+    }
+    left.files.content(file)?.to_vec(alloc).ok()
 }
 
 /// A row of no image and no script.
@@ -315,18 +364,22 @@ pub const NO_ROW: Row<'static> = Row {
     kept: Kept::Nothing,
 };
 
-/// Whether OUT verifies, where the row says so of it.
-pub fn verifies<R: Threads + Wait + Sync + AllocGlobal>(
-    rt: &R,
-    row: &Row,
-    left: &Left,
-) -> Option<bool> {
+// Whether OUT verifies, where the row says so of it.
+fn verifies<R: Threads + Wait + Sync + AllocGlobal>(rt: &R, row: &Row, left: &Left) -> bool {
     if !matches!(row.kept, Kept::Part(..)) {
-        return Some(true);
+        return true;
     }
-    let out = left.files.content(row.file)?;
-    let again = run_over(rt, &OpenGate, CHECK, out, &NO_ROW)?;
-    Some(again.status == 0)
+    match left.files.content(row.file) {
+        Some(out) => is_valid(rt, out),
+        None => false,
+    }
+}
+
+fn is_valid<R: Threads + Wait + Sync + AllocGlobal>(rt: &R, image: &[u8]) -> bool {
+    match run_over(rt, &OpenGate, CHECK, image, &NO_ROW) {
+        Some(left) => left.status == 0,
+        None => false,
+    }
 }
 
 /// A file, and what it then has.
@@ -352,7 +405,7 @@ pub fn all_end<R: Threads + Wait + Sync + AllocGlobal>(
     row: &Row,
 ) -> bool {
     for words in commands {
-        if row_ends(rt, words, row) != Some(true) {
+        if !row_ends(rt, words, row) {
             return false;
         }
     }

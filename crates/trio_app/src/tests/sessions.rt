@@ -869,77 +869,64 @@ fn plays<'a, R: Threads + Wait + Sync + AllocGlobal>(rt: &R, session: &'a Sessio
     all_end(rt, session.commands, &row)
 }
 
-// The name of the first that is answered otherwise.
-fn other_session<'a, R: Threads + Wait + Sync + AllocGlobal>(
+// Each session is answered so.
+fn all_play<R: Threads + Wait + Sync + AllocGlobal + Abort>(
     rt: &R,
-    sessions: &'a [Session<'a>],
-) -> Option<&'a str> {
+    sessions: &'static [Session<'static>],
+) {
     for session in sessions {
-        if !plays(rt, session) {
-            return Some(session.name);
-        }
+        assert!(rt; plays(rt, session), "{}", session.name);
     }
-    None
 }
 
 #[test]
 fn files_are_lent_written_and_released(rt: HostRuntime) {
-    let other = other_session(&rt, FILES);
-    assert!(rt; other.is_none(), "{}", other.unwrap_or(""));
+    all_play(&rt, FILES);
 }
 
 #[test]
 fn directories_are_lent(rt: HostRuntime) {
-    let other = other_session(&rt, DIRECTORIES);
-    assert!(rt; other.is_none(), "{}", other.unwrap_or(""));
+    all_play(&rt, DIRECTORIES);
 }
 
 #[test]
 fn what_is_allotted_is_used(rt: HostRuntime) {
-    let other = other_session(&rt, ALLOTTED);
-    assert!(rt; other.is_none(), "{}", other.unwrap_or(""));
+    all_play(&rt, ALLOTTED);
 }
 
 #[test]
 fn the_lowest_that_are_free_are_allotted(rt: HostRuntime) {
-    let other = other_session(&rt, LOWEST);
-    assert!(rt; other.is_none(), "{}", other.unwrap_or(""));
+    all_play(&rt, LOWEST);
 }
 
 #[test]
 fn grants_of_all_kinds(rt: HostRuntime) {
-    let other = other_session(&rt, GRANTS);
-    assert!(rt; other.is_none(), "{}", other.unwrap_or(""));
+    all_play(&rt, GRANTS);
 }
 
 #[test]
 fn directories_are_moved(rt: HostRuntime) {
-    let other = other_session(&rt, MOVES);
-    assert!(rt; other.is_none(), "{}", other.unwrap_or(""));
+    all_play(&rt, MOVES);
 }
 
 #[test]
 fn libraries_are_apart(rt: HostRuntime) {
-    let other = other_session(&rt, SHARED);
-    assert!(rt; other.is_none(), "{}", other.unwrap_or(""));
+    all_play(&rt, SHARED);
 }
 
 #[test]
 fn honest_libraries_call(rt: HostRuntime) {
-    let other = other_session(&rt, HONEST);
-    assert!(rt; other.is_none(), "{}", other.unwrap_or(""));
+    all_play(&rt, HONEST);
 }
 
 #[test]
 fn modes_are_changed(rt: HostRuntime) {
-    let other = other_session(&rt, MODES);
-    assert!(rt; other.is_none(), "{}", other.unwrap_or(""));
+    all_play(&rt, MODES);
 }
 
 #[test]
 fn all_or_nothing(rt: HostRuntime) {
-    let other = other_session(&rt, WHOLE);
-    assert!(rt; other.is_none(), "{}", other.unwrap_or(""));
+    all_play(&rt, WHOLE);
 }
 
 // ---- hostile bundles

@@ -1,14 +1,12 @@
 //! Libraries that share an image, each on a thread of its own.
 
 use crate::tests::rows::{
-    IMAGE_SIZE, Kept, Left, NO_ROW, RUN, Row, Start, TURNS, ends, image_of, is_spelled, run_over,
-    verifies,
+    IMAGE_SIZE, Kept, NO_ROW, RUN, Row, Start, TURNS, is_spelled, left_by, told, told_over,
 };
-use std::alloc::Global;
 use std::process::Abort;
 use std::sync::Wait;
 use std::thread::Threads;
-use trio_io::{GateStop, HoldGate, OpenGate};
+use trio_io::{Gate, GateStop, HoldGate, OpenGate};
 use trio_rights::LibNo;
 
 // ---- a thread for each library
@@ -23,7 +21,7 @@ const FILE_TREE: &[u8] = b"tree\n0 d 755 0 0 1 /\n1 f 644 0 0 5 f\ninodes 2 page
 
 // The first call of one comes before that of the other, and that one is held off, or comes behind the
 // release.
-const EXCLUDED: [&[&[u8]]; 3] = [
+const EXCLUDED: &[&[&[u8]]] = &[
     &[ONE_GRANTED, OTHER_GRANTED, FILE_TREE],
     &[ONE_GRANTED, OTHER_HELD_OFF, FILE_TREE],
     &[ONE_HELD_OFF, OTHER_GRANTED, FILE_TREE],
@@ -51,20 +49,25 @@ const BOTH_WRITE: Row<'static> = Row {
 };
 
 // Whether two libraries that write one file exclude each other.
-fn exclude_each_other<R: Threads + Wait + Sync + AllocGlobal>(rt: &R) -> Option<bool> {
-    let image = image_of(rt, &BOTH_WRITE)?;
-    let left = run_over(rt, &OpenGate, RUN, &image, &BOTH_WRITE)?;
-    Some(ends(&BOTH_WRITE, &left, &image) && is_one_of(left.out.bytes()))
+fn exclude_each_other<R: Threads + Wait + Sync + AllocGlobal>(rt: &R) -> bool {
+    match told(rt, &OpenGate, RUN, &BOTH_WRITE) {
+        Some(report) => is_one_of(&report),
+        None => false,
+    }
 }
 
 fn is_one_of(report: &[u8]) -> bool {
-    EXCLUDED.iter().any(|parts| is_spelled(report, parts, true))
+    let mut is_one = false;
+    for parts in EXCLUDED {
+        is_one |= is_spelled(report, parts, true);
+    }
+    is_one
 }
 
 #[test]
 fn two_that_write_one_file(rt: HostRuntime) {
     for _ in 0..20 {
-        assert!(rt; exclude_each_other(&rt) == Some(true));
+        assert!(rt; exclude_each_other(&rt));
     }
 }
 
@@ -100,14 +103,6 @@ const HOMES: &[&[u8]] = &[
 
 const NEW_HOMES: &[&str] = &["new", "o p", "512", "128"];
 
-// What a run leaves in OUT, where it ends well.
-fn out_of(left: &Left, alloc: Global) -> Option<Vec<u8>> {
-    if left.status != 0 {
-        return None;
-    }
-    left.files.content("o p")?.to_vec(alloc).ok()
-}
-
 // The image after a script that ends well.
 fn played<'a, R: Threads + Wait + Sync + AllocGlobal>(
     rt: &R,
@@ -126,14 +121,12 @@ fn played<'a, R: Threads + Wait + Sync + AllocGlobal>(
         file: "o p",
         kept: Kept::Nothing,
     };
-    let left = run_over(rt, &OpenGate, TURNS, image, &row)?;
-    out_of(&left, rt.alloc())
+    left_by(rt, TURNS, image, &row, "o p")
 }
 
 // The image on which the four run.
 fn homes<R: Threads + Wait + Sync + AllocGlobal>(rt: &R) -> Option<Vec<u8>> {
-    let made = run_over(rt, &OpenGate, NEW_HOMES, b"", &NO_ROW)?;
-    let mut image = out_of(&made, rt.alloc())?;
+    let mut image = left_by(rt, NEW_HOMES, b"", &NO_ROW, "o p")?;
     for script in HOMES {
         image = played(rt, &image, script)?;
     }
@@ -162,22 +155,47 @@ const FOUR_HOMES: Row<'static> = Row {
 // What the image has in use once they have filled them.
 const HOMES_IN_USE: &[u8] = b"\ninodes 46 pages 91 free 418\n";
 
-fn are_filled(left: &Left) -> bool {
-    left.status == 0 && left.out.bytes().ends_with(HOMES_IN_USE)
+// What is told where all homes are filled and OUT verifies.
+fn filled<R: Threads + Wait + Sync + AllocGlobal, G: Gate + Sync>(
+    rt: &R,
+    gate: &G,
+    words: &[&str],
+    image: &[u8],
+) -> Option<Vec<u8>> {
+    let report = told_over(rt, gate, words, image, &FOUR_HOMES)?;
+    if report.ends_with(HOMES_IN_USE) {
+        Some(report)
+    } else {
+        None
+    }
 }
 
 // Whether all four are told the same in turns and in threads: none of them asks for what another has.
-fn homes_come_to_one<R: Threads + Wait + Sync + AllocGlobal>(rt: &R) -> Option<bool> {
-    let image = homes(rt)?;
-    let turns = run_over(rt, &OpenGate, TURNS, &image, &FOUR_HOMES)?;
-    let run = run_over(rt, &OpenGate, RUN, &image, &FOUR_HOMES)?;
-    let are_one = are_filled(&turns) && turns.out.bytes() == run.out.bytes();
-    Some(are_one && verifies(rt, &FOUR_HOMES, &turns)? && verifies(rt, &FOUR_HOMES, &run)?)
+fn homes_come_to_one<R: Threads + Wait + Sync + AllocGlobal>(rt: &R, image: &[u8]) -> bool {
+    match filled(rt, &OpenGate, TURNS, image) {
+        Some(turns) => are_told(rt, image, &turns),
+        None => false,
+    }
+}
+
+// Whether they are told this in threads.
+fn are_told<R: Threads + Wait + Sync + AllocGlobal>(rt: &R, image: &[u8], turns: &[u8]) -> bool {
+    match filled(rt, &OpenGate, RUN, image) {
+        Some(run) => run.as_slice() == turns,
+        None => false,
+    }
+}
+
+fn homes_are_filled<R: Threads + Wait + Sync + AllocGlobal>(rt: &R) -> bool {
+    match homes(rt) {
+        Some(image) => homes_come_to_one(rt, &image),
+        None => false,
+    }
 }
 
 #[test]
 fn four_homes_are_filled(rt: HostRuntime) {
-    assert!(rt; homes_come_to_one(&rt) == Some(true));
+    assert!(rt; homes_are_filled(&rt));
 }
 
 // ---- two at once
@@ -200,31 +218,30 @@ fn held_for(line: u32) -> HoldGate {
 
 // Whether library 1, held at its second line, saw library 2 come to its own: each has played its first
 // line, so two write leases are out at once. Libraries that run one after another never meet.
-fn two_meet<R: Threads + Wait + Sync + AllocGlobal>(rt: &R) -> Option<bool> {
+fn two_meet<R: Threads + Wait + Sync + AllocGlobal>(rt: &R) -> bool {
     let gate = held_for(7);
-    let image = image_of(rt, &APART)?;
-    let left = run_over(rt, &gate, RUN, &image, &APART)?;
-    Some(ends(&APART, &left, &image) && verifies(rt, &APART, &left)? && gate.has_met())
+    told(rt, &gate, RUN, &APART).is_some() && gate.has_met()
 }
 
 // The same of the first two of those that fill their homes.
-fn two_homes_meet<R: Threads + Wait + Sync + AllocGlobal>(rt: &R, image: &[u8]) -> Option<bool> {
+fn two_homes_meet<R: Threads + Wait + Sync + AllocGlobal>(rt: &R, image: &[u8]) -> bool {
     let gate = held_for(44);
-    let left = run_over(rt, &gate, RUN, image, &FOUR_HOMES)?;
-    Some(are_filled(&left) && verifies(rt, &FOUR_HOMES, &left)? && gate.has_met())
+    filled(rt, &gate, RUN, image).is_some() && gate.has_met()
 }
 
 #[test]
 fn two_write_leases_are_out_at_once(rt: HostRuntime) {
-    assert!(rt; two_meet(&rt) == Some(true));
+    assert!(rt; two_meet(&rt));
 }
 
-fn homes_meet<R: Threads + Wait + Sync + AllocGlobal>(rt: &R) -> Option<bool> {
-    let image = homes(rt)?;
-    two_homes_meet(rt, &image)
+fn homes_meet<R: Threads + Wait + Sync + AllocGlobal>(rt: &R) -> bool {
+    match homes(rt) {
+        Some(image) => two_homes_meet(rt, &image),
+        None => false,
+    }
 }
 
 #[test]
 fn two_homes_are_filled_at_once(rt: HostRuntime) {
-    assert!(rt; homes_meet(&rt) == Some(true));
+    assert!(rt; homes_meet(&rt));
 }
