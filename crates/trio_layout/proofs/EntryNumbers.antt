@@ -1,5 +1,5 @@
 -- The entries on directory pages: inode numbers of the image, and at most 16 a page.
-use Rattle.trio_layout.proofs.Words.{◌&&◌, ◌*◌, ◌+◌, ◌∙◌, ◌∷◌, ◌≡◌, ◌≤◌, Bad, Bool, Core, Directory, Empty, Entry, EntryPart, Kind, List, Listed, Location, None, Ok, Option, Regular, Result, SlotRead, Some, [], and_from, and_parts, ap, arith, bytes_eq, cond, entries_within, entry_at, entry_fits, eqb, false, is_name, length, length-append, list_all, list_all-append, nat_tests, page_of, refl, result_map, result_then, suc, sym, take, true, zero, ℕ}
+use Rattle.trio_layout.proofs.Words.{◌&&◌, ◌*◌, ◌+◌, ◌∙◌, ◌∷◌, ◌≡◌, ◌≤◌, Bad, Bool, Core, Directory, Empty, Entry, EntryPart, Kind, Link, List, Listed, Location, None, Ok, Option, Regular, Result, SlotRead, Some, [], and_from, and_parts, ap, arith, bytes_eq, cond, entries_within, entry_at, entry_fits, eqb, false, is_name, length, length-append, list_all, list_all-append, nat_tests, page_of, refl, result_map, result_then, suc, sym, take, true, zero, ℕ}
 use Rattle.std.proofs.Common.{ltb, leb, Err, IfOk}
 use Rattle.trio_layout.specs.Slot.{slot_of, entry_bytes}
 use Rattle.trio_lists.specs.Lists.{both, gathered, gathered_below}
@@ -128,6 +128,7 @@ apart_most n ls (Some p) h = tt
 
 pub within_fit : (core : Core) (kind : Kind) (blocks : List ℕ) → IfOk (entries_within core kind blocks) (AreInodes core.inodes)
 within_fit core Regular blocks = refl
+within_fit core Link blocks = refl
 within_fit core Directory blocks =
     let f : ℕ → Result (List Listed) Location = λ page. entries_where core.inodes page (page_of core page) in
     if_ok_then (gathered f blocks) with_names_apart (AreInodes core.inodes)
@@ -136,6 +137,7 @@ within_fit core Directory blocks =
 
 pub within_most : (core : Core) (kind : Kind) (blocks : List ℕ) → IfOk (entries_within core kind blocks) (AtMost (16 * length blocks))
 within_most core Regular blocks = omega arith
+within_most core Link blocks = omega arith
 within_most core Directory blocks =
     let f : ℕ → Result (List Listed) Location = λ page. entries_where core.inodes page (page_of core page) in
     if_ok_then (gathered f blocks) with_names_apart (AtMost (16 * length blocks))

@@ -1,10 +1,11 @@
 -- Entries that are spelled are read, and what is read is spelled so.
-use Rattle.trio_layout.proofs.Words.{◌&&◌, ◌++◌, ◌+◌, ◌-◌, ◌<◌, ◌==◌, ◌^◌, ◌∙◌, ◌∷◌, ◌≡◌, ◌≤◌, Bad, Bool, Directory, Empty, Entry, EntryPart, IsBytes, IsEntry, IsName, Kind, List, Regular, SlotRead, Stands, [], after_number, after_part, and_from, and_parts, ap, append_assoc, arith, bytes_eq, cond, drop, entry_at, entry_fits, eqb-true, false, false≢true, follow, get_or, is_name, leb-true, length, length-slice, length-zeros, lt-ltb, ltb-true, nat_le, nat_lt, ne_eqb, no_front, number_at, number_at-lt, number_here, number_is, number_known, part_here, part_is, put_number, put_part, refl, slice_range, subst, sym, take, take-append-drop, to_le_bytes, true, w16, w32, whole_front, wide16, wide32, with_number, with_part, zeros, ℕ}
+use Rattle.trio_layout.proofs.Words.{◌&&◌, ◌++◌, ◌+◌, ◌-◌, ◌<◌, ◌==◌, ◌^◌, ◌∙◌, ◌∷◌, ◌≡◌, ◌≤◌, Bad, Bool, Empty, Entry, EntryPart, IsBytes, IsEntry, IsName, Kind, List, SlotRead, Stands, [], after_number, after_part, and_from, and_parts, ap, append_assoc, arith, bytes_eq, cond, drop, entry_at, entry_fits, eqb-true, false, false≢true, follow, get_or, is_name, leb-true, length, length-slice, length-zeros, lt-ltb, ltb-true, nat_le, nat_lt, ne_eqb, no_front, number_at, number_at-lt, number_here, number_is, number_known, part_here, part_is, put_number, put_part, refl, slice_range, subst, sym, take, take-append-drop, to_le_bytes, true, w16, w32, whole_front, wide16, wide32, with_number, with_part, zeros, ℕ}
 use Rattle.std.proofs.Common.{◌≢◌}
 use Rattle.std.proofs.lemmas.List.{append_cancel_right}
 use Rattle.trio_page.proofs.Cursor.{byte_known, byte_is}
 use Rattle.trio_names.proofs.NameFacts.{name_facts}
 use Rattle.trio_rights.specs.Kind.{kind_byte, kind_from}
+use Rattle.trio_rights.proofs.KindFacts.{kind_from-byte}
 use Rattle.std.proofs.lemmas.Bool.{le-leb}
 use Rattle.trio_layout.specs.Slot.{entry_bytes, slot_of}
 use Rattle.trio_layout.specs.inner.Fields.{HasSlotZeros}
@@ -127,18 +128,8 @@ found_as inodes ino bytes e kind name small len framed is_ino some within is_kin
     let some' : number_at w32 0 bytes ≢ 0 = omega arith in
     subst (IsEntry inodes bytes) (ap (λ (n : ℕ). entry n kind name) (sym is_ino) ∙ same) (found inodes bytes kind name small len framed some' (omega arith) is_kind is_name name_is)
 
-pub same_kind : (a b : Kind) → kind_byte a ≡ kind_byte b → a ≡ b
-same_kind Regular Regular e = refl
-same_kind Regular Directory e = absurd (omega arith)
-same_kind Directory Regular e = absurd (omega arith)
-same_kind Directory Directory e = refl
-
 pub same_entry : (ino : ℕ) (kind : Kind) (name : List ℕ) (e : EntryPart) → ino ≡ e.ino → kind ≡ e.kind → name ≡ e.name → entry ino kind name ≡ e
 same_entry ino kind name e p q r = rw (p, q, r) refl
-
-kind_from-byte : (k : Kind) → kind_from (kind_byte k) ≡ k
-kind_from-byte Regular = refl
-kind_from-byte Directory = refl
 
 -- an entry is what stands at the places of its fields
 pub entry_is : (inodes : ℕ) (bytes : List ℕ) (e : EntryPart) → IsEntry inodes bytes e → entry_at bytes ≡ e

@@ -3,6 +3,7 @@ use Rattle.trio_layout.proofs.Words.{◌&&◌, ◌++◌, ◌-◌, ◌∙◌, ◌
 use Rattle.std.proofs.Common.{min}
 use Rattle.std.proofs.lemmas.Option.{cond_some}
 use Rattle.std.specs.Prelude.{nat_le}
+use Rattle.trio_rights.specs.ByKind.{guard_fits}
 use Rattle.trio_lists.proofs.Members.{list_all-In, result_map-Ok, result_then-Ok, there_or-Ok}
 use Rattle.trio_lists.specs.Lists.{there_or}
 use Rattle.trio_layout.specs.Body.{body_bytes, body_of}
@@ -59,7 +60,9 @@ body_head kind range bytes b e =
     let x : Body = body_at bytes in
     let k = cond_some (bytes_eq bytes (body_bytes x) && body_fits kind range x) x b e in
     let fits = (and_parts (bytes_eq bytes (body_bytes x)) (body_fits kind range x) k.0).1 in
-    let p = and_parts (nat_le x.mode.0 511 && nat_le (block_count x.size) (core_count range) && size_fits kind x.size) (head_fits range (block_count x.size) x.head) fits in
+    let sizes : Bool = nat_le x.mode.0 511 && nat_le (block_count x.size) (core_count range) && size_fits kind x.size in
+    let g = and_parts (sizes && head_fits range (block_count x.size) x.head) (guard_fits kind x.guard) fits in
+    let p = and_parts sizes (head_fits range (block_count x.size) x.head) g.0 in
     let P : Body → Type 0 = λ y. head_fits range (block_count y.size) y.head ≡ true in
     subst P k.1 p.1
 

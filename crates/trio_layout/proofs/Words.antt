@@ -16,7 +16,7 @@ pub use Rattle.trio_page.proofs.Cursor.{IsBytes, Stands, after_number, after_par
 pub use Rattle.trio_page.proofs.Fields.{length-slice}
 pub use Rattle.trio_page.specs.Field.{number_at, with_number, with_part, zeros}
 pub use Rattle.trio_rights.specs.declared.kind.Kind.{Kind}
-pub use Rattle.trio_rights.specs.declared.kind.Kind.TheVariants.{Directory, Regular}
+pub use Rattle.trio_rights.specs.declared.kind.Kind.TheVariants.{Directory, Link, Regular}
 pub use Rattle.trio_layout.specs.Body.{IsBody, block_count, body_at, body_fits, head_fits, size_fits}
 pub use Rattle.trio_layout.specs.Core.{Core, Location, page_of}
 pub use Rattle.trio_layout.specs.Entries.{Listed}

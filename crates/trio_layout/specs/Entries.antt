@@ -3,7 +3,7 @@ use Rattle.std.specs.Prelude.{ℕ, ◌+◌, ◌*◌, Bool, List, [], ◌∷◌, 
 use Rattle.std.specs.List.{list_any}
 use Rattle.std.specs.Str.{bytes_eq}
 use Rattle.trio_rights.specs.declared.kind.Kind.{Kind}
-use Rattle.trio_rights.specs.declared.kind.Kind.TheVariants.{Regular, Directory}
+use Rattle.trio_rights.specs.ByKind.{is_directory}
 use Rattle.trio_layout.specs.declared.slot.EntryPart.{EntryPart}
 use Rattle.trio_layout.specs.declared.slot.SlotRead.{SlotRead}
 use Rattle.trio_layout.specs.declared.slot.SlotRead.TheVariants.{Empty, Entry, Bad}
@@ -72,7 +72,6 @@ with_names_apart ls = unless_repeated ls (repeated_name [] ls)
 abbrev pub entries_of : Core → List ℕ → Result (List Listed) Location
 entries_of core blocks = result_then with_names_apart (gathered (page_entries core) blocks)
 
--- a regular file has none, and its blocks are not read
+-- what is no directory has none, and its blocks are not read
 abbrev pub entries_of_kind : Core → Kind → List ℕ → Result (List Listed) Location
-entries_of_kind core Regular blocks = Ok []
-entries_of_kind core Directory blocks = entries_of core blocks
+entries_of_kind core kind blocks = if is_directory kind then entries_of core blocks else Ok []

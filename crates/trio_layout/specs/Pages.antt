@@ -1,5 +1,5 @@
 -- The pages of a live file, with their bytes.
-use Rattle.std.specs.Prelude.{ℕ, List, [], ◌++◌, if◌then◌else◌, Result, Ok, Err}
+use Rattle.std.specs.Prelude.{ℕ, Bool, List, [], ◌++◌, if◌then◌else◌, Result, Ok, Err}
 use Rattle.std.specs.List.{filter_map}
 use Rattle.std.specs.Option.{option_map}
 use Rattle.trio_rights.specs.declared.kind.Kind.{Kind}
@@ -16,9 +16,9 @@ abbrev pub sheets_of : Core → List ℕ → List Sheet
 sheets_of core pages =
     filter_map (λ page. option_map (λ bytes. record { page = page; bytes = bytes }) (page_of core page)) pages
 
--- what a checkpoint covers of a file beside its body: the index pages, and the blocks where the kind says so
-abbrev pub covered_of : Kind → List Sheet → List Sheet → List Sheet
-covered_of kind index blocks = if covers_blocks kind then index ++ blocks else index
+-- what a checkpoint covers of a file beside its body: the index pages, and the blocks of a directory and of a guarded file
+abbrev pub covered_of : Kind → Bool → List Sheet → List Sheet → List Sheet
+covered_of kind guarded index blocks = if covers_blocks kind guarded then index ++ blocks else index
 
 -- the chain of a live file
 abbrev pub settled_chain : Image → Kind → ℕ → Result Chain Location

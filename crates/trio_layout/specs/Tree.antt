@@ -3,7 +3,7 @@ use Rattle.std.specs.Prelude.{ℕ, zero, suc, ◌+◌, Bool, true, false, List, 
 use Rattle.std.specs.List.{flat_map}
 use Rattle.trio_lists.specs.Sorting.{sorted_by_name}
 use Rattle.trio_rights.specs.declared.kind.Kind.{Kind}
-use Rattle.trio_rights.specs.declared.kind.Kind.TheVariants.{Regular, Directory}
+use Rattle.trio_rights.specs.ByKind.{is_directory}
 use Rattle.trio_rights.specs.declared.rights.Mode.{Mode}
 use Rattle.trio_layout.specs.Core.{Core, Location}
 use Rattle.trio_layout.specs.Entries.{Listed}
@@ -27,10 +27,9 @@ listed_name l = l.entry.name
 abbrev pub by_name : List Listed → List Listed
 by_name ls = sorted_by_name listed_name ls
 
--- the size that is told: bytes of a regular file, entries of a directory
+-- the size that is told: entries of a directory, bytes of any other file
 abbrev pub told_size : Kind → FileRead → ℕ
-told_size Regular f = f.body.size
-told_size Directory f = length f.entries
+told_size kind f = if is_directory kind then length f.entries else f.body.size
 
 -- the line that is told of a file
 abbrev pub told_line : ℕ → List ℕ → Kind → FileRead → TreeLine

@@ -1,7 +1,7 @@
 -- A file as far as its pages are there: what is read of it where some of its pages may be absent.
-use Rattle.std.specs.Prelude.{ℕ, zero, suc, ◌-◌, ◌==◌, Bool, min, List, [], ◌∷◌, Option, None, Some, Result, Ok}
+use Rattle.std.specs.Prelude.{ℕ, zero, suc, ◌-◌, ◌==◌, if◌then◌else◌, Bool, min, List, [], ◌∷◌, Option, None, Some, Result, Ok}
 use Rattle.trio_rights.specs.declared.kind.Kind.{Kind}
-use Rattle.trio_rights.specs.declared.kind.Kind.TheVariants.{Regular, Directory}
+use Rattle.trio_rights.specs.ByKind.{is_directory}
 use Rattle.trio_lists.specs.Lists.{result_map, result_then, gathered, there_or}
 use Rattle.trio_layout.specs.declared.body.Body.{Body}
 use Rattle.trio_layout.specs.Body.{body_of, block_count}
@@ -35,11 +35,12 @@ abbrev pub entries_where : ℕ → ℕ → Option (List ℕ) → Result (List Li
 entries_where inodes page None = Ok []
 entries_where inodes page (Some bytes) = entries_on inodes page bytes
 
--- the entries on those of a directory's blocks that are there; a bad slot and a repeated name are faults
+-- The entries on those of a directory's blocks that are there; a bad slot and a repeated name are faults. What is no directory has none.
 abbrev pub entries_within : Core → Kind → List ℕ → Result (List Listed) Location
-entries_within core Regular blocks = Ok []
-entries_within core Directory blocks =
-    result_then with_names_apart (gathered (λ page. entries_where core.inodes page (page_of core page)) blocks)
+entries_within core kind blocks =
+    if is_directory kind
+    then result_then with_names_apart (gathered (λ page. entries_where core.inodes page (page_of core page)) blocks)
+    else Ok []
 
 -- what a file of this body and chain says
 abbrev pub file_with_within : Core → Kind → Body → Chain → Result FileRead Location

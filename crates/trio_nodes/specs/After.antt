@@ -2,7 +2,7 @@
 use Rattle.std.specs.Prelude.{ℕ, ◌+◌, ◌*◌, ◌==◌, Bool, true, false, List, [], ◌∷◌, ◌++◌, length, take, drop, Option, None, Some, Ok, if◌then◌else◌}
 use Rattle.std.specs.Option.{option_map_or}
 use Rattle.trio_rights.specs.declared.kind.Kind.{Kind}
-use Rattle.trio_rights.specs.declared.kind.Kind.TheVariants.{Regular, Directory}
+use Rattle.trio_rights.specs.ByKind.{is_directory}
 use Rattle.trio_rights.specs.declared.rights.Creds.{Creds}
 use Rattle.trio_nodes.specs.declared.node.Node.{Node}
 use Rattle.trio_nodes.specs.declared.call.Done.{Done}
@@ -31,10 +31,9 @@ abbrev pub with_blocks : ℕ → List ToldBlock → List ℕ → List ℕ
 with_blocks ino [] bytes = bytes
 with_blocks ino (b ∷ bs) bytes = with_blocks ino bs (with_block ino b bytes)
 
--- the bytes of a regular file: as before, cut or grown to the size, with the listed blocks in place; a directory has none
+-- the bytes of a file: as before, cut or grown to the size, with the listed blocks in place; a directory has none
 abbrev pub raw_bytes : List ToldBlock → RawFile → Kind → List ℕ → List ℕ
-raw_bytes blocks f Regular old = with_blocks f.ino blocks (resized f.size old)
-raw_bytes blocks f Directory old = []
+raw_bytes blocks f kind old = if is_directory kind then [] else with_blocks f.ino blocks (resized f.size old)
 
 -- the bytes of a node; where there is none, none
 abbrev pub bytes_in : Option Node → List ℕ
@@ -52,6 +51,7 @@ raw_node blocks f old =
       mode = f.mode;
       uid = f.uid;
       gid = f.gid;
+      guard = f.guard;
       bytes = raw_bytes blocks f f.kind (bytes_in old);
     })
 

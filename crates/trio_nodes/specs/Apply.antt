@@ -2,7 +2,8 @@
 use Rattle.std.specs.Prelude.{◌≡◌, ℕ, ◌+◌, ◌-◌, ◌<◌, ◌==◌, nat_lt, Bool, true, false, not, ◌||◌, ◌⊎◌, List, [], ◌∷◌, ◌++◌, length, take, drop, replicate, Option, None, Some, is_some, Result, Ok, Err, if◌then◌else◌, IsTrue}
 use Rattle.std.specs.Option.{ok_or}
 use Rattle.trio_rights.specs.declared.kind.Kind.{Kind}
-use Rattle.trio_rights.specs.declared.kind.Kind.TheVariants.{Regular, Directory}
+use Rattle.trio_rights.specs.declared.kind.Kind.TheVariants.{Regular, Directory, Link}
+use Rattle.trio_rights.specs.ByKind.{is_directory, is_link}
 use Rattle.trio_rights.specs.declared.rights.Creds.{Creds}
 use Rattle.trio_rights.specs.declared.rights.Mode.{Mode}
 use Rattle.trio_rights.specs.declared.rights.Need.TheVariants.{Read as ToRead, Write as ToWrite}
@@ -10,11 +11,11 @@ use Rattle.trio_nodes.specs.declared.node.Node.{Node}
 use Rattle.trio_nodes.specs.declared.call.Answer.{Answer}
 use Rattle.trio_nodes.specs.declared.call.Answer.TheVariants.{Done, Count, Bytes, Names, Stat as IsStat}
 use Rattle.trio_nodes.specs.declared.call.Call.{Call}
-use Rattle.trio_nodes.specs.declared.call.Call.TheVariants.{Mkdir, Create, Write, Read, Truncate, Unlink, Rmdir, Rename, List as ListNames, Stat, Chmod}
+use Rattle.trio_nodes.specs.declared.call.Call.TheVariants.{Mkdir, Create, Write, Read, Truncate, Unlink, Rmdir, Rename, List as ListNames, Stat, Chmod, Symlink, Readlink, Guard}
 use Rattle.trio_nodes.specs.declared.call.Reply.{Reply}
-use Rattle.trio_nodes.specs.declared.call.Reply.TheVariants.{Ok as Replied, NotFound, Exists, NotDir, IsDir, NotEmpty, Denied, IntoItself, NoSpace, NoInodes, TooLarge}
+use Rattle.trio_nodes.specs.declared.call.Reply.TheVariants.{Ok as Replied, NotFound, Exists, NotDir, IsDir, NotEmpty, Denied, IntoItself, NoSpace, NoInodes, TooLarge, IsLink, NotLink}
 use Rattle.trio_nodes.specs.Nodes.{Nodes, node_at, with_node, find_named, count_in, names_in}
-use Rattle.trio_nodes.specs.Walk.{Path, is_root, dir_of, name_of, is_above, is_directory, lacks, walk, walk_into}
+use Rattle.trio_nodes.specs.Walk.{Path, is_root, dir_of, name_of, is_above, lacks, walk, walk_into}
 
 -- the reply to a call, and the nodes after it
 pub record Applied : Type 0 where
@@ -68,46 +69,74 @@ put_at at (b ∷ bs) old = resized at old ++ (b ∷ bs) ++ drop (at + length (b 
 
 -- ---- the calls
 
--- what is made
-abbrev pub new_node : Creds → Kind → ℕ → Path → Mode → Node
-new_node creds kind dir path mode =
-    record { parent = dir; name = name_of path; kind = kind; mode = mode; uid = creds.uid; gid = creds.gid; bytes = [] }
+-- what is made, with these bytes; it isn't guarded
+abbrev pub new_node : Creds → Kind → ℕ → Path → Mode → List ℕ → Node
+new_node creds kind dir path mode bytes = record {
+  parent = dir;
+  name = name_of path;
+  kind = kind;
+  mode = mode;
+  uid = creds.uid;
+  gid = creds.gid;
+  guard = false;
+  bytes = bytes;
+}
 
--- an empty file or directory, with the caller's uid and gid
-abbrev pub make : Nodes → Creds → Kind → Path → Mode → ℕ → Applied
-make nodes creds kind path mode made =
+-- a new file with the caller's uid and gid
+abbrev pub make : Nodes → Creds → Kind → Path → Mode → List ℕ → ℕ → Applied
+make nodes creds kind path mode bytes made =
     if is_root path then refused nodes Exists else
     in_directory nodes creds (dir_of path ∷ []) path (λ dir.
     if is_some (find_named nodes dir (name_of path)) then refused nodes Exists else
-    done (with_node nodes made (Some (new_node creds kind dir path mode))) Done)
+    done (with_node nodes made (Some (new_node creds kind dir path mode bytes))) Done)
 
 -- bytes put into a regular file, which grows where they end behind it
 abbrev pub write : Nodes → Creds → Path → ℕ → List ℕ → Applied
 write nodes creds path at bytes =
     at_file nodes creds path (λ n x.
     if is_directory x.kind then refused nodes IsDir else
+    (if is_link x.kind then refused nodes IsLink else
     (if lacks creds ToWrite x then refused nodes Denied else
     (if nat_lt largest_size (at + length bytes) then refused nodes TooLarge else
-    done (with_node nodes n (Some (record x { bytes = put_at at bytes x.bytes }))) (Count (length bytes)))))
+    done (with_node nodes n (Some (record x { bytes = put_at at bytes x.bytes }))) (Count (length bytes))))))
 
 -- at most so many bytes of a regular file from a place on
 abbrev pub read : Nodes → Creds → Path → ℕ → ℕ → Applied
 read nodes creds path at len =
     at_file nodes creds path (λ n x.
     if is_directory x.kind then refused nodes IsDir else
+    (if is_link x.kind then refused nodes IsLink else
     (if lacks creds ToRead x then refused nodes Denied else
-    done nodes (Bytes (take len (drop at x.bytes)))))
+    done nodes (Bytes (take len (drop at x.bytes))))))
 
 -- a regular file with another size
 abbrev pub truncate : Nodes → Creds → Path → ℕ → Applied
 truncate nodes creds path size =
     at_file nodes creds path (λ n x.
     if is_directory x.kind then refused nodes IsDir else
+    (if is_link x.kind then refused nodes IsLink else
     (if lacks creds ToWrite x then refused nodes Denied else
     (if nat_lt largest_size size then refused nodes TooLarge else
-    done (with_node nodes n (Some (record x { bytes = resized size x.bytes }))) Done)))
+    done (with_node nodes n (Some (record x { bytes = resized size x.bytes }))) Done))))
 
--- a regular file is gone
+-- the text of a symbolic link
+abbrev pub readlink : Nodes → Creds → Path → Applied
+readlink nodes creds path =
+    at_file nodes creds path (λ n x.
+    if not (is_link x.kind) then refused nodes NotLink else
+    (if lacks creds ToRead x then refused nodes Denied else
+    done nodes (Bytes x.bytes)))
+
+-- a regular file is guarded from now on, or no longer
+abbrev pub guard : Nodes → Creds → Path → Bool → Applied
+guard nodes creds path on =
+    at_file nodes creds path (λ n x.
+    if is_directory x.kind then refused nodes IsDir else
+    (if is_link x.kind then refused nodes IsLink else
+    (if lacks creds ToWrite x then refused nodes Denied else
+    done (with_node nodes n (Some (record x { guard = on }))) Done)))
+
+-- a regular file or a link is gone
 abbrev pub unlink : Nodes → Creds → Path → Applied
 unlink nodes creds path =
     if is_root path then refused nodes IsDir else
@@ -162,10 +191,14 @@ chmod nodes creds path mode =
     if not (creds.uid == x.uid || creds.uid == 0) then refused nodes Denied else
     done (with_node nodes n (Some (record x { mode = mode }))) Done))
 
+-- a link gives everybody all rights; who may read what it names is asked where that is
+abbrev pub link_mode : Mode
+link_mode = record { 0 = 511 }
+
 -- what a call does and is replied, where room is there; a file that is made gets the number `made`
 abbrev pub applied : Nodes → Creds → Call → ℕ → Applied
-applied nodes creds (Mkdir path mode) made = make nodes creds Directory path mode made
-applied nodes creds (Create path mode) made = make nodes creds Regular path mode made
+applied nodes creds (Mkdir path mode) made = make nodes creds Directory path mode [] made
+applied nodes creds (Create path mode) made = make nodes creds Regular path mode [] made
 applied nodes creds (Write path at bytes) made = write nodes creds path at bytes
 applied nodes creds (Read path at len) made = read nodes creds path at len
 applied nodes creds (Truncate path size) made = truncate nodes creds path size
@@ -175,6 +208,9 @@ applied nodes creds (Rename from to) made = rename nodes creds from to
 applied nodes creds (ListNames path from) made = list nodes creds path from
 applied nodes creds (Stat path) made = stat nodes creds path
 applied nodes creds (Chmod path mode) made = chmod nodes creds path mode
+applied nodes creds (Symlink path text) made = make nodes creds Link path link_mode text made
+applied nodes creds (Readlink path) made = readlink nodes creds path
+applied nodes creds (Guard path on) made = guard nodes creds path on
 
 -- ---- want of room
 
@@ -185,12 +221,14 @@ wants_pages (Create path mode) = true
 wants_pages (Write path at bytes) = true
 wants_pages (Truncate path size) = true
 wants_pages (Rename from to) = true
+wants_pages (Symlink path text) = true
 wants_pages _ = false
 
 -- the call makes a file
 abbrev pub makes_file : Call → Bool
 makes_file (Mkdir path mode) = true
 makes_file (Create path mode) = true
+makes_file (Symlink path text) = true
 makes_file _ = false
 
 -- the reply is want of room for this call: more is wanted than is free

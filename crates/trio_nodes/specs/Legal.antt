@@ -3,7 +3,7 @@ use Rattle.std.specs.Prelude.{◌≡◌, ◌≢◌, ℕ, ◌+◌, ◌*◌, ◌<�
 use Rattle.std.specs.List.{list_any, AllByRecursion}
 use Rattle.std.specs.Option.{option_map}
 use Rattle.std.specs.Str.{bytes_eq}
-use Rattle.trio_rights.specs.declared.kind.Kind.TheVariants.{Regular}
+use Rattle.trio_rights.specs.ByKind.{is_directory}
 use Rattle.trio_rights.specs.declared.rights.Creds.{Creds}
 use Rattle.trio_rights.specs.declared.rights.Need.TheVariants.{Read as ToRead, Write as ToWrite}
 use Rattle.trio_rights.specs.Row.{Row}
@@ -105,8 +105,14 @@ LegalAllot pages inodes (NotGiven _) = ⊥
 
 -- ---- what one entry of a library may do to the files that live
 
--- the content of a file is as it was: its bytes, and the numbers, names and kinds of its entries
+-- whether a file is guarded; where there is none, it isn't
+abbrev pub is_guarded : Option Node → Bool
+is_guarded None = false
+is_guarded (Some x) = x.guard
+
+-- the content and the guard of a file are as they were: its bytes, and the numbers, names and kinds of its entries
 pub record SameContent (nodes nodes' : Nodes) (n : ℕ) : Type 0 where
+  pub guard : is_guarded (node_at nodes' n) ≡ is_guarded (node_at nodes n)
   pub bytes : bytes_in (node_at nodes' n) ≡ bytes_in (node_at nodes n)
   pub entries : (m : ℕ) → entry_in n (node_at nodes' m) ≡ entry_in n (node_at nodes m)
 
@@ -135,7 +141,7 @@ SparesOthers grants lib nodes nodes' =
     (n : ℕ) (x : Node) → node_at nodes n ≡ Some x → IsTrue (is_others grants lib n)
     → HasRightsOf x (node_at nodes' n) × HasPlaceOf x (node_at nodes' n) × SameContent nodes nodes' n
 
--- What a release of a library may make of the nodes. The content of a live file changes only where a write grant of the library on
+-- What a release of a library may make of the nodes. The content or the guard of a live file changes only where a write grant of the library on
 -- it stands, its name only where one stands on its directory, and it goes or moves only where a hold of the library on it
 -- stands too. Kind and rights stay. A new file has the library's uid and gid.
 pub record IsWithinGrants (grants : List Standing) (creds : Creds) (lib : ℕ) (nodes nodes' : Nodes) : Type 0 where
@@ -158,20 +164,21 @@ pub record IsWithinGrants (grants : List Standing) (creds : Creds) (lib : ℕ) (
 abbrev pub is_listed : List ToldBlock → ℕ → ℕ → Bool
 is_listed blocks ino at = list_any (λ b. b.ino == ino && b.at == at) blocks
 
--- each block of a regular file's size is listed, or its bytes were all there before
+-- each block of the size of what is no directory is listed, or its bytes were all there before
 abbrev pub BlocksAreKnown : List ToldBlock → RawFile → Option Node → Type 0
 BlocksAreKnown blocks f old =
-    (at : ℕ) → f.kind ≡ Regular → 4096 * at < f.size → IsTrue (is_listed blocks f.ino at) ⊎ (min f.size (4096 * at + 4096) ≤ length (bytes_in old))
+    (at : ℕ) → is_directory f.kind ≡ false → 4096 * at < f.size → IsTrue (is_listed blocks f.ino at) ⊎ (min f.size (4096 * at + 4096) ≤ length (bytes_in old))
 
--- the node is the same but for its bytes, and has as many
+-- the node is the same but for its bytes, of which it has as many; where it is guarded, these are the same too
 abbrev pub HasAllButBytesOf : Node → Option Node → Type 0
 HasAllButBytesOf x None = ⊥
 HasAllButBytesOf x (Some y) =
     (record y { bytes = [] } ≡ record x { bytes = [] })
     × (length y.bytes ≡ length x.bytes)
+    × (x.guard ≡ true → y.bytes ≡ x.bytes)
 
--- After a refusal nothing but bytes has changed, and these in listed blocks alone, since the nodes are made of the old ones and
--- the listed blocks.
+-- After a refusal nothing but bytes of files that aren't guarded has changed, and these in listed blocks alone, since the nodes are
+-- made of the old ones and the listed blocks.
 abbrev pub LegalVerdict : ReleaseAnswer → Nodes → Nodes → Type 0
 LegalVerdict Accepted nodes nodes' = Unit {0}
 LegalVerdict (Refused rule ino page slot) nodes nodes' =

@@ -3,8 +3,7 @@ use Rattle.std.specs.Prelude.{ℕ, ◌-◌, Bool, true, false, not, List, [], �
 use Rattle.std.specs.List.{list_any}
 use Rattle.std.specs.Option.{ok_or}
 use Rattle.std.specs.Str.{bytes_eq}
-use Rattle.trio_rights.specs.declared.kind.Kind.{Kind}
-use Rattle.trio_rights.specs.declared.kind.Kind.TheVariants.{Regular, Directory}
+use Rattle.trio_rights.specs.ByKind.{is_directory}
 use Rattle.trio_rights.specs.declared.rights.Creds.{Creds}
 use Rattle.trio_rights.specs.declared.rights.Need.{Need}
 use Rattle.trio_rights.specs.declared.rights.Need.TheVariants.{Read, Write}
@@ -47,11 +46,6 @@ is_above [] (q ∷ qs) = true
 is_above (p ∷ ps) (q ∷ qs) = if bytes_eq p q then is_above ps qs else false
 
 -- ---- walks
-
--- the kind is a directory's
-abbrev pub is_directory : Kind → Bool
-is_directory Directory = true
-is_directory Regular = false
 
 -- the rights of the node don't give what is needed
 abbrev pub lacks : Creds → Need → Node → Bool

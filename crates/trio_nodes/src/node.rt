@@ -13,7 +13,7 @@ use std::marker::Model;
 use trio_names::{Name, Path};
 use trio_rights::{Kind, Mode};
 
-/// A file or a directory.
+/// A file, a directory or a symbolic link.
 #[derive(Drop)]
 pub struct Node {
     /// The inode number of the directory that lists it; 0 for the root.
@@ -24,7 +24,9 @@ pub struct Node {
     pub mode: Mode,
     pub uid: u32,
     pub gid: u32,
-    /// The bytes of a regular file; a directory has none.
+    /// Whether the file's data return after a refusal as its metadata does.
+    pub guard: bool,
+    /// The bytes of a regular file, or a link's text; a directory has none.
     pub bytes: Bytes,
 }
 

@@ -9,4 +9,6 @@ pub struct Note {
     pub name: Name,
     /// The size that its body says, in bytes.
     pub size: u64,
+    /// Whether its body says that it is guarded.
+    pub guard: bool,
 }

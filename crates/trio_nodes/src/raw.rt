@@ -10,7 +10,7 @@ use std::marker::Model;
 /// A data block that a release tells, by the page that was handed in for it.
 #[derive(Clone, Copy)]
 pub struct PlacedBlock {
-    /// The inode number of its file, a regular one.
+    /// The inode number of its file, which is no directory.
     pub ino: u32,
     /// Its position in the file, counted from 0.
     pub at: u32,
@@ -18,7 +18,7 @@ pub struct PlacedBlock {
     pub place: usize,
 }
 
-/// A data block of a release: block `at` of a regular file, counted from 0.
+/// A data block of a release: block `at` of a regular file or a link, counted from 0.
 #[derive(Clone, Copy)]
 pub struct RawBlock<'a> {
     pub ino: u32,

@@ -3,7 +3,7 @@ use Rattle.std.specs.Prelude.{ℕ, ◌/◌, ◌%◌, ◌==◌, Bool, ◌||◌, i
 use Rattle.trio_rights.specs.declared.rights.Creds.{Creds}
 use Rattle.trio_rights.specs.declared.rights.Mode.{Mode}
 use Rattle.trio_rights.specs.declared.kind.Kind.{Kind}
-use Rattle.trio_rights.specs.declared.kind.Kind.TheVariants.{Regular, Directory}
+use Rattle.trio_rights.specs.declared.kind.Kind.TheVariants.{Regular, Directory, Link}
 use Rattle.trio_rights.specs.declared.rights.Need.{Need}
 use Rattle.trio_rights.specs.declared.rights.Need.TheVariants.{Read, Write}
 
@@ -18,6 +18,8 @@ wanted Regular Read = 4
 wanted Regular Write = 6
 wanted Directory Read = 5
 wanted Directory Write = 7
+wanted Link Read = 4
+wanted Link Write = 6
 
 -- uid 0 may do all; else the bits that apply have all that are wanted
 abbrev pub permits : Creds → Kind → Mode → ℕ → ℕ → Need → Bool

@@ -51,8 +51,8 @@ pub fn may(creds: Creds, kind: Kind, mode: Mode, uid: u32, gid: u32, need: Need)
     ensures { result ≡ permits creds kind mode uid gid need }
 {
     let wanted = match (kind, need) {
-        (Kind::Regular, Need::Read) => 4,
-        (Kind::Regular, Need::Write) => 6,
+        (Kind::Regular | Kind::Link, Need::Read) => 4,
+        (Kind::Regular | Kind::Link, Need::Write) => 6,
         (Kind::Directory, Need::Read) => 5,
         (Kind::Directory, Need::Write) => 7,
     };

@@ -10,7 +10,7 @@ use Rattle.std.proofs.lemmas.Nat.{from_le_bytes-to_le_bytes_2, from_le_bytes-to_
 use Rattle.trio_page.specs.Field.{number_at, with_number, with_part, zeros}
 use Rattle.trio_page.proofs.Cursor.{IsBytes, wide16, wide32, number_here, number_at-lt, byte_known, part_here, Stands, follow, no_front, put_number, put_part, whole_front, length-zeros}
 use Rattle.trio_rights.specs.declared.kind.Kind.{Kind}
-use Rattle.trio_rights.specs.declared.kind.Kind.TheVariants.{Regular, Directory}
+use Rattle.trio_rights.proofs.KindFacts.{kind_from-byte}
 use Rattle.trio_rights.specs.Kind.{kind_byte, kind_from}
 use Rattle.trio_rights.specs.Row.{Row}
 use Rattle.trio_tables.specs.declared.row.Row.{Row as RowData}
@@ -153,10 +153,6 @@ zeros_front = refl
 -- the bytes of a live row are not all zero
 pub not_free : (bytes : List ℕ) (r : Row) → IsRow bytes (Some r) → bytes ≢ zeros 32
 not_free bytes r is e = absurd (omega (arith, (only bytes r is).framed.live, zeros_front, ap (λ (x : List ℕ). get_or x 0 0) e))
-
-kind_from-byte : (k : Kind) → kind_from (kind_byte k) ≡ k
-kind_from-byte Regular = refl
-kind_from-byte Directory = refl
 
 -- a live row is what stands at the places of its fields
 row_at-is : (bytes : List ℕ) (r : Row) → IsRow bytes (Some r) → row_at bytes ≡ r

@@ -5,9 +5,9 @@ use Rattle.trio_page.specs.Field.{number_at, zeros}
 use Rattle.trio_layout.specs.declared.range.CoreRange.{CoreRange}
 use Rattle.trio_layout.specs.Range.{is_core}
 
--- the bytes of a body that are no field
+-- the bytes of a body that are no field, and a guard of 0 or 1
 abbrev pub HasBodyZeros : List ℕ → Type 0
-HasBodyZeros bytes = (number_at w16 2 bytes ≡ 0) × (drop 24 bytes ≡ zeros 40)
+HasBodyZeros bytes = (number_at w16 2 bytes ≡ 0) × (slice_index bytes 24 ≤ 1) × (drop 25 bytes ≡ zeros 39)
 
 -- the bytes of a slot's entry part that are no field
 pub record HasSlotZeros (bytes : List ℕ) : Type 0 where
@@ -23,10 +23,10 @@ IsNumber used range i n = (i < used → IsTrue (is_core range n)) × (used ≤ i
 abbrev pub AreNumbers : ℕ → CoreRange → List ℕ → Type 0
 AreNumbers used range bytes = (i : ℕ) → i < 511 → IsNumber used range i (number_at w64 (8 * i) bytes)
 
--- what the first page has beside its fields
-pub record HasConstants (bytes : List ℕ) : Type 0 where
+-- what the first page has beside its fields, in the version of this number
+pub record HasConstants (number : ℕ) (bytes : List ℕ) : Type 0 where
   pub magic : take 8 bytes ≡ codes "ARCKTRIO"
-  pub version : number_at w32 8 bytes ≡ 1
+  pub version : number_at w32 8 bytes ≡ number
   pub page_size : number_at w32 12 bytes ≡ 4096
   pub first_shadow : number_at w32 24 bytes ≡ 1
   pub root : number_at w32 36 bytes ≡ 1
