@@ -1,5 +1,5 @@
 -- The ways that a call can go, and what a walk that comes to its end has found.
-use Rattle.trio_onetree.proofs.Words.{◌++◌, ◌∙◌, ◌∷◌, ◌≡◌, Applied, Bool, Creds, Denied, Directory, Err, IsDirectory, Kind, List, Need, Node, Nodes, None, NotDir, NotFound, Ok, Option, Path, Regular, Reply, Result, Some, [], ap, arith, cond, dir_of, enter, false, false≢true, find_named, found_from, in_directory, is_directory, is_done, is_root, is_some, lacks, length, listed_in, name_of, need_at, node_at, not, of_node, ok_or, path_found, reached, refl, refused, suc, sym, take, then_found, true, walk, walk_from, walk_into, zero, ℕ}
+use Rattle.trio_onetree.proofs.Words.{◌++◌, ◌∙◌, ◌∷◌, ◌≡◌, Applied, Bool, Creds, Denied, Directory, Err, IsDirectory, Kind, List, Need, Node, Nodes, None, NotDir, NotFound, Ok, Option, Path, Reply, Result, Some, [], ap, arith, cond, dir_of, enter, false, false≢true, find_named, found_from, in_directory, is_directory, is_directory-true, is_done, is_root, is_some, lacks, length, listed_in, name_of, need_at, node_at, not, of_node, ok_or, path_found, reached, refl, refused, suc, sym, take, then_found, true, walk, walk_from, walk_into, zero, ℕ}
 use Rattle.std.proofs.Common.{◌-◌}
 use Rattle.std.specs.Prelude.{slice_index_or}
 use Rattle.trio_nodes.specs.Walk.{enter_node, and_then}
@@ -20,8 +20,11 @@ dir_and_name (name ∷ path) e = split_at (length (name ∷ path) - 1) (name ∷
 -- ---- walks
 
 pub directory_is : (k : Kind) → not (is_directory k) ≡ false → k ≡ Directory
-directory_is Directory e = refl
-directory_is Regular e = absurd (false≢true (sym e))
+directory_is k e = by (is_directory k) refl e
+  where
+    by : (b : Bool) → is_directory k ≡ b → not b ≡ false → k ≡ Directory
+    by true is f = is_directory-true k is
+    by false is f = absurd (false≢true (sym f))
 
 and_then-Ok : (r : Result ℕ Reply) (f : ℕ → Result ℕ Reply) (n : ℕ) → and_then r f ≡ Ok n → (m : ℕ) × (r ≡ Ok m) × (f m ≡ Ok n)
 and_then-Ok (Ok m) f n e = (m, refl, e)

@@ -1,8 +1,8 @@
 -- Which nodes a call changes.
-use Rattle.trio_onetree.proofs.Words.{◌+◌, ◌||◌, ◌∙◌, ◌∷◌, ◌≡◌, Answer, Applied, AreNames, Bool, Bytes, Call, Chmod, Count, Create, Creds, Denied, Directory, Exists, IntoItself, IsDir, IsDone, IsStat, Kind, List, ListNames, Mkdir, Mode, Node, Nodes, None, NotDir, NotEmpty, NotFound, Option, Path, Read, Regular, Rename, Replied, Reply, Rmdir, Some, Stat, ToRead, ToWrite, TooLarge, Truncate, Unlink, Write, [], ap, applied, both_ways, changed_node, changed_number, chmod, cond, count_in, dir_of, done, drop, eqb, false, find_named, found_from, in_directory, inl, inr, is_above, is_directory, is_done, is_root, is_some, lacks, largest_size, length, list, listed_in, ltb, make, name_of, names_in, new_node, node_at, not, only_looks, path_found, put_at, read, refl, refused, rename, resized, rmdir, size_of, stat, subst, sym, take, true, truncate, unlink, with_node, write, ℕ}
+use Rattle.trio_onetree.proofs.Words.{◌+◌, ◌||◌, ◌∙◌, ◌∷◌, ◌≡◌, Answer, Applied, AreNames, Bool, Bytes, Call, Chmod, Count, Create, Creds, Denied, Directory, Exists, IntoItself, IsDir, IsDone, IsStat, Kind, List, ListNames, Mkdir, Mode, Node, Nodes, None, NotDir, NotEmpty, NotFound, Option, Path, Read, Regular, Rename, Replied, Reply, Rmdir, Some, Stat, ToRead, ToWrite, TooLarge, Truncate, Unlink, Write, [], ap, applied, both_ways, changed_node, changed_number, chmod, cond, count_in, dir_of, done, drop, eqb, false, find_named, found_from, in_directory, inl, inr, is_above, is_directory, is_done, is_root, is_some, lacks, largest_size, length, list, listed_in, ltb, make, name_of, names_in, new_node, node_at, not, only_looks, path_found, put_at, read, refl, refused, rename, resized, rmdir, size_of, stat, subst, sym, take, true, truncate, unlink, with_node, write, ℕ, IsLink, NotLink, Link, Symlink, Readlink, Guard, guard, is_link, link_mode, readlink}
 use Rattle.trio_nodes.specs.declared.call.Reply.TheVariants.{NoSpace, NoInodes}
 use Rattle.trio_nodes.specs.Apply.{LacksRoom}
-use Rattle.trio_onetree.specs.CallLaws.{made_node, rewritten, moved, ChangesJust, CallChangesOne}
+use Rattle.trio_onetree.specs.CallLaws.{made_node, rewritten, guarded_node, moved, ChangesJust, CallChangesOne}
 use Rattle.trio_nodes.specs.After.{moded_node}
 use Rattle.trio_onetree.proofs.Children.{found-more, found-one}
 use Rattle.trio_onetree.proofs.CallCases.{Entered, dir_and_name, walk_found, on_if, on_file_at, on_directory, on_listed}
@@ -38,26 +38,34 @@ module _ (nodes : Nodes) (creds : Creds) where
       root_there true e = refl
       root_there false e = absurd cc
 
-  makes : (call : Call) (kind : Kind) (path : Path) (mode : Mode) (made : ℕ) → only_looks call ≡ false → changed_number nodes call made ≡ Some made → ((old : Option Node) → changed_node nodes creds call old ≡ made_node creds kind path mode (path_found nodes (dir_of path))) → C nodes creds call made (make nodes creds kind path mode made)
-  makes call kind path mode made not_look number is =
+  makes : (call : Call) (kind : Kind) (path : Path) (mode : Mode) (bytes : List ℕ) (made : ℕ) → only_looks call ≡ false → changed_number nodes call made ≡ Some made → ((old : Option Node) → changed_node nodes creds call old ≡ made_node creds kind path mode bytes (path_found nodes (dir_of path))) → C nodes creds call made (make nodes creds kind path mode bytes made)
+  makes call kind path mode bytes made not_look number is =
       let Q : Applied → Type 0 = C nodes creds call made in
-      let end : ℕ → Applied = λ dir. done (with_node nodes made (Some (new_node creds kind dir path mode))) IsDone in
+      let end : ℕ → Applied = λ dir. done (with_node nodes made (Some (new_node creds kind dir path mode bytes))) IsDone in
       let new : ℕ → Applied = λ dir. cond (is_some (find_named nodes dir (name_of path))) (refused nodes Exists) (end dir) in
       same nodes creds call made (is_root path) Exists (in_directory nodes creds (dir_of path ∷ []) path new) refl (λ named.
       on_directory nodes creds Q (stops nodes creds call made) (dir_of path ∷ []) path new (λ dir d.
       same nodes creds call made (is_some (find_named nodes dir (name_of path))) Exists (end dir) refl (λ free.
-      changed nodes creds call made not_look made (Some (new_node creds kind dir path mode)) IsDone number
-      (sym (is (node_at nodes made) ∙ ap (made_node creds kind path mode) d.found)))))
+      changed nodes creds call made not_look made (Some (new_node creds kind dir path mode bytes)) IsDone number
+      (sym (is (node_at nodes made) ∙ ap (made_node creds kind path mode bytes) d.found)))))
+
+  -- what is done to a file that has places: it is neither a directory nor a link
+  abbrev to_regular : Node → Applied → Applied
+  to_regular x a = cond (is_directory x.kind) (refused nodes IsDir) (cond (is_link x.kind) (refused nodes IsLink) a)
+
+  on_regular : (call : Call) (made : ℕ) (x : Node) (a : Applied) → C nodes creds call made a → C nodes creds call made (to_regular x a)
+  on_regular call made x a goes =
+      same nodes creds call made (is_directory x.kind) IsDir (cond (is_link x.kind) (refused nodes IsLink) a) refl (λ file.
+      same nodes creds call made (is_link x.kind) IsLink a refl (λ regular. goes))
 
   writes_bytes : (path : Path) (at : ℕ) (bytes : List ℕ) (made : ℕ) → C nodes creds (Write path at bytes) made (write nodes creds path at bytes)
   writes_bytes path at bytes made =
       let call : Call = Write path at bytes in
       let Q : Applied → Type 0 = C nodes creds call made in
       let new : ℕ → Node → Applied = λ n x. done (with_node nodes n (Some (record x { bytes = put_at at bytes x.bytes }))) (Count (length bytes)) in
-      on_file_at nodes creds Q (stops nodes creds call made) path
-      (λ n x. cond (is_directory x.kind) (refused nodes IsDir) (cond (lacks creds ToWrite x) (refused nodes Denied) (cond (ltb largest_size (at + length bytes)) (refused nodes TooLarge) (new n x))))
-      (λ n x w there.
-      same nodes creds call made (is_directory x.kind) IsDir (cond (lacks creds ToWrite x) (refused nodes Denied) (cond (ltb largest_size (at + length bytes)) (refused nodes TooLarge) (new n x))) refl (λ file.
+      let may : ℕ → Node → Applied = λ n x. cond (lacks creds ToWrite x) (refused nodes Denied) (cond (ltb largest_size (at + length bytes)) (refused nodes TooLarge) (new n x)) in
+      on_file_at nodes creds Q (stops nodes creds call made) path (λ n x. to_regular x (may n x)) (λ n x w there.
+      on_regular call made x (may n x) (
       same nodes creds call made (lacks creds ToWrite x) Denied (cond (ltb largest_size (at + length bytes)) (refused nodes TooLarge) (new n x)) refl (λ may.
       same nodes creds call made (ltb largest_size (at + length bytes)) TooLarge (new n x) refl (λ fits.
       changed nodes creds call made refl n (Some (record x { bytes = put_at at bytes x.bytes })) (Count (length bytes)) (walk_found nodes creds [] path n x w there) (sym (ap (rewritten (put_at at bytes)) there))))))
@@ -67,13 +75,23 @@ module _ (nodes : Nodes) (creds : Creds) where
       let call : Call = Truncate path size in
       let Q : Applied → Type 0 = C nodes creds call made in
       let new : ℕ → Node → Applied = λ n x. done (with_node nodes n (Some (record x { bytes = resized size x.bytes }))) IsDone in
-      on_file_at nodes creds Q (stops nodes creds call made) path
-      (λ n x. cond (is_directory x.kind) (refused nodes IsDir) (cond (lacks creds ToWrite x) (refused nodes Denied) (cond (ltb largest_size size) (refused nodes TooLarge) (new n x))))
-      (λ n x w there.
-      same nodes creds call made (is_directory x.kind) IsDir (cond (lacks creds ToWrite x) (refused nodes Denied) (cond (ltb largest_size size) (refused nodes TooLarge) (new n x))) refl (λ file.
+      let may : ℕ → Node → Applied = λ n x. cond (lacks creds ToWrite x) (refused nodes Denied) (cond (ltb largest_size size) (refused nodes TooLarge) (new n x)) in
+      on_file_at nodes creds Q (stops nodes creds call made) path (λ n x. to_regular x (may n x)) (λ n x w there.
+      on_regular call made x (may n x) (
       same nodes creds call made (lacks creds ToWrite x) Denied (cond (ltb largest_size size) (refused nodes TooLarge) (new n x)) refl (λ may.
       same nodes creds call made (ltb largest_size size) TooLarge (new n x) refl (λ fits.
       changed nodes creds call made refl n (Some (record x { bytes = resized size x.bytes })) IsDone (walk_found nodes creds [] path n x w there) (sym (ap (rewritten (resized size)) there))))))
+
+  guards : (path : Path) (on : Bool) (made : ℕ) → C nodes creds (Guard path on) made (guard nodes creds path on)
+  guards path on made =
+      let call : Call = Guard path on in
+      let Q : Applied → Type 0 = C nodes creds call made in
+      let new : ℕ → Node → Applied = λ n x. done (with_node nodes n (Some (record x { guard = on }))) IsDone in
+      let may : ℕ → Node → Applied = λ n x. cond (lacks creds ToWrite x) (refused nodes Denied) (new n x) in
+      on_file_at nodes creds Q (stops nodes creds call made) path (λ n x. to_regular x (may n x)) (λ n x w there.
+      on_regular call made x (may n x) (
+      same nodes creds call made (lacks creds ToWrite x) Denied (new n x) refl (λ may.
+      changed nodes creds call made refl n (Some (record x { guard = on })) IsDone (walk_found nodes creds [] path n x w there) (sym (ap (guarded_node on) there)))))
 
   unlinks : (path : Path) (made : ℕ) → C nodes creds (Unlink path) made (unlink nodes creds path)
   unlinks path made =
@@ -132,10 +150,19 @@ module _ (nodes : Nodes) (creds : Creds) where
   reads path at len made =
       let call : Call = Read path at len in
       let new : ℕ → Node → Applied = λ n x. done nodes (Bytes (take len (drop at x.bytes))) in
-      on_file_at nodes creds (C nodes creds call made) (stops nodes creds call made) path (λ n x. cond (is_directory x.kind) (refused nodes IsDir) (cond (lacks creds ToRead x) (refused nodes Denied) (new n x)))
-      (λ n x w there.
-      same nodes creds call made (is_directory x.kind) IsDir (cond (lacks creds ToRead x) (refused nodes Denied) (new n x)) refl (λ file.
+      let may : ℕ → Node → Applied = λ n x. cond (lacks creds ToRead x) (refused nodes Denied) (new n x) in
+      on_file_at nodes creds (C nodes creds call made) (stops nodes creds call made) path (λ n x. to_regular x (may n x)) (λ n x w there.
+      on_regular call made x (may n x) (
       same nodes creds call made (lacks creds ToRead x) Denied (new n x) refl (λ may. looked nodes creds call made refl (Bytes (take len (drop at x.bytes))))))
+
+  reads_text : (path : Path) (made : ℕ) → C nodes creds (Readlink path) made (readlink nodes creds path)
+  reads_text path made =
+      let call : Call = Readlink path in
+      let new : ℕ → Node → Applied = λ n x. done nodes (Bytes x.bytes) in
+      on_file_at nodes creds (C nodes creds call made) (stops nodes creds call made) path (λ n x. cond (not (is_link x.kind)) (refused nodes NotLink) (cond (lacks creds ToRead x) (refused nodes Denied) (new n x)))
+      (λ n x w there.
+      same nodes creds call made (not (is_link x.kind)) NotLink (cond (lacks creds ToRead x) (refused nodes Denied) (new n x)) refl (λ is.
+      same nodes creds call made (lacks creds ToRead x) Denied (new n x) refl (λ may. looked nodes creds call made refl (Bytes x.bytes))))
 
   lists : (path : Path) (from made : ℕ) → C nodes creds (ListNames path from) made (list nodes creds path from)
   lists path from made =
@@ -154,8 +181,8 @@ module _ (nodes : Nodes) (creds : Creds) where
       (λ n x w there. same nodes creds call made (lacks creds ToRead x) Denied (new n x) refl (λ may. looked nodes creds call made refl (IsStat x.kind x.mode x.uid x.gid (size_of nodes n x))))
 
   call_changes : (call : Call) (made : ℕ) → C nodes creds call made (applied nodes creds call made)
-  call_changes (Mkdir path mode) made = makes (Mkdir path mode) Directory path mode made refl refl (λ old. refl)
-  call_changes (Create path mode) made = makes (Create path mode) Regular path mode made refl refl (λ old. refl)
+  call_changes (Mkdir path mode) made = makes (Mkdir path mode) Directory path mode [] made refl refl (λ old. refl)
+  call_changes (Create path mode) made = makes (Create path mode) Regular path mode [] made refl refl (λ old. refl)
   call_changes (Write path at bytes) made = writes_bytes path at bytes made
   call_changes (Read path at len) made = reads path at len made
   call_changes (Truncate path size) made = truncates path size made
@@ -165,6 +192,9 @@ module _ (nodes : Nodes) (creds : Creds) where
   call_changes (ListNames path from) made = lists path from made
   call_changes (Stat path) made = tells path made
   call_changes (Chmod path mode) made = sets_mode path mode made
+  call_changes (Symlink path text) made = makes (Symlink path text) Link path link_mode text made refl refl (λ old. refl)
+  call_changes (Readlink path) made = reads_text path made
+  call_changes (Guard path on) made = guards path on made
 
 -- want of room isn't done
 room_undone : (call : Call) (reply : Reply) → LacksRoom call reply → is_done reply ≡ false
@@ -179,6 +209,8 @@ room_undone call IntoItself lacks = refl
 room_undone call (NoSpace wanted free) lacks = refl
 room_undone call (NoInodes wanted free) lacks = refl
 room_undone call TooLarge lacks = refl
+room_undone call IsLink lacks = refl
+room_undone call NotLink lacks = refl
 
 pub call_changes_one : CallChangesOne
 call_changes_one nodes creds call made reply nodes' (inl a) =

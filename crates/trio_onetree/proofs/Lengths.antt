@@ -1,5 +1,5 @@
 -- Calls make nodes at no number behind the last one, where what they make gets none.
-use Rattle.trio_onetree.proofs.Words.{◌<◌, ◌∙◌, ◌∷◌, ◌≡◌, ◌⊎◌, Bool, Call, Chmod, Create, Creds, IsTree, List, ListNames, MadeFits, MatchBool, Mkdir, Nodes, None, Path, Read, Rename, Rmdir, Some, Stat, Truncate, Unlink, Write, [], ap, call_nodes, changed_node, changed_number, inl, inr, is_done, length, node_at, only_looks, path_found, refl, subst, sym, true, ℕ}
+use Rattle.trio_onetree.proofs.Words.{◌<◌, ◌∙◌, ◌∷◌, ◌≡◌, ◌⊎◌, Bool, Call, Chmod, Create, Creds, Guard, IsTree, List, ListNames, MadeFits, MatchBool, Mkdir, Nodes, None, Path, Read, Readlink, Rename, Rmdir, Some, Stat, Symlink, Truncate, Unlink, Write, [], ap, call_nodes, changed_node, changed_number, inl, inr, is_done, length, node_at, only_looks, path_found, refl, subst, sym, true, ℕ}
 use Rattle.std.proofs.Common.{◌&&◌}
 use Rattle.std.proofs.lemmas.List.{length-set}
 use Rattle.std.proofs.lemmas.Bool.{cases_Bool}
@@ -40,6 +40,9 @@ module _ (nodes : Nodes) (tree : IsTree nodes) where
   changed_within (ListNames path from) d n is done fits numbered e = absurd cc
   changed_within (Stat path) d n is done fits numbered e = absurd cc
   changed_within (Chmod path mode) d n is done fits numbered e = found_within path n e
+  changed_within (Symlink path text) d n is done fits numbered e = (let same : d.made ≡ n = cc e in subst (λ k. k < length nodes) same (made_within d (ap makes_file is) done fits numbered))
+  changed_within (Readlink path) d n is done fits numbered e = absurd cc
+  changed_within (Guard path on) d n is done fits numbered e = found_within path n e
 
   -- a call leaves as many places as there were
   call_length : (creds : Creds) (d : Done) (nodes' : Nodes) → Apply nodes creds d.call d.made d.reply nodes' → MadeFits nodes d → IsNumbered nodes d → length nodes' ≡ length nodes

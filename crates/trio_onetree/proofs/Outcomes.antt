@@ -51,19 +51,22 @@ module _ (nodes : Nodes) (creds : Creds) (path d : Path) (m : List ℕ) (root : 
   found_there : (parent : ℕ) (o : Option ℕ) (b t : Bool) → o ≡ find_named nodes parent m → b ≡ is_some o → b ≡ t → is_some (find_named nodes parent (name_of path)) ≡ t
   found_there parent o b t f s is = ap (λ (n : List ℕ). is_some (find_named nodes parent n)) (sym na) ∙ ap (λ (p : Option ℕ). is_some p) (sym f) ∙ sym s ∙ is
 
-  module _ (kind : Kind) (mode : Mode) (made : ℕ) (r : Result ℕ Reply) (parent : ℕ) (w : r ≡ walk_into nodes creds (d ∷ []) d) (was : r ≡ Ok parent) (o : Option ℕ) (b : Bool) (f : o ≡ find_named nodes parent m) (s : b ≡ is_some o) where
-    make_there : b ≡ true → make nodes creds kind path mode made ≡ refused nodes Exists
+  module _ (kind : Kind) (mode : Mode) (bytes : List ℕ) (made : ℕ) (r : Result ℕ Reply) (parent : ℕ) (w : r ≡ walk_into nodes creds (d ∷ []) d) (was : r ≡ Ok parent) (o : Option ℕ) (b : Bool) (f : o ≡ find_named nodes parent m) (s : b ≡ is_some o) where
+    make_there : b ≡ true → make nodes creds kind path mode bytes made ≡ refused nodes Exists
     make_there is = rw (root, walked_one r parent w was, found_there parent o b true f s is) refl
 
-    make_new : b ≡ false → make nodes creds kind path mode made ≡ done (with_node nodes made (Some (new_node creds kind parent path mode))) Done
+    make_new : b ≡ false → make nodes creds kind path mode bytes made ≡ done (with_node nodes made (Some (new_node creds kind parent path mode bytes))) Done
     make_new is = rw (root, walked_one r parent w was, found_there parent o b false f s is) refl
 
-    pub make_refuses : b ≡ true → Refuses (make nodes creds kind path mode made) nodes Exists
+    pub make_refuses : b ≡ true → Refuses (make nodes creds kind path mode bytes made) nodes Exists
     make_refuses is = refuses _ nodes Exists (make_there is)
 
-    pub make_does : (new : Nodes) (bytes : List ℕ) → b ≡ false → bytes ≡ [] → new ≡ with_node nodes made (Some (record { parent = parent; name = m; kind = kind; mode = mode; uid = creds.uid; gid = creds.gid; bytes = bytes })) → Does (make nodes creds kind path mode made) new Done
-    make_does new bytes is empty e =
-        does _ new _ Done (make_new is) (e ∙ ap (λ (l : List ℕ). with_node nodes made (Some (record { parent = parent; name = m; kind = kind; mode = mode; uid = creds.uid; gid = creds.gid; bytes = l }))) empty ∙ ap (λ (n : List ℕ). with_node nodes made (Some (record { parent = parent; name = n; kind = kind; mode = mode; uid = creds.uid; gid = creds.gid; bytes = [] }))) na)
+    -- what is made has these bytes, by another name
+    abbrev put : List ℕ → List ℕ → Nodes
+    put name copy = with_node nodes made (Some (record { parent = parent; name = name; kind = kind; mode = mode; uid = creds.uid; gid = creds.gid; guard = false; bytes = copy }))
+
+    pub make_does : (new : Nodes) (copy : List ℕ) → b ≡ false → copy ≡ bytes → new ≡ put m copy → Does (make nodes creds kind path mode bytes made) new Done
+    make_does new copy is same e = does _ new _ Done (make_new is) (e ∙ ap (put m) same ∙ ap (λ (n : List ℕ). put n bytes) na)
 
   entry_one : (r : Reached) → entry_of nodes creds (d ∷ []) d m ≡ r → entry_of nodes creds (dir_of path ∷ []) (dir_of path) (name_of path) ≡ r
   entry_one r e = ap (λ (p : Path). entry_of nodes creds (p ∷ []) p (name_of path)) (sym di) ∙ ap (λ (n : List ℕ). entry_of nodes creds (d ∷ []) d n) (sym na) ∙ e

@@ -1,5 +1,5 @@
 -- A tree stays a tree through each call.
-use Rattle.trio_onetree.proofs.Words.{◌++◌, ◌+◌, ◌||◌, ◌∙◌, ◌∷◌, ◌≡◌, Applied, AreNames, Bool, Bytes, Call, Chmod, Count, Create, Creds, Denied, Directory, Exists, IntoItself, IsDir, IsDirectory, IsDone, IsStat, IsTree, Kind, List, ListNames, MadeFits, MatchBool, Mkdir, Mode, Node, Nodes, None, NotDir, NotEmpty, Path, Read, Regular, Rename, Reply, Rmdir, Some, Stat, ToRead, ToWrite, TooLarge, Truncate, Unlink, Write, [], ap, append_assoc, applied, arith, both_ways, bytes_eq-Decides, call_nodes, chmod, cond, count_in, dir_of, done, drop, eqb, false, false≢true, find_named, found_from, in_directory, inl, inr, is_above, is_directory, is_done, is_root, is_some, lacks, largest_size, length, list, listed_in, ltb, make, name_of, names_in, new_node, node_at, not, put_at, read, refl, refused, rename, resized, rmdir, size_of, stat, subst, sym, take, true, truncate, unlink, with_node, write, ℕ}
+use Rattle.trio_onetree.proofs.Words.{◌++◌, ◌+◌, ◌||◌, ◌∙◌, ◌∷◌, ◌≡◌, Applied, AreNames, Bool, Bytes, Call, Chmod, Count, Create, Creds, Denied, Directory, Exists, IntoItself, IsDir, IsDirectory, IsDone, IsStat, IsTree, Kind, List, ListNames, MadeFits, MatchBool, Mkdir, Mode, Node, Nodes, None, NotDir, NotEmpty, Path, Read, Regular, Rename, Reply, Rmdir, Some, Stat, ToRead, ToWrite, TooLarge, Truncate, Unlink, Write, [], ap, append_assoc, applied, arith, both_ways, bytes_eq-Decides, call_nodes, chmod, cond, count_in, dir_of, done, drop, eqb, false, find_named, found_from, in_directory, inl, inr, is_above, is_directory, is_done, is_root, is_some, lacks, largest_size, length, list, listed_in, ltb, make, name_of, names_in, new_node, node_at, not, put_at, read, refl, refused, rename, resized, rmdir, size_of, stat, subst, sym, take, true, truncate, unlink, with_node, write, ℕ, IsLink, NotLink, Link, Symlink, Readlink, Guard, guard, is_link, link_mode, readlink, is_directory-false}
 use Rattle.std.proofs.lemmas.Bool.{ltb-false}
 use Rattle.trio_onetree.specs.CallLaws.{TreeStays, TreeStaysThrough}
 use Rattle.trio_onetree.proofs.Children.{Child, one_node, find_named-Child, Child-is_some, child-counts, found-more, found-one, one_path, found_live}
@@ -11,10 +11,6 @@ above_more : (ps rest : Path) (name : List ℕ) → is_above ps (ps ++ (rest ++ 
 above_more [] [] name = refl
 above_more [] (r ∷ rest) name = refl
 above_more (p ∷ ps) rest name = ap (λ b. cond b (is_above ps (ps ++ (rest ++ name ∷ []))) false) ((bytes_eq-Decides p p).1 refl) ∙ above_more ps rest name
-
-regular : (k : Kind) → is_directory k ≡ false → k ≡ Directory → ⊥
-regular Regular e d = absurd cc
-regular Directory e d = false≢true (sym e)
 
 module _ (nodes : Nodes) (creds : Creds) (tree : IsTree nodes) where
   -- what a directory lists is no root, and a number with a node isn't 0
@@ -30,12 +26,12 @@ module _ (nodes : Nodes) (creds : Creds) (tree : IsTree nodes) where
   not_root : (n : ℕ) (x : Node) → node_at nodes n ≡ Some x → is_directory x.kind ≡ false → n ≡ 1 → ⊥
   not_root n x at file one =
       let same : x ≡ tree.root.0 = one_node (node_at nodes 1) x tree.root.0 (ap (node_at nodes) (sym one) ∙ at) tree.root.1 in
-      regular x.kind file (ap (λ (z : Node). z.kind) same ∙ tree.root.2)
+      is_directory-false x.kind file (ap (λ (z : Node). z.kind) same ∙ tree.root.2)
 
-  -- a regular file has no entries
+  -- what is no directory has no entries
   file_leaf : (n : ℕ) (x : Node) → node_at nodes n ≡ Some x → is_directory x.kind ≡ false → (m : ℕ) (z : Node) → node_at nodes m ≡ Some z → z.parent ≡ n → ⊥
   file_leaf n x at file m z there parent =
-      regular x.kind file (subst IsDirectory (ap (node_at nodes) parent ∙ at) (tree.parents m z there listed))
+      is_directory-false x.kind file (subst IsDirectory (ap (node_at nodes) parent ∙ at) (tree.parents m z there listed))
     where
       listed : m ≡ 1 → ⊥
       listed one =
@@ -56,8 +52,8 @@ module _ (nodes : Nodes) (creds : Creds) (tree : IsTree nodes) where
   abbrev Makes : ℕ → Applied → Type 0
   Makes made a = (is_done a.reply ≡ true → Made made) → IsTree a.nodes
 
-  made_fits : (kind : Kind) (path : Path) (mode : Mode) (made dir : ℕ) (writes : List Path) → Entered nodes creds writes (dir_of path) dir → is_some (find_named nodes dir (name_of path)) ≡ false → Made made → Fits nodes made (new_node creds kind dir path mode)
-  made_fits kind path mode made dir writes d free new = record {
+  made_fits : (kind : Kind) (path : Path) (mode : Mode) (bytes : List ℕ) (made dir : ℕ) (writes : List Path) → Entered nodes creds writes (dir_of path) dir → is_some (find_named nodes dir (name_of path)) ≡ false → Made made → Fits nodes made (new_node creds kind dir path mode bytes)
+  made_fits kind path mode bytes made dir writes d free new = record {
     low = new.1;
     root = λ one. (let wrong : None ≡ Some tree.root.0 = sym new.0 ∙ ap (node_at nodes) one ∙ tree.root.1 in absurd (cc wrong));
     dir = subst IsDirectory (sym d.at) d.is;
@@ -68,15 +64,15 @@ module _ (nodes : Nodes) (creds : Creds) (tree : IsTree nodes) where
     alone = λ m z differ there p q. both_ways (is_some (find_named nodes dir (name_of path))) free (Child-is_some nodes dir (name_of path) m (record { node = z; at = there; parent = p; name = q }));
   }
 
-  make_stays : (kind : Kind) (path : Path) (mode : Mode) (made : ℕ) → Makes made (make nodes creds kind path mode made)
-  make_stays kind path mode made =
+  make_stays : (kind : Kind) (path : Path) (mode : Mode) (bytes : List ℕ) (made : ℕ) → Makes made (make nodes creds kind path mode bytes made)
+  make_stays kind path mode bytes made =
       let M : Applied → Type 0 = Makes made in
       let stops : (reply : Reply) → is_done reply ≡ false → M (refused nodes reply) = λ reply undone f. tree in
-      let new : ℕ → Applied = λ dir. cond (is_some (find_named nodes dir (name_of path))) (refused nodes Exists) (done (with_node nodes made (Some (new_node creds kind dir path mode))) IsDone) in
+      let new : ℕ → Applied = λ dir. cond (is_some (find_named nodes dir (name_of path))) (refused nodes Exists) (done (with_node nodes made (Some (new_node creds kind dir path mode bytes))) IsDone) in
       on_if nodes creds M stops (is_root path) (refused nodes Exists) (in_directory nodes creds (dir_of path ∷ []) path new) (λ is f. tree)
       (λ isn't. on_directory nodes creds M stops (dir_of path ∷ []) path new
-      (λ dir d. on_if nodes creds M stops (is_some (find_named nodes dir (name_of path))) (refused nodes Exists) (done (with_node nodes made (Some (new_node creds kind dir path mode))) IsDone) (λ is f. tree)
-      (λ free f. tree_put nodes tree made (new_node creds kind dir path mode) (made_fits kind path mode made dir (dir_of path ∷ []) d free (f refl)))))
+      (λ dir d. on_if nodes creds M stops (is_some (find_named nodes dir (name_of path))) (refused nodes Exists) (done (with_node nodes made (Some (new_node creds kind dir path mode bytes))) IsDone) (λ is f. tree)
+      (λ free f. tree_put nodes tree made (new_node creds kind dir path mode bytes) (made_fits kind path mode bytes made dir (dir_of path ∷ []) d free (f refl)))))
 
   -- ---- what changes a file, or none
 
@@ -89,13 +85,20 @@ module _ (nodes : Nodes) (creds : Creds) (tree : IsTree nodes) where
   same : (b : Bool) (reply : Reply) (c : Applied) → (b ≡ false → T c) → T (cond b (refused nodes reply) c)
   same b reply c else' = on_if nodes creds T stops b (refused nodes reply) c (λ is. tree) else'
 
+  -- what is done to a file that has places: it is neither a directory nor a link
+  abbrev to_regular : Node → Applied → Applied
+  to_regular x a = cond (is_directory x.kind) (refused nodes IsDir) (cond (is_link x.kind) (refused nodes IsLink) a)
+
+  on_regular : (x : Node) (a : Applied) → (is_directory x.kind ≡ false → T a) → T (to_regular x a)
+  on_regular x a goes =
+      same (is_directory x.kind) IsDir (cond (is_link x.kind) (refused nodes IsLink) a) (λ file. same (is_link x.kind) IsLink a (λ regular. goes file))
+
   write_stays : (path : Path) (at : ℕ) (bytes : List ℕ) → T (write nodes creds path at bytes)
   write_stays path at bytes =
       let new : ℕ → Node → Applied = λ n x. done (with_node nodes n (Some (record x { bytes = put_at at bytes x.bytes }))) (Count (length bytes)) in
-      on_file_at nodes creds T stops path
-      (λ n x. cond (is_directory x.kind) (refused nodes IsDir) (cond (lacks creds ToWrite x) (refused nodes Denied) (cond (ltb largest_size (at + length bytes)) (refused nodes TooLarge) (new n x))))
-      (λ n x w there.
-      same (is_directory x.kind) IsDir (cond (lacks creds ToWrite x) (refused nodes Denied) (cond (ltb largest_size (at + length bytes)) (refused nodes TooLarge) (new n x))) (λ file.
+      let may : ℕ → Node → Applied = λ n x. cond (lacks creds ToWrite x) (refused nodes Denied) (cond (ltb largest_size (at + length bytes)) (refused nodes TooLarge) (new n x)) in
+      on_file_at nodes creds T stops path (λ n x. to_regular x (may n x)) (λ n x w there.
+      on_regular x (may n x) (λ file.
       same (lacks creds ToWrite x) Denied (cond (ltb largest_size (at + length bytes)) (refused nodes TooLarge) (new n x)) (λ may.
       same (ltb largest_size (at + length bytes)) TooLarge (new n x) (λ fits.
       tree_same nodes tree n x (record x { bytes = put_at at bytes x.bytes }) there (not_root n x there file) refl refl refl))))
@@ -103,13 +106,21 @@ module _ (nodes : Nodes) (creds : Creds) (tree : IsTree nodes) where
   truncate_stays : (path : Path) (size : ℕ) → T (truncate nodes creds path size)
   truncate_stays path size =
       let new : ℕ → Node → Applied = λ n x. done (with_node nodes n (Some (record x { bytes = resized size x.bytes }))) IsDone in
-      on_file_at nodes creds T stops path
-      (λ n x. cond (is_directory x.kind) (refused nodes IsDir) (cond (lacks creds ToWrite x) (refused nodes Denied) (cond (ltb largest_size size) (refused nodes TooLarge) (new n x))))
-      (λ n x w there.
-      same (is_directory x.kind) IsDir (cond (lacks creds ToWrite x) (refused nodes Denied) (cond (ltb largest_size size) (refused nodes TooLarge) (new n x))) (λ file.
+      let may : ℕ → Node → Applied = λ n x. cond (lacks creds ToWrite x) (refused nodes Denied) (cond (ltb largest_size size) (refused nodes TooLarge) (new n x)) in
+      on_file_at nodes creds T stops path (λ n x. to_regular x (may n x)) (λ n x w there.
+      on_regular x (may n x) (λ file.
       same (lacks creds ToWrite x) Denied (cond (ltb largest_size size) (refused nodes TooLarge) (new n x)) (λ may.
       same (ltb largest_size size) TooLarge (new n x) (λ fits.
       tree_same nodes tree n x (record x { bytes = resized size x.bytes }) there (not_root n x there file) refl refl refl))))
+
+  guard_stays : (path : Path) (on : Bool) → T (guard nodes creds path on)
+  guard_stays path on =
+      let new : ℕ → Node → Applied = λ n x. done (with_node nodes n (Some (record x { guard = on }))) IsDone in
+      let may : ℕ → Node → Applied = λ n x. cond (lacks creds ToWrite x) (refused nodes Denied) (new n x) in
+      on_file_at nodes creds T stops path (λ n x. to_regular x (may n x)) (λ n x w there.
+      on_regular x (may n x) (λ file.
+      same (lacks creds ToWrite x) Denied (new n x) (λ may.
+      tree_same nodes tree n x (record x { guard = on }) there (not_root n x there file) refl refl refl)))
 
   unlink_stays : (path : Path) → T (unlink nodes creds path)
   unlink_stays path =
@@ -177,8 +188,15 @@ module _ (nodes : Nodes) (creds : Creds) (tree : IsTree nodes) where
   read_stays : (path : Path) (at len : ℕ) → T (read nodes creds path at len)
   read_stays path at len =
       let new : ℕ → Node → Applied = λ n x. done nodes (Bytes (take len (drop at x.bytes))) in
-      on_file_at nodes creds T stops path (λ n x. cond (is_directory x.kind) (refused nodes IsDir) (cond (lacks creds ToRead x) (refused nodes Denied) (new n x)))
-      (λ n x w there. same (is_directory x.kind) IsDir (cond (lacks creds ToRead x) (refused nodes Denied) (new n x)) (λ file. same (lacks creds ToRead x) Denied (new n x) (λ may. tree)))
+      let may : ℕ → Node → Applied = λ n x. cond (lacks creds ToRead x) (refused nodes Denied) (new n x) in
+      on_file_at nodes creds T stops path (λ n x. to_regular x (may n x))
+      (λ n x w there. on_regular x (may n x) (λ file. same (lacks creds ToRead x) Denied (new n x) (λ may. tree)))
+
+  readlink_stays : (path : Path) → T (readlink nodes creds path)
+  readlink_stays path =
+      let new : ℕ → Node → Applied = λ n x. done nodes (Bytes x.bytes) in
+      on_file_at nodes creds T stops path (λ n x. cond (not (is_link x.kind)) (refused nodes NotLink) (cond (lacks creds ToRead x) (refused nodes Denied) (new n x)))
+      (λ n x w there. same (not (is_link x.kind)) NotLink (cond (lacks creds ToRead x) (refused nodes Denied) (new n x)) (λ is. same (lacks creds ToRead x) Denied (new n x) (λ may. tree)))
 
   list_stays : (path : Path) (from : ℕ) → T (list nodes creds path from)
   list_stays path from =
@@ -198,8 +216,8 @@ module _ (nodes : Nodes) (creds : Creds) (tree : IsTree nodes) where
   new_number call made reply fits e done = subst (λ b. MatchBool b (Made made) (made ≡ 0)) (ap is_done e ∙ done) fits
 
   call_stays : (call : Call) (made : ℕ) (reply : Reply) → reply ≡ (applied nodes creds call made).reply → MadeFits nodes (record { call = call; reply = reply; made = made }) → T (applied nodes creds call made)
-  call_stays (Mkdir path mode) made reply e fits = make_stays Directory path mode made (new_number (Mkdir path mode) made reply fits e)
-  call_stays (Create path mode) made reply e fits = make_stays Regular path mode made (new_number (Create path mode) made reply fits e)
+  call_stays (Mkdir path mode) made reply e fits = make_stays Directory path mode [] made (new_number (Mkdir path mode) made reply fits e)
+  call_stays (Create path mode) made reply e fits = make_stays Regular path mode [] made (new_number (Create path mode) made reply fits e)
   call_stays (Write path at bytes) made reply e fits = write_stays path at bytes
   call_stays (Read path at len) made reply e fits = read_stays path at len
   call_stays (Truncate path size) made reply e fits = truncate_stays path size
@@ -209,6 +227,9 @@ module _ (nodes : Nodes) (creds : Creds) (tree : IsTree nodes) where
   call_stays (ListNames path from) made reply e fits = list_stays path from
   call_stays (Stat path) made reply e fits = stat_stays path
   call_stays (Chmod path mode) made reply e fits = chmod_stays path mode
+  call_stays (Symlink path text) made reply e fits = make_stays Link path link_mode text made (new_number (Symlink path text) made reply fits e)
+  call_stays (Readlink path) made reply e fits = readlink_stays path
+  call_stays (Guard path on) made reply e fits = guard_stays path on
 
 pub tree_stays : TreeStays
 tree_stays nodes creds d nodes' tree (inl a) fits = subst IsTree (sym a.1) (call_stays nodes creds tree d.call d.made d.reply a.0 fits)

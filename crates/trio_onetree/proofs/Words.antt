@@ -9,21 +9,23 @@ pub use Rattle.std.specs.Prelude.{MatchBool}
 pub use Rattle.std.specs.Str.{bytes_eq}
 pub use Rattle.trio_nodes.proofs.NodeFacts.{set-with_node}
 pub use Rattle.trio_nodes.specs.After.{call_nodes}
-pub use Rattle.trio_nodes.specs.Apply.{Applied, applied, chmod, done, in_directory, is_done, largest_size, list, listed_in, make, new_node, of_node, put_at, reached, read, refused, rename, resized, rmdir, size_of, stat, truncate, unlink, write}
+pub use Rattle.trio_nodes.specs.Apply.{Applied, applied, chmod, done, guard, in_directory, is_done, largest_size, link_mode, list, listed_in, make, new_node, of_node, put_at, reached, read, readlink, refused, rename, resized, rmdir, size_of, stat, truncate, unlink, write}
 pub use Rattle.trio_nodes.specs.Found.{found_from, path_found, then_found}
 pub use Rattle.trio_nodes.specs.Legal.{MadeFits}
 pub use Rattle.trio_nodes.specs.Nodes.{Nodes, count_in, find_named, names_in, node_at, with_node}
 pub use Rattle.trio_nodes.specs.Tree.{IsDirectory, IsTree}
-pub use Rattle.trio_nodes.specs.Walk.{Path, dir_of, enter, is_above, is_directory, is_root, lacks, name_of, need_at, same_path, walk, walk_from, walk_into}
+pub use Rattle.trio_nodes.specs.Walk.{Path, dir_of, enter, is_above, is_root, lacks, name_of, need_at, same_path, walk, walk_from, walk_into}
 pub use Rattle.trio_nodes.specs.declared.call.Answer.{Answer}
 pub use Rattle.trio_nodes.specs.declared.call.Answer.TheVariants.{Bytes, Count, Done as IsDone, Names as AreNames, Stat as IsStat}
 pub use Rattle.trio_nodes.specs.declared.call.Call.{Call}
-pub use Rattle.trio_nodes.specs.declared.call.Call.TheVariants.{Chmod, Create, List as ListNames, Mkdir, Read, Rename, Rmdir, Stat, Truncate, Unlink, Write}
+pub use Rattle.trio_nodes.specs.declared.call.Call.TheVariants.{Chmod, Create, Guard, List as ListNames, Mkdir, Read, Readlink, Rename, Rmdir, Stat, Symlink, Truncate, Unlink, Write}
 pub use Rattle.trio_nodes.specs.declared.call.Reply.{Reply}
-pub use Rattle.trio_nodes.specs.declared.call.Reply.TheVariants.{Denied, Exists, IntoItself, IsDir, NotDir, NotEmpty, NotFound, Ok as Replied, TooLarge}
+pub use Rattle.trio_nodes.specs.declared.call.Reply.TheVariants.{Denied, Exists, IntoItself, IsDir, IsLink, NotDir, NotEmpty, NotFound, NotLink, Ok as Replied, TooLarge}
 pub use Rattle.trio_nodes.specs.declared.node.Node.{Node}
+pub use Rattle.trio_rights.proofs.KindFacts.{is_directory-false, is_directory-true}
+pub use Rattle.trio_rights.specs.ByKind.{is_directory, is_link}
 pub use Rattle.trio_rights.specs.declared.kind.Kind.{Kind}
-pub use Rattle.trio_rights.specs.declared.kind.Kind.TheVariants.{Directory, Regular}
+pub use Rattle.trio_rights.specs.declared.kind.Kind.TheVariants.{Directory, Link, Regular}
 pub use Rattle.trio_rights.specs.declared.rights.Creds.{Creds}
 pub use Rattle.trio_rights.specs.declared.rights.Mode.{Mode}
 pub use Rattle.trio_rights.specs.declared.rights.Need.{Need}

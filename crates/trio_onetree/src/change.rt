@@ -3,20 +3,20 @@
 ghost use Rattle.std.specs.Prelude.{◌≡◌, ◌+◌, ◌<◌, length, nat_lt, Some};
 ghost use Rattle.trio_nodes.specs.declared.node.Node.{Node};
 ghost use Rattle.trio_nodes.specs.Nodes.{node_at, with_node};
-ghost use Rattle.trio_nodes.specs.Apply.{make, write, truncate, unlink, rmdir, rename, chmod, largest_size};
+ghost use Rattle.trio_nodes.specs.Apply.{make, write, truncate, guard, unlink, rmdir, rename, chmod, largest_size};
 ghost use Rattle.trio_onetree.specs.inner.Gives.{Gives};
 
 use crate::content::{LARGEST_SIZE, put_at, resized};
 use crate::fault::Fault;
 use crate::path::{is_above, parts};
-use crate::reach::{entry_at, file_at, file_in, is_directory};
+use crate::reach::{entry_at, file_at, file_in};
 use crate::walk::{lacks, walk_into};
 use std::alloc::Global;
 use trio_names::{Name, Path};
 use trio_nodes::{Answer, Bytes, Node, Nodes, Reply};
 use trio_rights::{Creds, Kind, Mode, Need};
 
-/// An empty file or directory, with the caller's uid and gid.
+/// A new file or directory with the caller's uid and gid, and with these bytes.
 pub(crate) fn make(
     alloc: Global,
     nodes: &mut Nodes,
@@ -24,9 +24,10 @@ pub(crate) fn make(
     kind: Kind,
     path: &Path,
     mode: Mode,
+    bytes: &[u8],
     made: u32,
 ) -> Result<Answer, Fault>
-    ensures { Gives (make nodes.old creds kind path.now mode made) nodes.old nodes.new result }
+    ensures { Gives (make nodes.old creds kind path.now mode bytes.now made) nodes.old nodes.new result }
 {
     let Some((dir, name)) = parts(path) else {
         return Err(Fault::Refused(Reply::Exists));
@@ -35,6 +36,7 @@ pub(crate) fn make(
     if nodes.entry(parent, name).is_some() {
         return Err(Fault::Refused(Reply::Exists));
     }
+    let copy = Bytes::copied(alloc, bytes)?;
     let node = Node {
         parent,
         name: *name,
@@ -42,13 +44,14 @@ pub(crate) fn make(
         mode,
         uid: creds.uid,
         gid: creds.gid,
-        bytes: Bytes::new(alloc),
+        guard: false,
+        bytes: copy,
     };
     nodes.put(made, node)?;
     Ok(Answer::Done)
 }
 
-/// Bytes put at a place of a file.
+/// Bytes put at a place of a regular file.
 pub(crate) fn write(
     alloc: Global,
     nodes: &mut Nodes,
@@ -60,8 +63,11 @@ pub(crate) fn write(
     ensures { Gives (write nodes.old creds path.now at bytes.now) nodes.old nodes.new result }
 {
     let (ino, node) = file_at(nodes, creds, path)?;
-    if is_directory(node.kind) {
+    if node.kind.is_directory() {
         return Err(Fault::Refused(Reply::IsDir));
+    }
+    if node.kind.is_link() {
+        return Err(Fault::Refused(Reply::IsLink));
     }
     if lacks(creds, Need::Write, node) {
         return Err(Fault::Refused(Reply::Denied));
@@ -74,7 +80,7 @@ pub(crate) fn write(
     Ok(Answer::Count(bytes.len() as u32))
 }
 
-/// A file cut, or grown by zeros.
+/// A regular file cut, or grown by zeros.
 pub(crate) fn truncate(
     alloc: Global,
     nodes: &mut Nodes,
@@ -85,8 +91,11 @@ pub(crate) fn truncate(
     ensures { Gives (truncate nodes.old creds path.now size) nodes.old nodes.new result }
 {
     let (ino, node) = file_at(nodes, creds, path)?;
-    if is_directory(node.kind) {
+    if node.kind.is_directory() {
         return Err(Fault::Refused(Reply::IsDir));
+    }
+    if node.kind.is_link() {
+        return Err(Fault::Refused(Reply::IsLink));
     }
     if lacks(creds, Need::Write, node) {
         return Err(Fault::Refused(Reply::Denied));
@@ -99,7 +108,25 @@ pub(crate) fn truncate(
     Ok(Answer::Done)
 }
 
-/// A file taken away.
+/// A regular file is guarded from now on, or no longer.
+pub(crate) fn guard(nodes: &mut Nodes, creds: Creds, path: &Path, on: bool) -> Result<Answer, Fault>
+    ensures { Gives (guard nodes.old creds path.now on) nodes.old nodes.new result }
+{
+    let (ino, node) = file_at(nodes, creds, path)?;
+    if node.kind.is_directory() {
+        return Err(Fault::Refused(Reply::IsDir));
+    }
+    if node.kind.is_link() {
+        return Err(Fault::Refused(Reply::IsLink));
+    }
+    if lacks(creds, Need::Write, node) {
+        return Err(Fault::Refused(Reply::Denied));
+    }
+    set_guard(nodes, ino, on);
+    Ok(Answer::Done)
+}
+
+/// A regular file or a link taken away.
 pub(crate) fn unlink(nodes: &mut Nodes, creds: Creds, path: &Path) -> Result<Answer, Fault>
     ensures { Gives (unlink nodes.old creds path.now) nodes.old nodes.new result }
 {
@@ -107,7 +134,7 @@ pub(crate) fn unlink(nodes: &mut Nodes, creds: Creds, path: &Path) -> Result<Ans
         return Err(Fault::Refused(Reply::IsDir));
     };
     let (ino, node) = entry_at(nodes, creds, &[dir], dir, name)?;
-    if is_directory(node.kind) {
+    if node.kind.is_directory() {
         return Err(Fault::Refused(Reply::IsDir));
     }
     nodes.remove(ino);
@@ -122,7 +149,7 @@ pub(crate) fn rmdir(nodes: &mut Nodes, creds: Creds, path: &Path) -> Result<Answ
         return Err(Fault::Refused(Reply::Denied));
     };
     let (ino, node) = entry_at(nodes, creds, &[dir], dir, name)?;
-    if !is_directory(node.kind) {
+    if !node.kind.is_directory() {
         return Err(Fault::Refused(Reply::NotDir));
     }
     if nodes.count(ino) > 0 {
@@ -194,6 +221,15 @@ fn set_bytes(nodes: &mut Nodes, ino: u32, bytes: Bytes)
 {
     if let Some(node) = nodes.get_mut(ino) {
         node.bytes = bytes;
+    }
+}
+
+fn set_guard(nodes: &mut Nodes, ino: u32, on: bool)
+    ensures { (x : Node) → node_at nodes.old ino ≡ Some x
+        → nodes.new ≡ with_node nodes.old ino (Some (record x { guard = on })) }
+{
+    if let Some(node) = nodes.get_mut(ino) {
+        node.guard = on;
     }
 }
 

@@ -3,7 +3,7 @@
 ghost use Rattle.trio_onetree.specs.CallLaws.{CallChangesOne, TreeStays, TreeStaysThrough};
 
 /// A call that only looks, or isn't done, changes nothing; any other changes one node, and to what is
-/// said: its bytes alone, its mode alone or its place alone, or it is made, or gone.
+/// said: its bytes alone, its mode alone, its guard alone or its place alone, or it is made, or gone.
 pub fn call_changes_one()
     ensures law { CallChangesOne }
 {}

@@ -21,7 +21,10 @@ mod walk;
 use fault::Fault;
 use std::alloc::{AllocError as NoMemory, Global};
 use trio_nodes::{Answer, Call, Nodes, Reply};
-use trio_rights::{Creds, Kind};
+use trio_rights::{Creds, Kind, Mode};
+
+/// The mode of a link, which gives everybody all rights.
+const LINK_MODE: Mode = Mode(0o777);
 
 /// Does a call on the nodes, for a caller with these credentials, and says what it is replied. A
 /// file that is made gets the number `made`. The reply is never want of room.
@@ -57,10 +60,10 @@ fn outcome(
 {
     match call {
         Call::Mkdir { path, mode } => {
-            change::make(alloc, nodes, creds, Kind::Directory, path, *mode, made)
+            change::make(alloc, nodes, creds, Kind::Directory, path, *mode, &[], made)
         }
         Call::Create { path, mode } => {
-            change::make(alloc, nodes, creds, Kind::Regular, path, *mode, made)
+            change::make(alloc, nodes, creds, Kind::Regular, path, *mode, &[], made)
         }
         Call::Write { path, at, bytes } => {
             change::write(alloc, nodes, creds, path, *at, bytes.as_slice())
@@ -73,5 +76,17 @@ fn outcome(
         Call::List { path, from } => look::list(alloc, nodes, creds, path, *from),
         Call::Stat { path } => look::stat(nodes, creds, path),
         Call::Chmod { path, mode } => change::chmod(nodes, creds, path, *mode),
+        Call::Symlink { path, text } => change::make(
+            alloc,
+            nodes,
+            creds,
+            Kind::Link,
+            path,
+            LINK_MODE,
+            text.as_slice(),
+            made,
+        ),
+        Call::Readlink { path } => look::readlink(alloc, nodes, creds, path),
+        Call::Guard { path, on } => change::guard(nodes, creds, path, *on),
     }
 }

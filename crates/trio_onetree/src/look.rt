@@ -1,11 +1,11 @@
 //! Calls that only look.
 
-ghost use Rattle.trio_nodes.specs.Apply.{read, list, stat};
+ghost use Rattle.trio_nodes.specs.Apply.{read, readlink, list, stat};
 ghost use Rattle.trio_onetree.specs.inner.Gives.{Gives};
 
 use crate::content::part;
 use crate::fault::Fault;
-use crate::reach::{file_at, is_directory};
+use crate::reach::file_at;
 use crate::walk::lacks;
 use std::alloc::Global;
 use trio_names::Path;
@@ -15,7 +15,7 @@ use trio_rights::{Creds, Need};
 /// The most names that one reply has.
 const LISTED: usize = 64;
 
-/// At most `len` bytes of a file from `at` on.
+/// At most `len` bytes of a regular file from `at` on.
 pub(crate) fn read(
     alloc: Global,
     nodes: &Nodes,
@@ -27,14 +27,37 @@ pub(crate) fn read(
     ensures { Gives (read nodes.now creds path.now at len) nodes.now nodes.now result }
 {
     let (_, node) = file_at(nodes, creds, path)?;
-    if is_directory(node.kind) {
+    if node.kind.is_directory() {
         return Err(Fault::Refused(Reply::IsDir));
+    }
+    if node.kind.is_link() {
+        return Err(Fault::Refused(Reply::IsLink));
     }
     if lacks(creds, Need::Read, node) {
         return Err(Fault::Refused(Reply::Denied));
     }
     let read = part(node.bytes.as_slice(), at as usize, len as usize);
     Ok(Answer::Bytes(SharedBytes::copied(alloc, read)?))
+}
+
+/// The text of a symbolic link.
+pub(crate) fn readlink(
+    alloc: Global,
+    nodes: &Nodes,
+    creds: Creds,
+    path: &Path,
+) -> Result<Answer, Fault>
+    ensures { Gives (readlink nodes.now creds path.now) nodes.now nodes.now result }
+{
+    let (_, node) = file_at(nodes, creds, path)?;
+    if !node.kind.is_link() {
+        return Err(Fault::Refused(Reply::NotLink));
+    }
+    if lacks(creds, Need::Read, node) {
+        return Err(Fault::Refused(Reply::Denied));
+    }
+    let text = SharedBytes::copied(alloc, node.bytes.as_slice())?;
+    Ok(Answer::Bytes(text))
 }
 
 /// How many entries a directory has, and at most 64 of their names from a place on.
@@ -48,7 +71,7 @@ pub(crate) fn list(
     ensures { Gives (list nodes.now creds path.now from) nodes.now nodes.now result }
 {
     let (ino, node) = file_at(nodes, creds, path)?;
-    if !is_directory(node.kind) {
+    if !node.kind.is_directory() {
         return Err(Fault::Refused(Reply::NotDir));
     }
     if lacks(creds, Need::Read, node) {
@@ -70,7 +93,7 @@ pub(crate) fn stat(nodes: &Nodes, creds: Creds, path: &Path) -> Result<Answer, F
     if lacks(creds, Need::Read, node) {
         return Err(Fault::Refused(Reply::Denied));
     }
-    let size = if is_directory(node.kind) {
+    let size = if node.kind.is_directory() {
         u64::from(nodes.count(ino))
     } else {
         node.bytes.as_slice().len() as u64

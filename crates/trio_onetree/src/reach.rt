@@ -3,12 +3,11 @@
 ghost use Rattle.std.specs.Prelude.{◌≡◌, MatchResult};
 ghost use Rattle.trio_onetree.specs.inner.Gives.{file_of, file_in, entry_of};
 ghost use Rattle.trio_onetree.specs.inner.Paths.{paths_of};
-ghost use Rattle.trio_nodes.specs.Walk.{is_directory};
 
 use crate::walk::{look_up, walk, walk_into};
 use trio_names::{Name, Path};
 use trio_nodes::{Node, Nodes, Reply};
-use trio_rights::{Creds, Kind};
+use trio_rights::Creds;
 
 /// The file at a path: its number and its node.
 pub(crate) fn file_at<'a>(
@@ -52,13 +51,4 @@ pub(crate) fn entry_at<'a>(
 {
     let parent = walk_into(nodes, creds, writes, dir)?;
     file_in(nodes, parent, name)
-}
-
-pub(crate) fn is_directory(kind: Kind) -> bool
-    ensures { result ≡ is_directory kind }
-{
-    match kind {
-        Kind::Directory => true,
-        Kind::Regular => false,
-    }
 }

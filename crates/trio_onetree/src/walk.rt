@@ -10,7 +10,7 @@ ghost use Rattle.trio_onetree.specs.inner.Paths.{paths_of};
 use crate::path::same_path;
 use trio_names::Name;
 use trio_nodes::{Node, Nodes, Reply};
-use trio_rights::{Creds, Kind, Need, may};
+use trio_rights::{Creds, Need, may};
 
 /// Whether the rights of the node don't give what is needed.
 pub(crate) fn lacks(creds: Creds, need: Need, node: &Node) -> bool
@@ -25,7 +25,7 @@ fn enter(nodes: &Nodes, creds: Creds, need: Need, ino: u32) -> Result<u32, Reply
 {
     match nodes.get(ino) {
         None => Err(Reply::NotFound),
-        Some(node) if node.kind != Kind::Directory => Err(Reply::NotDir),
+        Some(node) if !node.kind.is_directory() => Err(Reply::NotDir),
         Some(node) if lacks(creds, need, node) => Err(Reply::Denied),
         Some(_) => Ok(ino),
     }

@@ -205,6 +205,108 @@ fn calls_are_done(rt: HostRuntime) {
     assert!(rt; steps_are_replied(&rt, rt.alloc(), TREE, 8, DONE).is_some());
 }
 
+// `/a` with the file `f` and a link that uid 0 alone may read, and the link `/l`
+const LINKED: &[Row] = &[
+    (1, 0, b"-", Kind::Directory, 0o755, b""),
+    (2, 1, b"a", Kind::Directory, 0o755, b""),
+    (3, 2, b"f", Kind::Regular, 0o644, b"hello"),
+    (4, 1, b"l", Kind::Link, 0o777, b"/a/f"),
+    (5, 2, b"m", Kind::Link, 0o700, b"x"),
+];
+
+// What a link is asks no rights, and comes before sizes. A walk doesn't follow one.
+const LINK_REFUSALS: &[Step] = &[
+    (0, "write /l 0 w", "islink"),
+    (5, "write /a/m 33554432 w", "islink"),
+    (0, "read /l 0 4", "islink"),
+    (5, "read /a/m 0 4", "islink"),
+    (0, "truncate /l 0", "islink"),
+    (5, "truncate /a/m 33554433", "islink"),
+    (0, "guard /l 1", "islink"),
+    (0, "guard /a 1", "isdir"),
+    (0, "guard / 0", "isdir"),
+    (0, "guard /z 1", "notfound"),
+    (5, "guard /a/f 1", "denied"),
+    (0, "readlink /", "notlink"),
+    (0, "readlink /a/f", "notlink"),
+    (0, "readlink /z", "notfound"),
+    (0, "readlink /l/z", "notdir"),
+    (5, "readlink /a/m", "denied"),
+    (0, "stat /l/f", "notdir"),
+    (0, "create /l/n 644", "notdir"),
+    (0, "list /l 0", "notdir"),
+    (0, "rmdir /l", "notdir"),
+    (0, "symlink / x", "exists"),
+    (0, "symlink /z/n x", "notfound"),
+    (0, "symlink /l/n x", "notdir"),
+    (5, "symlink /a/n x", "denied"),
+    (5, "symlink /a/f x", "denied"),
+    (0, "symlink /a/f x", "exists"),
+    (0, "symlink /l x", "exists"),
+    (0, "rename /a/f /l", "exists"),
+    (5, "chmod /l 700", "denied"),
+];
+
+#[test]
+fn a_link_is_followed_by_nobody(rt: HostRuntime) {
+    assert!(rt; steps_are_replied(&rt, rt.alloc(), LINKED, 6, LINK_REFUSALS).is_some());
+}
+
+// The fifth call makes `/a/n`.
+const LINKS_DONE: &[Step] = &[
+    (0, "readlink /l", "ok 4 /a/f"),
+    (5, "readlink /l", "ok 4 /a/f"),
+    (0, "stat /l", "ok l 777 0 0 4"),
+    (0, "list / 0", "ok 2 a/ l@"),
+    (0, "symlink /a/n \\x00\\x20/", "ok"),
+    (5, "readlink /a/n", "ok 3 \\x00\\x20/"),
+    (0, "stat /a/n", "ok l 777 0 0 3"),
+    (0, "rename /l /a/k", "ok"),
+    (0, "readlink /a/k", "ok 4 /a/f"),
+    (0, "chmod /a/k 640", "ok"),
+    (5, "readlink /a/k", "denied"),
+    (0, "unlink /a/k", "ok"),
+    (0, "readlink /a/k", "notfound"),
+    (0, "list /a 0", "ok 3 f m@ n@"),
+];
+
+#[test]
+fn links_are_made_read_moved_and_removed(rt: HostRuntime) {
+    assert!(rt; steps_are_replied(&rt, rt.alloc(), LINKED, 6, LINKS_DONE).is_some());
+}
+
+// whether the file 3 is guarded after each of these lines
+const GUARDS: &[(&str, bool)] = &[
+    ("guard /a/f 1", true),
+    ("guard /a/f 1", true),
+    ("write /a/f 0 j", true),
+    ("rename /a/f /g", true),
+    ("guard /g 0", false),
+];
+
+fn is_guarded_after(alloc: Global, nodes: &mut Nodes, line: &str) -> Option<bool> {
+    let libs = script(alloc, 0, line)?;
+    let creds = Creds { uid: 0, gid: 0 };
+    apply(alloc, nodes, creds, call_of(&libs)?, 0).ok()?;
+    Some(nodes.get(3)?.guard)
+}
+
+fn guards_stay<R: Abort>(rt: &R, alloc: Global) -> Option<()> {
+    let mut nodes = nodes_of(alloc, LINKED)?;
+    for (line, wanted) in GUARDS {
+        assert!(rt;
+            is_guarded_after(alloc, &mut nodes, line) == Some(*wanted),
+            "{line}"
+        );
+    }
+    Some(())
+}
+
+#[test]
+fn a_guard_stays_until_it_is_taken_off(rt: HostRuntime) {
+    assert!(rt; guards_stay(&rt, rt.alloc()).is_some());
+}
+
 // Writes of no bytes, which no line says: where they begin, and what they are replied.
 const EMPTY: &[(u64, &str)] = &[(33_554_432, "ok 0"), (u64::MAX, "toolarge")];
 

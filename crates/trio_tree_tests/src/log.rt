@@ -61,7 +61,7 @@ fn bundle(alloc: Global) -> Option<RawBundle> {
     Some(RawBundle::of(handed(alloc, pages), blocks))
 }
 
-// The file 3 grows to 4098 bytes, of which the second block is listed, 4 goes, and 6 is new: the
+// The file 3 is guarded and grows to 4098 bytes, of which the second block is listed, 4 goes, and 6 is new: the
 // number, whether the file is gone, its name and its size.
 const FILES: &[(u32, bool, &[u8], u64)] = &[
     (3, false, b"f", 4098),
@@ -81,6 +81,7 @@ fn raw_file(ino: u32, gone: bool, name: &[u8], size: u64) -> Option<RawFile> {
         mode: Mode(0o640),
         uid: 1,
         gid: 2,
+        guard: ino == 3,
         size,
     })
 }
@@ -180,7 +181,7 @@ fn has_bytes(nodes: &Nodes) -> Option<bool> {
 fn has_rights(nodes: &Nodes) -> Option<bool> {
     let (file, directory) = (nodes.get(3)?, nodes.get(2)?);
     let is_moded = file.mode == Mode(0o600) && directory.mode == Mode(0o755);
-    Some(is_moded && (file.uid, file.gid) == (1, 2))
+    Some(is_moded && (file.uid, file.gid) == (1, 2) && file.guard && !directory.guard)
 }
 
 fn has_made(nodes: &Nodes) -> Option<bool> {

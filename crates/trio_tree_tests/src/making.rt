@@ -20,6 +20,7 @@ fn node(alloc: Global, row: &Row) -> Option<Node> {
         mode: Mode(mode),
         uid: 0,
         gid: 0,
+        guard: false,
         bytes,
     })
 }
