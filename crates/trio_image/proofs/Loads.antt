@@ -1,5 +1,5 @@
 -- A file that was read is an image or is refused.
-use Rattle.trio_image.proofs.Words.{◌/◌, ◌∙◌, ◌≡◌, ◌≤◌, AreFilePages, BadSuper, Fails, HasLength, ImagePages, IsFileOf, IsFirstPageFault, IsPagesFault, IsVerified, IsWholeImage, Length, List, LoadFails, LoadFault, NoMemory, Option, PagesVerify, ReadFault, Shelf, Superblock, TooLong, ap, arith, length, subst, sym, ℕ}
+use Rattle.trio_image.proofs.Words.{◌/◌, ◌∙◌, ◌≡◌, ◌≤◌, AreFilePages, BadSuper, Fails, HasLength, HasLengthOf, ImagePages, IsFileOf, IsFirstPageFault, IsPagesFault, IsVerified, IsWholeImageOf, Length, List, LoadFails, LoadFault, NoMemory, OldVersion, Option, PagesVerify, ReadFault, Shelf, Superblock, TooLong, ap, arith, current_version, length, old_version, subst, sym, ℕ}
 use Rattle.std.specs.Prelude.{IfOk, Result, Ok, Err}
 use Rattle.trio_image.specs.Load.{IsRefused, Loads}
 use Rattle.trio_image.proofs.Images.{file_pages, pages_whole}
@@ -10,8 +10,8 @@ pub file_count : (content : Option (List ℕ)) (whole : List (Option (List ℕ))
 file_count content whole count file =
     omega (arith, file.within, ap length file.are.whole_are, length-pages_in (length file.bytes / 4096) file.bytes)
 
-pub file_whole : (content : Option (List ℕ)) (whole : List (Option (List ℕ))) (count : ℕ) (s : Superblock) → (file : IsFileOf content whole count) → HasLength file.bytes s → IsWholeImage s whole
-file_whole content whole count s file has = subst (IsWholeImage s) (sym (file_pages file.bytes whole count s file.are has)) (pages_whole file.bytes s has)
+pub file_whole : (version : ℕ) (content : Option (List ℕ)) (whole : List (Option (List ℕ))) (count : ℕ) (s : Superblock) → (file : IsFileOf content whole count) → HasLengthOf version file.bytes s → IsWholeImageOf version s whole
+file_whole version content whole count s file has = subst (IsWholeImageOf version s) (sym (file_pages version file.bytes whole count s file.are has)) (pages_whole version file.bytes s has)
 
 -- ---- why there is no image
 
@@ -20,10 +20,11 @@ refused name old new ReadFault is = absurd is.cause
 refused name old new TooLong is = absurd is.cause
 refused name old new NoMemory is = tt
 refused name old new (Length n) is = is
+refused name old new OldVersion is = is
 refused name old new BadSuper is = is
 refused name old new (Fails rule ino page slot) is = is
 
-pub first_page_refused : (name : List ℕ) (old new : Shelf) (whole : List (Option (List ℕ))) (count : ℕ) (fault : LoadFault) → IsFileOf (old.held name) whole count → ((bytes : List ℕ) → AreFilePages bytes whole count → IsFirstPageFault bytes fault) → LoadFails name old new fault
+pub first_page_refused : (name : List ℕ) (old new : Shelf) (whole : List (Option (List ℕ))) (count : ℕ) (fault : LoadFault) → IsFileOf (old.held name) whole count → ((bytes : List ℕ) → AreFilePages bytes whole count → IsFirstPageFault current_version old_version bytes fault) → LoadFails name old new fault
 first_page_refused name old new whole count fault file bad = refused name old new fault (record {
   bytes = file.bytes;
   told = file.told;
@@ -35,9 +36,10 @@ first_page_refused name old new whole count fault file bad = refused name old ne
 pub pages_refused : (name : List ℕ) (old new : Shelf) (whole pages : List (Option (List ℕ))) (count : ℕ) (s : Superblock) (file : IsFileOf (old.held name) whole count) → HasLength file.bytes s → pages ≡ whole → (fault : LoadFault) → IsPagesFault s pages fault → LoadFails name old new fault
 pages_refused name old new whole pages count s file has same NoMemory bad = tt
 pages_refused name old new whole pages count s file has same (Fails rule ino page slot) bad =
-    let cause = pages_load file.bytes s pages (Fails rule ino page slot) has (same ∙ file_pages file.bytes whole count s file.are has) bad in
+    let cause = pages_load file.bytes s pages (Fails rule ino page slot) has (same ∙ file_pages current_version file.bytes whole count s file.are has) bad in
     record { bytes = file.bytes; told = file.told; within = file.within; cause = cause; fails = load_refuses file.bytes (Fails rule ino page slot) cause (λ e. absurd cc) }
 pages_refused name old new whole pages count s file has same (Length n) bad = absurd bad
+pages_refused name old new whole pages count s file has same OldVersion bad = absurd bad
 pages_refused name old new whole pages count s file has same BadSuper bad = absurd bad
 pages_refused name old new whole pages count s file has same ReadFault bad = absurd bad
 pages_refused name old new whole pages count s file has same TooLong bad = absurd bad
@@ -46,7 +48,7 @@ pages_refused name old new whole pages count s file has same TooLong bad = absur
 
 loaded_as : (content : Option (List ℕ)) (whole pages : List (Option (List ℕ))) (count : ℕ) (s : Superblock) (file : IsFileOf content whole count) → HasLength file.bytes s → pages ≡ whole → PagesVerify s pages → Loads content s pages
 loaded_as content whole pages count s file has same v =
-    let is = same ∙ file_pages file.bytes whole count s file.are has in
+    let is = same ∙ file_pages current_version file.bytes whole count s file.are has in
     record {
       bytes = file.bytes;
       told = file.told;

@@ -1,11 +1,11 @@
 -- The parts of a node as they are read.
-use Rattle.trio_image.proofs.Words.{if◌then◌else◌, ◌*◌, ◌++◌, ◌+◌, ◌-◌, ◌==◌, ◌∙◌, ◌∷◌, ◌≡◌, ◌≤◌, Body, Core, CoreRange, List, None, Ok, Option, Row, Some, Superblock, [], ap, arith, body_of_row, chain_of, content_of, core_in, core_with, drop, joined_pages, length, name_by_row, name_said, node_by_row, refl, slot_of, suc, sym, tabulated, tabulated-length, take, zero, ℕ}
+use Rattle.trio_image.proofs.Words.{if◌then◌else◌, ◌*◌, ◌++◌, ◌+◌, ◌-◌, ◌==◌, ◌∙◌, ◌∷◌, ◌≡◌, ◌≤◌, Body, Bool, Core, CoreRange, List, None, Ok, Option, Row, Some, Superblock, [], ap, arith, body_of_row, chain_of, content_of, core_in, core_with, drop, joined_pages, length, name_by_row, name_said, node_by_row, refl, slot_of, suc, sym, tabulated, tabulated-length, take, zero, ℕ}
 use Rattle.std.proofs.Common.{Err}
 use Rattle.trio_page.specs.Field.{number_at}
 use Rattle.std.proofs.lemmas.List.{drop_all}
 use Rattle.std.specs.Option.{option_map_or}
 use Rattle.trio_rights.specs.declared.kind.Kind.{Kind}
-use Rattle.trio_layout.specs.Body.{block_count, body_of, body_bytes}
+use Rattle.trio_layout.specs.Body.{block_count, body_of, body_bytes, guard_in}
 use Rattle.trio_layout.specs.Chain.{Chain, index_count}
 use Rattle.trio_layout.specs.Core.{Location, page_of}
 use Rattle.trio_layout.specs.Entries.{body_in_slot, slot_bytes}
@@ -83,6 +83,6 @@ body-at_row core n r slot body is e =
     e ∙ ap (λ (b : List ℕ). if n == 1 then core.root else b) (ap (drop 192) is ∙ drop-place core r.page r.slot)
 
 -- a node by its parts
-pub node-parts : (core : Core) (n : ℕ) (r : Row) (name bytes : List ℕ) → name ≡ name_by_row core r → bytes ≡ content_of core r.kind (body_of_row core n r)
-    → record { parent = r.parent; name = name; kind = r.kind; mode = r.mode; uid = r.uid; gid = r.gid; bytes = bytes } ≡ node_by_row core n r
-node-parts core n r name bytes a b = rw (a, b) refl
+pub node-parts : (core : Core) (n : ℕ) (r : Row) (name bytes : List ℕ) (guarded : Bool) → name ≡ name_by_row core r → guarded ≡ guard_in (body_of_row core n r) → bytes ≡ content_of core r.kind (body_of_row core n r)
+    → record { parent = r.parent; name = name; kind = r.kind; mode = r.mode; uid = r.uid; gid = r.gid; guard = guarded; bytes = bytes } ≡ node_by_row core n r
+node-parts core n r name bytes guarded a g b = rw (a, g, b) refl

@@ -11,10 +11,10 @@ pub length-pages_in : (n : ℕ) (bytes : List ℕ) → length (pages_in n bytes)
 length-pages_in zero bytes = refl
 length-pages_in (suc n) bytes = ap suc (length-pages_in n (drop 4096 bytes))
 
-front_of : (n : ℕ) (xs ys : List ℕ) → length xs ≡ n → take n (xs ++ ys) ≡ xs
+pub front_of : (n : ℕ) (xs ys : List ℕ) → length xs ≡ n → take n (xs ++ ys) ≡ xs
 front_of n xs ys len = ap (λ (k : ℕ). take k (xs ++ ys)) (sym len) ∙ take-append_seam xs ys
 
-back_of : (n : ℕ) (xs ys : List ℕ) → length xs ≡ n → drop n (xs ++ ys) ≡ ys
+pub back_of : (n : ℕ) (xs ys : List ℕ) → length xs ≡ n → drop n (xs ++ ys) ≡ ys
 back_of n xs ys len = ap (λ (k : ℕ). drop k (xs ++ ys)) (sym len) ∙ drop-append_seam xs ys
 
 -- ---- whole pages

@@ -3,7 +3,7 @@ use Rattle.trio_image.proofs.Words.{◌*◌, ◌++◌, ◌+◌, ◌-◌, ◌<◌
 use Rattle.std.proofs.Common.{◌==◌, IsTrue}
 use Rattle.trio_page.proofs.Fields.{length-slice}
 use Rattle.trio_tables.specs.Stored.{page_at}
-use Rattle.trio_layout.specs.Superblock.{page_count, superblock_bytes}
+use Rattle.trio_layout.specs.Superblock.{page_count, superblock_bytes, superblock_bytes_of}
 use Rattle.trio_image.specs.Front.{front_pages, owner_pages, shadow_pages}
 
 -- each element of a table by number passes a test
@@ -14,7 +14,7 @@ tabulated-all p f (suc n) h =
     ∙ rw (tabulated-all p f n (λ k lt. h k (omega arith)), h n (omega arith)) refl
 
 length-superblock : (s : Superblock) → length s.root ≡ 64 → length (superblock_bytes s) ≡ 4096
-unfolding superblock_bytes
+unfolding superblock_bytes_of
 length-superblock s root = simp (length-append, length-zeros) (omega (arith, root))
 
 length-page : (k : ℕ) (bytes : List ℕ) → 4096 * k + 4096 ≤ length bytes → length (page_at k bytes) ≡ 4096

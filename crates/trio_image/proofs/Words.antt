@@ -17,7 +17,7 @@ pub use Rattle.trio_layout.specs.Body.{body_at}
 pub use Rattle.trio_layout.specs.Chain.{chain_of}
 pub use Rattle.trio_layout.specs.Core.{Core}
 pub use Rattle.trio_layout.specs.Slot.{slot_of}
-pub use Rattle.trio_layout.specs.Superblock.{IsSuperblock, superblock_fits}
+pub use Rattle.trio_layout.specs.Superblock.{IsSuperblock, IsSuperblockOf, current_version, superblock_fits}
 pub use Rattle.trio_layout.specs.declared.body.Body.{Body}
 pub use Rattle.trio_layout.specs.declared.range.CoreRange.{CoreRange}
 pub use Rattle.trio_layout.specs.declared.superblock.Superblock.{Superblock}
@@ -27,17 +27,19 @@ pub use Rattle.trio_page.proofs.Cursor.{length-zeros}
 pub use Rattle.trio_page.specs.Field.{zeros}
 pub use Rattle.trio_rights.specs.Row.{Row, row_in}
 pub use Rattle.trio_state.specs.ImageNodes.{body_of_row, content_of, joined_pages, name_by_row, name_said, node_by_row, note_by_row}
+pub use Rattle.trio_survey.specs.OldVersion.{old_version}
 pub use Rattle.trio_survey.specs.Seen.{core_with}
 pub use Rattle.trio_survey.specs.Stored.{BytesVerify, HasPage, HasSuperblock, PagesVerify, StoresTables, bytes_in, core_in, image_in, pages_in}
 pub use Rattle.trio_tables.specs.Row.{as_row}
 pub use Rattle.trio_tables.specs.Stored.{owner_bytes, padded_to_pages, shadow_bytes}
 pub use Rattle.trio_image.specs.Counts.{counts_of, owned_count}
-pub use Rattle.trio_image.specs.Fault.{HasLength, IsBadSuper, IsPagesFault}
+pub use Rattle.trio_image.specs.Fault.{HasLength, HasLengthOf, IsBadSuper, IsBadSuperOf, IsOfOther, IsOutside, IsPagesFault}
 pub use Rattle.trio_image.specs.Front.{FillsPages, owner_count, shadow_count, table_pages}
-pub use Rattle.trio_image.specs.Image.{ImagePages, IsVerified, IsWholeImage, TablesAre, is_whole_page}
+pub use Rattle.trio_image.specs.Image.{ImagePages, IsVerified, IsWholeImage, IsWholeImageOf, TablesAre, is_whole_page}
 pub use Rattle.trio_image.specs.Load.{LoadFails}
 pub use Rattle.trio_image.specs.Made.{IsMade, new_counts}
 pub use Rattle.trio_image.specs.declared.fault.LoadFault.{LoadFault}
-pub use Rattle.trio_image.specs.declared.fault.LoadFault.TheVariants.{BadSuper, Fails, Length, NoMemory, ReadFault, TooLong}
+pub use Rattle.trio_image.specs.declared.fault.LoadFault.TheVariants.{BadSuper, Fails, Length, NoMemory, OldVersion, ReadFault, TooLong}
 pub use Rattle.trio_image.specs.inner.NewTables.{zero_pages}
-pub use Rattle.trio_image.specs.inner.Reading.{AreFilePages, IsFileOf, IsFirstPageFault, IsPartOf}
+pub use Rattle.trio_image.specs.inner.Reading.{IsPartOf}
+pub use Rattle.trio_image.specs.Reading.{AreFilePages, IsFileOf, IsFirstPageFault}

@@ -1,5 +1,6 @@
 pub mod Image
 pub mod Fault
+pub mod Reading
 pub mod Load
 pub mod Save
 pub mod Counts

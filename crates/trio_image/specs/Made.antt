@@ -1,5 +1,5 @@
 -- A new image, whose one file is an empty root.
-use Rattle.std.specs.Prelude.{◌≡◌, ℕ, ◌+◌, ◌-◌, ◌*◌, ◌<◌, ◌≤◌, List, [], ◌∷◌, Option}
+use Rattle.std.specs.Prelude.{◌≡◌, ℕ, ◌+◌, ◌-◌, ◌*◌, ◌<◌, ◌≤◌, false, List, [], ◌∷◌, Option}
 use Rattle.trio_page.specs.Field.{zeros}
 use Rattle.trio_layout.specs.declared.body.Body.{Body}
 use Rattle.trio_layout.specs.declared.superblock.Superblock.{Superblock}
@@ -12,7 +12,7 @@ use Rattle.trio_image.specs.declared.counts.Counts.{Counts}
 
 -- an empty directory of mode 0o755, which is 493, uid 0 and gid 0
 abbrev pub empty_directory : Body
-empty_directory = record { mode = record { 0 = 493 }; uid = 0; gid = 0; head = 0; size = 0 }
+empty_directory = record { mode = record { 0 = 493 }; uid = 0; gid = 0; head = 0; size = 0; guard = false }
 
 -- the superblock of so many pages and inode numbers, with an empty root
 abbrev pub new_superblock : ℕ → ℕ → Superblock

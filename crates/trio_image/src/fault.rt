@@ -12,7 +12,10 @@ pub enum LoadFault {
     TooLong,
     /// The count of bytes, which is under 4096 or isn't the superblock's pages times 4096.
     Length(u64),
-    /// There is a page at least, and the first one is no superblock.
+    /// There is a page at least, and the first one is a superblock of the other version: of version 1 where
+    /// today's is asked for.
+    OldVersion,
+    /// There is a page at least, and the first one is a superblock of no version.
     BadSuper,
     /// The lowest rule that fails, and a file and place at which it does, as in
     /// [`SurveyFault::Fails`].

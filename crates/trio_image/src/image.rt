@@ -108,7 +108,7 @@ impl Image {
         counts_in(&self.parts.rows, &self.parts.owners)
     }
 
-    /// The files of the image as nodes, with the bytes of regular files. The image stays as it was.
+    /// The files of the image as nodes, with the bytes of regular files and links. The image stays as it was.
     /// `NoMemory`: there was no memory for the nodes.
     pub fn nodes(&mut self, alloc: Global) -> Result<Nodes, NoMemory>
         ensures nodes { IfOk result (λ nodes. nodes ≡ nodes_of (image_in self.old.superblock self.old.pages)) }
@@ -122,7 +122,7 @@ impl Image {
         )
     }
 
-    /// The name and the size of each live file by inode number, from 0 on, which is no file's. Of each
+    /// The name, the size and the guard of each live file by inode number, from 0 on, which is no file's. Of each
     /// file its slot alone is looked at, and none of its pages. The image stays as it was.
     /// `NoMemory`: there was no memory for the list.
     pub fn notes(&mut self, alloc: Global) -> Result<Vec<Option<Note>>, NoMemory>

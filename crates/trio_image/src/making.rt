@@ -109,6 +109,7 @@ fn new_superblock(pages: u32, inodes: u32) -> Superblock
         gid: 0,
         head: 0,
         size: 0,
+        guard: false,
     };
     let mut root = [0; 64];
     body.write(&mut root);

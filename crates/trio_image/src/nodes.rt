@@ -2,10 +2,9 @@
 
 ghost use Rattle.std.specs.Prelude.{◌≡◌, ◌==◌, ◌++◌, ◌∷◌, [], drop, length, unwrap_or, if◌then◌else◌, IfOk, IfSome, OnOk, Some};
 ghost use Rattle.std.specs.Option.{option_map};
-ghost use Rattle.trio_rights.specs.declared.kind.Kind.TheVariants.{Regular};
 ghost use Rattle.trio_rights.specs.Row.{row_in};
 ghost use Rattle.trio_tables.specs.Row.{as_row};
-ghost use Rattle.trio_layout.specs.Body.{body_of};
+ghost use Rattle.trio_layout.specs.Body.{body_of, guard_in};
 ghost use Rattle.trio_layout.specs.Core.{page_of};
 ghost use Rattle.trio_layout.specs.Entries.{slot_bytes};
 ghost use Rattle.trio_layout.specs.Slot.{slot_of};
@@ -77,6 +76,7 @@ fn node_of(
         mode: row.mode,
         uid: row.uid,
         gid: row.gid,
+        guard: guard_in(&body),
         bytes: content(alloc, home, superblock, row.kind, &body)?,
     })
 }
@@ -153,6 +153,16 @@ fn body_in(bytes: &[u8; 256]) -> [u8; 64]
     body
 }
 
+/// Whether a body says that its file is guarded.
+pub(crate) fn guard_in(body: &Option<[u8; 64]>) -> bool
+    ensures { result ≡ guard_in (unwrap_or body.now []) }
+{
+    match body {
+        Some(bytes) => bytes[24] == 1,
+        None => false,
+    }
+}
+
 /// The bytes of a file with this body. The blocks of a directory aren't looked at.
 fn content(
     alloc: Global,
@@ -164,21 +174,21 @@ fn content(
     ensures pages { home.new.pages ≡ home.old.pages }
     ensures content { IfOk result (λ bytes. bytes ≡ content_of (core_in superblock.now home.old.pages) kind (unwrap_or body.now [])) }
 {
-    match kind {
-        Kind::Directory => Ok(Bytes::new(alloc)),
-        Kind::Regular => match body_read(superblock, body) {
-            Some(body) => body_content(alloc, home, superblock, &body),
-            None => Ok(Bytes::new(alloc)),
-        },
+    if kind.is_directory() {
+        return Ok(Bytes::new(alloc));
+    }
+    match body_read(superblock, kind, body) {
+        Some(body) => body_content(alloc, home, superblock, &body),
+        None => Ok(Bytes::new(alloc)),
     }
 }
 
-/// The body of a regular file, where these bytes are one.
-fn body_read(superblock: &Superblock, bytes: &Option<[u8; 64]>) -> Option<Body>
-    ensures { result ≡ body_of Regular (record { first = superblock.now.first_core; end = superblock.now.pages }) (unwrap_or bytes.now []) }
+/// The body of a file of this kind, where these bytes are one.
+fn body_read(superblock: &Superblock, kind: Kind, bytes: &Option<[u8; 64]>) -> Option<Body>
+    ensures { result ≡ body_of kind (record { first = superblock.now.first_core; end = superblock.now.pages }) (unwrap_or bytes.now []) }
 {
     match bytes {
-        Some(bytes) => Body::read(bytes, Kind::Regular, core_range(superblock)),
+        Some(bytes) => Body::read(bytes, kind, core_range(superblock)),
         None => None,
     }
 }

@@ -1,4 +1,4 @@
-//! What is noted of an image's live files: their names and sizes.
+//! What is noted of an image's live files: their names, sizes and guards.
 
 ghost use Rattle.std.specs.Prelude.{◌≡◌, [], unwrap_or, IfOk};
 ghost use Rattle.std.specs.Option.{option_map};
@@ -8,7 +8,7 @@ ghost use Rattle.trio_layout.specs.Body.{body_at};
 ghost use Rattle.trio_survey.specs.Stored.{core_in};
 ghost use Rattle.trio_state.specs.ImageNodes.{note_by_row, notes_by_rows};
 
-use crate::nodes::{body_at, core_range, name_in, slot_at};
+use crate::nodes::{body_at, core_range, guard_in, name_in, slot_at};
 use std::alloc::Global;
 use trio_layout::Superblock;
 use trio_nodes::Note;
@@ -53,6 +53,7 @@ fn note_of(home: &mut Home, superblock: &Superblock, ino: u32, row: &Row) -> Not
     Note {
         name: name_in(&slot, superblock.inodes),
         size: size_in(&body),
+        guard: guard_in(&body),
     }
 }
 

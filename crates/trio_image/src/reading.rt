@@ -3,7 +3,8 @@
 ghost use Rattle.std.specs.Prelude.{◌≡◌, ◌+◌, ◌<◌, ◌≤◌, Contains, IfErr, IfOk, None, length, slice_index_or};
 ghost use Rattle.std.specs.Option.{option_copied};
 ghost use Rattle.trio_io.specs.Shelf.{OnlyReads};
-ghost use Rattle.trio_image.specs.inner.Reading.{IsFileOf, IsPartOf, StopsReading};
+ghost use Rattle.trio_image.specs.Reading.{IsFileOf, StopsReading};
+ghost use Rattle.trio_image.specs.inner.Reading.{IsPartOf};
 
 use crate::fault::LoadFault;
 use std::alloc::Global;
@@ -13,9 +14,9 @@ use trio_page::{PAGE_SIZE, Page};
 /// The most pages that an image may have.
 const MAX_PAGES: usize = 8192;
 
-/// A file of at most [`MAX_PAGES`] pages.
+/// A file of at most 8192 pages.
 #[derive(Drop)]
-pub(crate) struct FilePages {
+pub struct FilePages {
     /// The pages that the file fills, from its front on. What follows them isn't kept.
     pub whole: Vec<Option<Page>>,
     /// How many bytes the file has.
@@ -40,12 +41,11 @@ struct FilePart {
     count: usize,
 }
 
-/// Reads a file into pages, until its end or one byte past [`MAX_PAGES`] pages.
-pub(crate) fn read_file<F: Files>(
-    alloc: Global,
-    files: &mut F,
-    name: &str,
-) -> Result<FilePages, LoadFault>
+/// Reads a file into pages, until its end or one byte past 8192 pages.
+///
+/// [`LoadFault::ReadFault`]: a read failed. [`LoadFault::TooLong`]: the file has more bytes.
+/// [`LoadFault::NoMemory`]: there was no memory for the pages. No other fault comes.
+pub fn read_file<F: Files>(alloc: Global, files: &mut F, name: &str) -> Result<FilePages, LoadFault>
     requires { Contains (F.seen files.old).served name.now }
     ensures file { IfOk result (λ read. IsFileOf ((F.seen files.old).held name.now) read.whole.items read.count) }
     ensures fault { IfErr result (StopsReading name.now (F.seen files.old) (F.seen files.new)) }

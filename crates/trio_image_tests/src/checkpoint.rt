@@ -2,6 +2,7 @@ ghost use Rattle.std.specs.Prelude.{◌≡◌, IfSome, IsOk, IsTrue, length};
 ghost use Rattle.std.specs.Result.{ForOk};
 ghost use Rattle.trio_lists.specs.Marked.{all_below};
 ghost use Rattle.trio_rights.specs.Sheets.{sheet_numbers};
+ghost use Rattle.trio_layout.specs.Body.{guard_in};
 ghost use Rattle.trio_checkpoint.specs.Covered.{are_there, chain_in, core_of, covered_numbers, covered_pages};
 
 use crate::homes::{home_with, put_both};
@@ -13,7 +14,7 @@ use trio_rights::{Kind, Mode};
 
 const RANGE: CoreRange = CoreRange { first: 3, end: 6 };
 
-fn body_bytes() -> [u8; 64] {
+fn body_bytes(guard: bool) -> [u8; 64] {
     let mut bytes = [0; 64];
     let body = Body {
         mode: Mode(0o755),
@@ -21,6 +22,7 @@ fn body_bytes() -> [u8; 64] {
         gid: 0,
         head: 3,
         size: 4096,
+        guard,
     };
     body.write(&mut bytes);
     bytes
@@ -47,7 +49,7 @@ fn home_of(alloc: Global) -> Option<Home> {
 fn has_one_block(home: &mut Home, kind: Kind, body: &[u8; 64], reads: &mut Reads) -> bool
     ensures chain { IsTrue result → IsOk (chain_in (core_of home.old.pages RANGE) kind body.now) }
     ensures blocks { IsTrue result → ForOk (chain_in (core_of home.old.pages RANGE) kind body.now)
-        (λ chain. IsTrue (are_there (core_of home.old.pages RANGE) (covered_numbers kind chain.blocks))) }
+        (λ chain. IsTrue (are_there (core_of home.old.pages RANGE) (covered_numbers kind (guard_in body.now) chain.blocks))) }
     ensures home { home.new.pages ≡ home.old.pages }
 {
     let Some(read) = Body::read(body, kind, RANGE) else {
@@ -66,12 +68,12 @@ fn has_one_block(home: &mut Home, kind: Kind, body: &[u8; 64], reads: &mut Reads
     RANGE.has(u64::from(block)) && home.page(PageNo(block), reads).is_some()
 }
 
-fn taken(alloc: Global, home: &mut Home, kind: Kind) -> Option<Checkpoint>
+fn taken(alloc: Global, home: &mut Home, kind: Kind, guard: bool) -> Option<Checkpoint>
     ensures within { IfSome result (λ c. IsTrue (all_below (length home.old.pages) (sheet_numbers (covered_pages c)))) }
     ensures home { home.new.pages ≡ home.old.pages }
 {
     let mut reads = Reads::new();
-    let body = body_bytes();
+    let body = body_bytes(guard);
     if !has_one_block(home, kind, &body, &mut reads) {
         return None;
     }
@@ -129,7 +131,7 @@ const RETURNED: &[(u32, usize, u64)] = &[
 
 fn directory_returns(alloc: Global) -> Option<bool> {
     let mut home = home_of(alloc)?;
-    let mut checkpoint = taken(alloc, &mut home, Kind::Directory)?;
+    let mut checkpoint = taken(alloc, &mut home, Kind::Directory, false)?;
     let others = (
         checkpoint.body_at(PageNo(3), 2),
         checkpoint.body_at(PageNo(5), 2),
@@ -141,7 +143,7 @@ fn directory_returns(alloc: Global) -> Option<bool> {
     checkpoint.put_body(PageNo(4), 2, &[5; 64]);
     let is_put = has_body(&checkpoint);
     let is_over = overwrite(alloc, &mut home)?;
-    let is_back = checkpoint.restored(&mut home) == body_bytes();
+    let is_back = checkpoint.restored(&mut home) == body_bytes(false);
     Some(is_taken && is_put && is_over && is_back && has(&mut home, RETURNED))
 }
 
@@ -150,21 +152,30 @@ fn directory_returns_with_the_body_put_meanwhile(rt: HostRuntime) {
     assert!(rt; directory_returns(rt.alloc()) == Some(true));
 }
 
-fn regular_file_returns(alloc: Global) -> Option<bool> {
+// What a file's checkpoint brings back: of its block, the bytes that were there, where these are covered.
+fn file_returns(alloc: Global, kind: Kind, guard: bool, block: u64) -> Option<bool> {
     let mut home = home_of(alloc)?;
-    let checkpoint = taken(alloc, &mut home, Kind::Regular)?;
-    let is_taken = covers(&checkpoint, None);
+    let checkpoint = taken(alloc, &mut home, kind, guard)?;
+    let covered = if guard { Some(&[9; 64]) } else { None };
+    let is_taken = covers(&checkpoint, covered);
     let is_over = overwrite(alloc, &mut home)?;
-    let is_back = checkpoint.restored(&mut home) == body_bytes();
-    Some(
-        is_taken
-            && is_over
-            && is_back
-            && has(&mut home, &[(3, 0, 4), (4, 0, 0x0101_0101_0101_0101)]),
-    )
+    let is_back = checkpoint.restored(&mut home) == body_bytes(guard);
+    Some(is_taken && is_over && is_back && has(&mut home, &[(3, 0, 4), (4, 0, block)]))
 }
 
+// a kind, the guard, and what the block begins with after the rollback
+const FILES: &[(Kind, bool, u64)] = &[
+    (Kind::Regular, false, 0x0101_0101_0101_0101),
+    (Kind::Regular, true, 0x0909_0909_0909_0909),
+    (Kind::Link, false, 0x0101_0101_0101_0101),
+];
+
 #[test]
-fn block_of_a_regular_file_stays_as_written(rt: HostRuntime) {
-    assert!(rt; regular_file_returns(rt.alloc()) == Some(true));
+fn block_of_a_file_returns_where_it_is_guarded(rt: HostRuntime) {
+    for (i, (kind, guard, block)) in FILES.iter().enumerate() {
+        assert!(rt;
+            file_returns(rt.alloc(), *kind, *guard, *block) == Some(true),
+            "row {i}"
+        );
+    }
 }

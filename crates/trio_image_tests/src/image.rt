@@ -8,8 +8,8 @@ use trio_io::{Failed, FailingCalls, Files, MemFiles, SureFiles};
 use trio_names::Path;
 use trio_page::NoMemory;
 use trio_rights::Kind;
-use trio_samples::Sample;
 use trio_samples::files::{root, three_files};
+use trio_samples::{Sample, link, regular};
 
 // An image with an empty root: page 1 has the rows, page 2 the owners, and the core begins at page 3.
 fn image_bytes(alloc: Global) -> Option<Vec<u8>> {
@@ -69,12 +69,17 @@ fn an_image_is_read_and_told(rt: HostRuntime) {
     assert!(rt; is_taken_apart(rt.alloc()) == Some(true));
 }
 
-// an owner of a page that no file uses, a size without a block, and a magic that is none
+// an owner of a page that no file uses, a size without a block, a magic that is none, and other
+// versions
 const OWNER: (usize, u8) = (8204, 2);
 
 const SIZE: (usize, u8) = (56, 1);
 
 const MAGIC: (usize, u8) = (0, b'B');
+
+const VERSION_1: (usize, u8) = (8, 1);
+
+const VERSION_3: (usize, u8) = (8, 3);
 
 // How many bytes there are, zeros behind the image's own, which of them are others, and why they are
 // no image.
@@ -108,6 +113,12 @@ const LOADS: &[(usize, &[(usize, u8)], Option<LoadFault>)] = &[
     (131_072, &[MAGIC], Some(LoadFault::BadSuper)),
     (131_071, &[MAGIC], Some(LoadFault::BadSuper)),
     (4095, &[MAGIC], Some(LoadFault::Length(4095))),
+    (131_072, &[VERSION_1], Some(LoadFault::OldVersion)),
+    (131_071, &[VERSION_1], Some(LoadFault::OldVersion)),
+    (4095, &[VERSION_1], Some(LoadFault::Length(4095))),
+    (131_072, &[VERSION_1, OWNER], Some(LoadFault::OldVersion)),
+    (131_072, &[VERSION_3], Some(LoadFault::BadSuper)),
+    (131_072, &[VERSION_1, MAGIC], Some(LoadFault::BadSuper)),
 ];
 
 fn fault(alloc: Global, count: usize, edits: &[(usize, u8)]) -> Option<Option<LoadFault>> {
@@ -146,9 +157,30 @@ fn nodes_are_told(alloc: Global) -> Option<bool> {
     Some(is_found && is_read && is_named && names.len() == 1)
 }
 
+// A link has its text, and a guarded file says so.
+fn links_are_told(alloc: Global) -> Option<bool> {
+    let files = [
+        root(),
+        link(2, 1, b"l", b"/a/f"),
+        regular(3, 1, b"g", b"hello").guarded(),
+    ];
+    let bytes = Sample::small(alloc, &files).ok()?.bytes(alloc).ok()?;
+    let mut image = image_of(alloc, &bytes)?;
+    let nodes = image.nodes(alloc).ok()?;
+    let (text, guarded) = (nodes.get(2)?, nodes.get(3)?);
+    let is_link = text.kind == Kind::Link && text.bytes.as_slice() == b"/a/f".as_slice();
+    let notes = image.notes(alloc).ok()?;
+    let is_noted = match (notes.get(2)?, notes.get(3)?) {
+        (Some(text), Some(guarded)) => !text.guard && guarded.guard && text.size == 4,
+        _ => false,
+    };
+    Some(is_link && is_noted && !text.guard && guarded.guard)
+}
+
 #[test]
 fn files_are_nodes(rt: HostRuntime) {
     assert!(rt; nodes_are_told(rt.alloc()) == Some(true));
+    assert!(rt; links_are_told(rt.alloc()) == Some(true));
 }
 
 // Files in memory, of which this call fails.

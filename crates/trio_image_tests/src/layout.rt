@@ -21,6 +21,7 @@ const READ_BODY: Body = Body {
     gid: 5,
     head: 7,
     size: 4097,
+    guard: false,
 };
 
 #[test]
@@ -48,6 +49,39 @@ const BODIES: &[(&[(usize, u8)], bool, bool)] = &[
     (&[(16, 0), (17, 0)], false, false),
     (&[(16, 0), (17, 0), (12, 0)], true, true),
 ];
+
+/// A kind, the byte of the guard and a size, and whether a body of these is read.
+const KINDS: &[(Kind, u8, u64, bool)] = &[
+    (Kind::Regular, 0, 4097, true),
+    (Kind::Regular, 1, 4097, true),
+    (Kind::Regular, 2, 4097, false),
+    (Kind::Directory, 0, 4096, true),
+    (Kind::Directory, 1, 4096, false),
+    (Kind::Link, 0, 1, true),
+    (Kind::Link, 0, 4096, true),
+    (Kind::Link, 0, 4097, false),
+    (Kind::Link, 1, 4096, false),
+];
+
+fn kind_read(kind: Kind, guard: u8, size: u64) -> Option<bool> {
+    let mut bytes = BODY;
+    let [low, high, ..] = size.to_le_bytes();
+    change(&mut bytes, &[(16, low), (17, high), (24, guard)]);
+    let body = Body::read(&bytes, kind, RANGE)?;
+    Some(body.guard)
+}
+
+#[test]
+fn bodies_by_kind(rt: HostRuntime) {
+    for (i, (kind, guard, size, is_read)) in KINDS.iter().enumerate() {
+        let wanted = if *is_read { Some(*guard == 1) } else { None };
+        assert!(rt; kind_read(*kind, *guard, *size) == wanted, "row {i}");
+    }
+    // a link has a block
+    let mut bytes = BODY;
+    change(&mut bytes, &[(16, 0), (17, 0), (12, 0)]);
+    assert!(rt; Body::read(&bytes, Kind::Link, RANGE).is_none());
+}
 
 /// Puts bytes at their places, where there are such.
 fn change(bytes: &mut [u8], changes: &[(usize, u8)]) {
@@ -106,7 +140,8 @@ const SLOTS: &[(usize, u8, u8)] = &[
     (0, 16, 1),
     (0, 17, 2),
     (3, 1, 2),
-    (4, 3, 2),
+    (4, 3, 1),
+    (4, 4, 2),
     (5, 0, 2),
     (5, 185, 2),
     (6, 1, 2),
@@ -179,7 +214,7 @@ fn index_page_is_read(rt: HostRuntime) {
 
 /// 512 pages, 128 inode numbers: one shadow page, one owner page, the first core page is 3.
 const SUPERBLOCK: [u8; 41] = [
-    b'A', b'R', b'C', b'K', b'T', b'R', b'I', b'O', 1, 0, 0, 0, 0, 0x10, 0, 0, 0, 2, 0, 0, 128, 0,
+    b'A', b'R', b'C', b'K', b'T', b'R', b'I', b'O', 2, 0, 0, 0, 0, 0x10, 0, 0, 0, 2, 0, 0, 128, 0,
     0, 0, 1, 0, 0, 0, 2, 0, 0, 0, 3, 0, 0, 0, 1, 0, 0, 0, 0xed,
 ];
 
@@ -213,7 +248,8 @@ fn superblock_is_read_and_written(rt: HostRuntime) {
 /// One byte of the superblock changed, by place and value: none is read any more.
 const SUPERBLOCKS: &[(usize, u8)] = &[
     (0, b'B'),
-    (8, 2),
+    (8, 1),
+    (8, 3),
     (13, 0x20),
     (17, 33),
     (20, 15),
@@ -227,6 +263,31 @@ fn is_refused(alloc: Global, at: usize, value: u8) -> Option<bool> {
     let mut page = superblock_page(alloc)?;
     change(page.bytes_mut(), &[(at, value)]);
     Some(Superblock::read(&page).is_none())
+}
+
+// a version in its field, and one that is asked for: whether a superblock is read
+const VERSIONS: &[(u8, u32, bool)] = &[
+    (1, 1, true),
+    (1, 2, false),
+    (2, 1, false),
+    (2, 2, true),
+    (3, 1, false),
+];
+
+fn is_of_version(alloc: Global, field: u8, version: u32) -> Option<bool> {
+    let mut page = superblock_page(alloc)?;
+    change(page.bytes_mut(), &[(8, field)]);
+    Some(Superblock::read_version(&page, version).is_some())
+}
+
+#[test]
+fn superblocks_of_versions(rt: HostRuntime) {
+    for (field, version, wanted) in VERSIONS {
+        assert!(rt;
+            is_of_version(rt.alloc(), *field, *version) == Some(*wanted),
+            "{field} {version}"
+        );
+    }
 }
 
 #[test]

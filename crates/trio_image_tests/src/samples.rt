@@ -7,7 +7,7 @@ use trio_samples::{Sample, put};
 /// Where the image isn't zero.
 const PARTS: &[(usize, &[u8])] = &[
     (0, b"ARCKTRIO"),
-    (8, b"\x01\0\0\0\0\x10\0\0\x20\0\0\0\x40"),
+    (8, b"\x02\0\0\0\0\x10\0\0\x20\0\0\0\x40"),
     (24, b"\x01\0\0\0\x02\0\0\0\x03\0\0\0\x01"),
     // the root's body: mode 755, first index page 3, size 4096
     (40, b"\xed\x01"),

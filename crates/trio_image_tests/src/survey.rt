@@ -8,10 +8,10 @@ use std::alloc::Global;
 use trio_layout::{Body, CoreRange, Superblock};
 use trio_page::{Home, Page, PageNo, Reads};
 use trio_rights::{Kind, Mode};
-use trio_samples::Sample;
 use trio_samples::files::{large_tree, one_file, root, six_directories, three_files};
+use trio_samples::{Sample, SampleFile, link, regular};
 use trio_survey::file::{MetFile, read_file};
-use trio_survey::{Found, Picks, SurveyFault, survey, survey_picked, verify};
+use trio_survey::{Found, Picks, SurveyFault, survey, survey_picked, verify, verify_old};
 use trio_tables::{CONTROLLER, Owners, Row};
 
 /// What `verify` answers, and how often it looked at a page.
@@ -29,6 +29,8 @@ enum Files {
     OneFile,
     ThreeFiles,
     SixDirectories,
+    /// A link `l` of four bytes, with pages 5 and 6, and a guarded file `g` of five, with pages 7 and 8.
+    Links,
 }
 
 /// The image, the page, the offset and the bytes written there, and the rule, file, page and slot
@@ -51,6 +53,17 @@ const DAMAGED: &[Damaged] = &[
     (Files::OneFile, (4, 192 + 18, &[2]), (1, 2, 0, 0)),
     (Files::SixDirectories, (8, 192 + 17, &[16]), (1, 5, 0, 0)),
     (Files::OnlyRoot, (0, 40 + 17, &[16]), (1, 1, 0, 0)),
+    // the guard: of a regular file, of a directory, of the root, and a byte that says none
+    (Files::OneFile, (4, 192 + 24, &[1]), (0, 0, 0, 0)),
+    (Files::ThreeFiles, (4, 192 + 24, &[1]), (1, 2, 0, 0)),
+    (Files::OnlyRoot, (0, 40 + 24, &[1]), (1, 1, 0, 0)),
+    (Files::OneFile, (4, 192 + 24, &[2]), (1, 2, 0, 0)),
+    // a link: whole, of no bytes, of a block and a byte, guarded, with another text
+    (Files::Links, (0, 0, b""), (0, 0, 0, 0)),
+    (Files::Links, (4, 192 + 16, &[0]), (1, 2, 0, 0)),
+    (Files::Links, (4, 192 + 17, &[16]), (1, 2, 0, 0)),
+    (Files::Links, (4, 192 + 24, &[1]), (1, 2, 0, 0)),
+    (Files::Links, (6, 0, b"\0b/c"), (0, 0, 0, 0)),
     // an index page: a page out of the core, a number behind the last, a further link
     (Files::OneFile, (5, 0, &[2]), (1, 2, 5, 0)),
     (Files::OneFile, (5, 0, &[32]), (1, 2, 5, 0)),
@@ -61,7 +74,7 @@ const DAMAGED: &[Damaged] = &[
     (Files::OneFile, (4, 192 + 16, &[0, 16, 0x20]), (1, 2, 0, 0)),
     // a slot: number, kind, length, zeros and name
     (Files::OneFile, (4, 0, &[65]), (1, 1, 4, 0)),
-    (Files::OneFile, (4, 4, &[3]), (1, 1, 4, 0)),
+    (Files::OneFile, (4, 4, &[4]), (1, 1, 4, 0)),
     (Files::ThreeFiles, (6, 5, &[0]), (1, 2, 6, 0)),
     (Files::ThreeFiles, (6, 6, &[1]), (1, 2, 6, 0)),
     (Files::SixDirectories, (8, 8, b"/"), (1, 4, 8, 0)),
@@ -94,6 +107,8 @@ const DAMAGED: &[Damaged] = &[
     (Files::ThreeFiles, (7, 0, &[5]), (2, 3, 5, 0)),
     (Files::OneFile, (5, 0, &[5]), (2, 2, 5, 0)),
     (Files::SixDirectories, (10, 192 + 12, &[7]), (2, 6, 7, 0)),
+    // a kind that isn't the row's
+    (Files::OneFile, (4, 4, &[3]), (5, 2, 0, 0)),
     // rows: state, kind, mode, uid, parent, page, slot, one that isn't live, and behind the last
     (Files::OneFile, (1, 0, &[0]), (5, 1, 0, 0)),
     (Files::OneFile, (1, 33, &[2]), (5, 2, 0, 0)),
@@ -116,8 +131,17 @@ fn sample(alloc: Global, files: Files) -> Option<Sample> {
         Files::OneFile => Sample::small(alloc, &one_file()),
         Files::ThreeFiles => Sample::small(alloc, &three_files()),
         Files::SixDirectories => Sample::small(alloc, &six_directories()),
+        Files::Links => Sample::small(alloc, &links()),
     };
     made.ok()
+}
+
+fn links<'a>() -> [SampleFile<'a>; 3] {
+    [
+        root(),
+        link(2, 1, b"l", b"/a/f"),
+        regular(3, 1, b"g", b"hello").guarded(),
+    ]
 }
 
 /// What `verify` answers of a damaged image.
@@ -149,6 +173,59 @@ fn damaged_images(rt: HostRuntime) {
     for (i, (files, damage, wanted)) in DAMAGED.iter().enumerate() {
         assert!(rt;
             damaged(rt.alloc(), *files, *damage) == Some(answer(*wanted)),
+            "row {i}"
+        );
+    }
+}
+
+/// Images that are read by version 1, as those above.
+const OLD: &[Damaged] = &[
+    // nothing new
+    (Files::OneFile, (0, 0, b""), (0, 0, 0, 0)),
+    (Files::SixDirectories, (0, 0, b""), (0, 0, 0, 0)),
+    // what version 2 doesn't take either
+    (Files::OneFile, (4, 4, &[4]), (1, 1, 4, 0)),
+    (Files::OneFile, (5, 0, &[4]), (2, 2, 4, 0)),
+    (Files::OneFile, (1, 0, &[0]), (5, 1, 0, 0)),
+    // a link, and a guarded file alone
+    (Files::Links, (0, 0, b""), (1, 1, 4, 0)),
+    (Files::Links, (4, 4, &[1]), (1, 3, 0, 0)),
+    (Files::OneFile, (4, 192 + 24, &[1]), (1, 2, 0, 0)),
+    (Files::OneFile, (4, 4, &[3]), (1, 1, 4, 0)),
+    // a link that lists a number again
+    (
+        Files::ThreeFiles,
+        (6, 256, &[2, 0, 0, 0, 3, 1, 0, 0, b'l']),
+        (1, 2, 6, 1),
+    ),
+    // a directory with a link and a bad slot
+    (
+        Files::Links,
+        (4, 512, &[9, 0, 0, 0, 4, 1, 0, 0, b'x']),
+        (1, 1, 4, 2),
+    ),
+    // a page again, by a guarded file
+    (Files::Links, (4, 256 + 192 + 12, &[5]), (1, 1, 4, 0)),
+];
+
+/// What `verify_old` answers of a damaged image.
+fn damaged_old(
+    alloc: Global,
+    files: Files,
+    (page, at, bytes): (usize, usize, &[u8]),
+) -> Option<Result<(), SurveyFault>> {
+    let mut sample = sample(alloc, files)?;
+    sample.put(page, at, bytes);
+    let mut home = sample.home(alloc).ok()?;
+    let superblock = Superblock::read(home.page(PageNo(0), &mut Reads::new())?)?;
+    Some(verify_old(alloc, &mut home, &superblock, &mut Reads::new()).map(|_| ()))
+}
+
+#[test]
+fn images_by_version_1(rt: HostRuntime) {
+    for (i, (files, damage, wanted)) in OLD.iter().enumerate() {
+        assert!(rt;
+            damaged_old(rt.alloc(), *files, *damage) == Some(answer(*wanted)),
             "row {i}"
         );
     }
@@ -337,6 +414,7 @@ fn long_body() -> [u8; 64] {
         gid: 0,
         head: 3,
         size: 511 * 4096 + 1,
+        guard: false,
     };
     body.write(&mut bytes);
     bytes

@@ -21,8 +21,8 @@ const BYTES: [u8; 32] = [
     0, 0, 0, 0, 0, 0,
 ];
 
-/// State 2, kind 3, slot 16, the last byte 1, and a free row with a uid: an offset and the byte there.
-const BAD: &[(usize, u8)] = &[(0, 2), (1, 3), (20, 16), (31, 1), (0, 0)];
+/// State 2, kind 4, slot 16, the last byte 1, and a free row with a uid: an offset and the byte there.
+const BAD: &[(usize, u8)] = &[(0, 2), (1, 4), (20, 16), (31, 1), (0, 0)];
 
 fn read_with(at: usize, byte: u8) -> RowRead {
     let mut bytes = BYTES;

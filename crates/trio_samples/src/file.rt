@@ -14,7 +14,9 @@ pub struct SampleFile<'a> {
     pub mode: Mode,
     pub uid: u32,
     pub gid: u32,
-    /// The bytes of a regular file.
+    /// Whether a regular file is guarded.
+    pub guard: bool,
+    /// The bytes of a regular file, or the text of a link.
     pub content: &'a [u8],
 }
 
@@ -28,6 +30,7 @@ pub fn directory<'a>(ino: u32, parent: u32, name: &'a [u8]) -> SampleFile<'a> {
         mode: Mode(0o755),
         uid: 0,
         gid: 0,
+        guard: false,
         content: b"",
     }
 }
@@ -42,9 +45,27 @@ pub fn regular<'a>(ino: u32, parent: u32, name: &'a [u8], content: &'a [u8]) -> 
     }
 }
 
+/// A link of mode 777, uid 0 and gid 0, of 1 to 4096 bytes.
+pub fn link<'a>(ino: u32, parent: u32, name: &'a [u8], text: &'a [u8]) -> SampleFile<'a> {
+    SampleFile {
+        kind: Kind::Link,
+        mode: Mode(0o777),
+        content: text,
+        ..directory(ino, parent, name)
+    }
+}
+
 impl<'a> SampleFile<'a> {
     /// The file with this owner and group.
     pub fn owned(self, uid: u32, gid: u32) -> SampleFile<'a> {
         SampleFile { uid, gid, ..self }
+    }
+
+    /// The file, guarded.
+    pub fn guarded(self) -> SampleFile<'a> {
+        SampleFile {
+            guard: true,
+            ..self
+        }
     }
 }

@@ -1,7 +1,7 @@
 //! Images for tests, each laid out of a list of files.
 //!
 //! - [`Sample`] is an image with its tables: its pages, its bytes or its home are had from it.
-//! - [`SampleFile`] is a file that is put into one; [`directory`] and [`regular`] make these.
+//! - [`SampleFile`] is a file that is put into one; [`directory`], [`regular`] and [`link`] make these.
 //! - [`files`] has the lists of files that several tests use.
 //!
 //! Pages are given out from the first core page on, each file's index page before its blocks, and a
@@ -12,5 +12,5 @@ mod file;
 pub mod files;
 mod sample;
 
-pub use file::{SampleFile, directory, regular};
+pub use file::{SampleFile, directory, link, regular};
 pub use sample::{Sample, put};

@@ -146,6 +146,7 @@ impl Sample {
             gid: file.gid,
             head: 0,
             size: 0,
+            guard: file.guard,
         };
         self.place(file.ino, Placed { body, listed: 0 })?;
         for i in 0..file.content.len().div_ceil(PAGE_SIZE) {

@@ -1,5 +1,5 @@
 -- One entry more of a directory: a file that is met for the first time, or again.
-use Rattle.trio_survey.proofs.Words.{◌&&◌, ◌++◌, ◌+◌, ◌<◌, ◌∙◌, ◌∷◌, ◌≡◌, AreMarked, Bool, DirEntry, Grows, List, Listed, Location, Met, None, Option, Pick, Some, [], all_below, among-first_listed, and_parts, ap, append-nil, append_assoc, are_marked, arith, below_at, cond, drop, entry_seen, false, first_listed, flat_map, flat_map-append, get_or, get_or-map, inl, inr, is_among, length, length-map, list_all, list_all-append, ltb, map, map-append, map_push, met_in, numbers, option_or, place_of, refl, set, subst, suc, sym, take, take-append-drop, true, ℕ}
+use Rattle.trio_survey.proofs.Words.{◌&&◌, ◌++◌, ◌+◌, ◌<◌, ◌∙◌, ◌∷◌, ◌≡◌, AreMarked, Bool, DirEntry, Grows, List, Listed, Location, Met, None, Option, Pick, Some, [], all_below, among-first_listed, and_parts, ap, append-nil, append_assoc, are_marked, arith, below_at, cond, drop, entry_seen, false, first_listed, flat_map, flat_map-append, get_or, get_or-map, is_among, length, length-map, list_all, list_all-append, ltb, map, map-append, map_push, met_in, numbers, option_or, place_of, refl, set, subst, suc, sym, take, take-append-drop, true, ℕ}
 use Rattle.std.proofs.Common.{drop-cons}
 use Rattle.std.proofs.lemmas.List.{length_push}
 use Rattle.std.proofs.lemmas.List.Sums.{sum_by-set}

@@ -1,5 +1,5 @@
 -- The numbers that a file in the grammar lists are numbers of its image.
-use Rattle.trio_survey.proofs.Words.{◌&&◌, ◌+◌, ◌-◌, ◌∙◌, ◌∷◌, ◌≡◌, Bool, Chain, Core, CoreRange, Directory, FileRead, IfOk, Index, IsWithin, Kind, List, Listed, Location, Met, None, Ok, Option, Regular, Some, [], all_below, all_some, and_from, and_parts, ap, at_page, body_of, bytes_eq, chain_from, chain_of, cond, entries_of_kind, entries_on, eqb, false, file_with, gathered, if_ok_at, if_ok_map, if_ok_then, if_ok_weaker, index_at, index_bytes, index_fits, index_page, is_core, leb, link_fits, list_all, list_all-append, ltb, map, min, nowhere, option_and_then, page_entries, page_of, refl, repeated_name, result_map, result_then, suc, sym, there_or, true, with_index, zero, ℕ}
+use Rattle.trio_survey.proofs.Words.{◌&&◌, ◌+◌, ◌-◌, ◌∙◌, ◌∷◌, ◌≡◌, Bool, Chain, Core, CoreRange, Directory, FileRead, IfOk, Index, IsWithin, Kind, Link, List, Listed, Location, Met, None, Ok, Option, Regular, Some, [], all_below, all_some, and_from, and_parts, ap, at_page, body_of, bytes_eq, chain_from, chain_of, cond, entries_of_kind, entries_on, eqb, false, file_with, gathered, if_ok_at, if_ok_map, if_ok_then, if_ok_weaker, index_at, index_bytes, index_fits, index_page, is_core, leb, link_fits, list_all, list_all-append, ltb, map, min, nowhere, option_and_then, page_entries, page_of, refl, repeated_name, result_map, result_then, suc, sym, there_or, true, with_index, zero, ℕ}
 use Rattle.std.proofs.lemmas.List.Folds.{list_all-map}
 use Rattle.trio_layout.specs.Index.{index_of}
 use Rattle.trio_layout.specs.Entries.{with_names_apart}
@@ -69,6 +69,7 @@ chain_fits core (suc n) blocks at =
 
 pub entries_fit : (core : Core) (kind : Kind) (blocks : List ℕ) → IfOk (entries_of_kind core kind blocks) (AreInodes core.inodes)
 entries_fit core Regular blocks = refl
+entries_fit core Link blocks = refl
 entries_fit core Directory blocks =
     if_ok_then (gathered (page_entries core) blocks) with_names_apart (AreInodes core.inodes)
     (λ ls e. unless_repeated_fit core.inodes ls (repeated_name [] ls)

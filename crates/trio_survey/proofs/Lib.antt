@@ -13,7 +13,9 @@ pub mod CorePages
 pub mod Tables
 pub mod Beginning
 pub mod Standing
+pub mod OldFiles
 pub mod ListedAgain
 pub mod Verdicts
+pub mod OldVerdicts
 pub mod PickProofs
 mod Words

@@ -1,5 +1,6 @@
 -- A file whose chain is that of one that was passed.
-use Rattle.trio_survey.proofs.Words.{◌++◌, ◌+◌, ◌-◌, ◌<◌, ◌||◌, ◌∙◌, ◌∷◌, ◌≡◌, Bool, Chain, Core, Directory, FaultAt, FileRead, In, IsListedBefore, Kind, List, Listed, MarksJust, Met, None, Ok, Option, Pick, Regular, Row, Some, Stands, Tabled, [], ap, append-nil, are_new, arith, block_count, body_of, chain_from, chain_of, children, children_in, entries_of_kind, eqb, false, false≢true, file_with, first_listed, flat_map, flat_map-append, get_or, heads_of, index_count, index_page, inl, inr, is_among, is_among-append, is_some, length, listed_numbers, listed_pages, map, met_in, min, nowhere, numbers, pages_in, pages_of, refl, replicate, result_map, result_then, root_of, row_by, set, suc, sym, take, take_more, there_or, true, with_index, zero, ℕ}
+use Rattle.trio_survey.proofs.Words.{◌++◌, ◌+◌, ◌-◌, ◌<◌, ◌||◌, ◌∙◌, ◌∷◌, ◌≡◌, Bool, Chain, Core, Err, FaultAt, FileRead, In, IsListedBefore, List, Listed, MarksJust, Met, None, Ok, Option, Pick, Row, Some, Stands, Tabled, [], ap, append-nil, are_new, arith, block_count, body_of, chain_from, chain_of, children, children_in, cond, entries_of, entries_of_kind, eqb, false, false≢true, file_with, first_listed, flat_map, flat_map-append, get_or, heads_of, index_count, index_page, inl, inr, is_among, is_among-append, is_ok, is_some, length, listed_numbers, listed_pages, map, met_in, min, nowhere, numbers, pages_in, pages_of, refl, replicate, result_map, result_then, root_of, row_by, set, suc, sym, take, take_more, there_or, true, with_index, zero, ℕ}
+use Rattle.trio_rights.specs.ByKind.{is_directory}
 use Rattle.std.proofs.Common.{◌⊎◌}
 use Rattle.std.proofs.lemmas.Bool.{eq-eqb, or_left, or_right}
 use Rattle.trio_lists.proofs.Members.{In-left, In-right, result_map-Ok, result_then-Ok}
@@ -7,6 +8,10 @@ use Rattle.trio_layout.specs.declared.body.Body.{Body}
 use Rattle.trio_layout.specs.Survey.{file_of}
 use Rattle.trio_survey.specs.declared.again.Heads.{Heads}
 use Rattle.trio_survey.specs.inner.Again.{heads_after, KnowsAllHeads, KnowsHeads, WasPassed}
+use Rattle.trio_lists.proofs.Members.{list_all-In}
+use Rattle.trio_survey.specs.OldVersion.{first_link, new_place, old_file_of}
+use Rattle.trio_survey.specs.inner.Old.{AreOld}
+use Rattle.trio_survey.proofs.OldFiles.{new_place-none, old_file-none, old_file-read, old_file-some, old_ok-none}
 use Rattle.trio_survey.proofs.Fits.{file_within}
 use Rattle.trio_survey.proofs.Repeats.{numbers_met, numbers_of, repeat_not_new, repeats_keep}
 use Rattle.trio_survey.proofs.Standing.{stands_more}
@@ -14,8 +19,8 @@ use Rattle.trio_survey.proofs.Tables.{next_is_new, tabled_by}
 
 -- ---- where the chains of passed files begin
 
-passed_more : (core : Core) (done : List Met) (m : Met) (kind : Kind) (head blocks : ℕ) → WasPassed core done kind head blocks → WasPassed core (done ++ m ∷ []) kind head blocks
-passed_more core done m kind head blocks p = record {
+passed_more : (core : Core) (done : List Met) (m : Met) (directory : Bool) (head blocks : ℕ) → WasPassed core done directory head blocks → WasPassed core (done ++ m ∷ []) directory head blocks
+passed_more core done m directory head blocks p = record {
   met = p.met;
   file = p.file;
   among = In-left p.met done (m ∷ []) p.among;
@@ -32,29 +37,29 @@ set_cases (x ∷ xs) zero v (suc p) = inr refl
 set_cases (x ∷ xs) (suc i) v zero = inr refl
 set_cases (x ∷ xs) (suc i) v (suc p) = elim (set_cases xs i v p) [ inl same ↦ inl (ap suc same.0, same.1) | inr other ↦ inr other ]
 
-knows_still : (core : Core) (done : List Met) (kind : Kind) (heads : List ℕ) (m : Met) → KnowsHeads core done kind heads → KnowsHeads core (done ++ m ∷ []) kind heads
-knows_still core done kind heads m h = λ head some. passed_more core done m kind head (get_or heads head 0) (h head some)
+knows_still : (core : Core) (done : List Met) (directory : Bool) (heads : List ℕ) (m : Met) → KnowsHeads core done directory heads → KnowsHeads core (done ++ m ∷ []) directory heads
+knows_still core done directory heads m h = λ head some. passed_more core done m directory head (get_or heads head 0) (h head some)
 
-knows_one : (core : Core) (done : List Met) (kind : Kind) (heads : List ℕ) (m : Met) (f : FileRead) → m.kind ≡ kind → file_of core m ≡ Ok f → KnowsHeads core done kind heads → KnowsHeads core (done ++ m ∷ []) kind (set heads f.body.head (block_count f.body.size))
-knows_one core done kind heads m f is read h = λ head some.
+knows_one : (core : Core) (done : List Met) (directory : Bool) (heads : List ℕ) (m : Met) (f : FileRead) → is_directory m.kind ≡ directory → file_of core m ≡ Ok f → KnowsHeads core done directory heads → KnowsHeads core (done ++ m ∷ []) directory (set heads f.body.head (block_count f.body.size))
+knows_one core done directory heads m f is read h = λ head some.
     let blocks : ℕ = block_count f.body.size in
     elim (set_cases heads f.body.head blocks head) [
       | inl same ↦ rw same.1 (record { met = m; file = f; among = In-right m done (m ∷ []) (inl refl); kind_is = is; read = read; head_is = sym same.0; blocks_are = refl })
-      | inr other ↦ rw other (passed_more core done m kind head (get_or heads head 0) (h head (rw other at some)))
+      | inr other ↦ rw other (passed_more core done m directory head (get_or heads head 0) (h head (rw other at some)))
     ]
 
-knows_by : (core : Core) (done : List Met) (kind : Kind) (heads : List ℕ) (m : Met) (f : FileRead) (its : Kind) → m.kind ≡ its → file_of core m ≡ Ok f → KnowsHeads core done kind heads → KnowsHeads core (done ++ m ∷ []) kind (heads_after kind heads its f.body)
-knows_by core done Regular heads m f Regular is read h = knows_one core done Regular heads m f is read h
-knows_by core done Regular heads m f Directory is read h = knows_still core done Regular heads m h
-knows_by core done Directory heads m f Regular is read h = knows_still core done Directory heads m h
-knows_by core done Directory heads m f Directory is read h = knows_one core done Directory heads m f is read h
+knows_by : (core : Core) (done : List Met) (directory : Bool) (heads : List ℕ) (m : Met) (f : FileRead) (its : Bool) → is_directory m.kind ≡ its → file_of core m ≡ Ok f → KnowsHeads core done directory heads → KnowsHeads core (done ++ m ∷ []) directory (heads_after directory heads its f.body)
+knows_by core done false heads m f false is read h = knows_one core done false heads m f is read h
+knows_by core done false heads m f true is read h = knows_still core done false heads m h
+knows_by core done true heads m f false is read h = knows_still core done true heads m h
+knows_by core done true heads m f true is read h = knows_one core done true heads m f is read h
 
-pub knows_more : (core : Core) (done : List Met) (old new : Heads) (m : Met) (f : FileRead) → file_of core m ≡ Ok f → new.regular.items ≡ heads_after Regular old.regular.items m.kind f.body → new.directory.items ≡ heads_after Directory old.directory.items m.kind f.body → KnowsAllHeads core done old → KnowsAllHeads core (done ++ m ∷ []) new
-knows_more core done old new m f read regular directory h Regular = rw regular (knows_by core done Regular old.regular.items m f m.kind refl read (h Regular))
-knows_more core done old new m f read regular directory h Directory = rw directory (knows_by core done Directory old.directory.items m f m.kind refl read (h Directory))
+pub knows_more : (core : Core) (done : List Met) (old new : Heads) (m : Met) (f : FileRead) → file_of core m ≡ Ok f → new.other.items ≡ heads_after false old.other.items (is_directory m.kind) f.body → new.directory.items ≡ heads_after true old.directory.items (is_directory m.kind) f.body → KnowsAllHeads core done old → KnowsAllHeads core (done ++ m ∷ []) new
+knows_more core done old new m f read other directory h false = rw other (knows_by core done false old.other.items m f (is_directory m.kind) refl read (h false))
+knows_more core done old new m f read other directory h true = rw directory (knows_by core done true old.directory.items m f (is_directory m.kind) refl read (h true))
 
-knows_nothing : (core : Core) (kind : Kind) (count : ℕ) → KnowsHeads core [] kind (replicate count 0)
-knows_nothing core kind count = λ head some. absurd (zero_less (get_or (replicate {A = ℕ} count 0) head 0) (none count head) some)
+knows_nothing : (core : Core) (directory : Bool) (count : ℕ) → KnowsHeads core [] directory (replicate count 0)
+knows_nothing core directory count = λ head some. absurd (zero_less (get_or (replicate {A = ℕ} count 0) head 0) (none count head) some)
   where
     none : (n k : ℕ) → get_or (replicate {A = ℕ} n 0) k 0 ≡ 0
     none zero k = refl
@@ -64,9 +69,9 @@ knows_nothing core kind count = λ head some. absurd (zero_less (get_or (replica
     zero_less : (k : ℕ) → k ≡ 0 → 0 < k → ⊥
     zero_less k e h = omega arith
 
-pub knows_none : (core : Core) (count : ℕ) (heads : Heads) → heads.regular.items ≡ replicate count 0 → heads.directory.items ≡ replicate count 0 → KnowsAllHeads core [] heads
-knows_none core count heads regular directory Regular = rw regular (knows_nothing core Regular count)
-knows_none core count heads regular directory Directory = rw directory (knows_nothing core Directory count)
+pub knows_none : (core : Core) (count : ℕ) (heads : Heads) → heads.other.items ≡ replicate count 0 → heads.directory.items ≡ replicate count 0 → KnowsAllHeads core [] heads
+knows_none core count heads other directory false = rw other (knows_nothing core false count)
+knows_none core count heads other directory true = rw directory (knows_nothing core true count)
 
 -- a value that is there
 pub some_there : {X : Type 0} (o : Option X) → is_some o ≡ true → (x : X) × (o ≡ Some x)
@@ -131,11 +136,11 @@ or_known true b h = refl
 or_known false true h = h refl
 or_known false false h = refl
 
-module _ (core : Core) (pick : Pick) (i : ℕ) (files : List Met) (marks used : List Bool) (r : FaultAt) (heads : List ℕ) (m : Met) (b : Body) (inside : i < length files) (at : get_or files i m ≡ m) (s : Stands core pick i files marks used (Some r)) (knows : KnowsHeads core (take i files) m.kind heads) (listed : IsListedBefore core.range heads m b) where
+module _ (core : Core) (pick : Pick) (i : ℕ) (files : List Met) (marks used : List Bool) (r : FaultAt) (heads : List ℕ) (m : Met) (b : Body) (inside : i < length files) (at : get_or files i m ≡ m) (s : Stands core pick i files marks used (Some r)) (knows : KnowsHeads core (take i files) (is_directory m.kind) heads) (listed : IsListedBefore core.range heads m b) where
   abbrev done : List Met
   done = take i files
 
-  passed : WasPassed core done m.kind b.head (get_or heads b.head 0)
+  passed : WasPassed core done (is_directory m.kind) b.head (get_or heads b.head 0)
   passed = knows b.head (rw listed.passed listed.some)
 
   abbrev old : FileRead
@@ -154,7 +159,7 @@ module _ (core : Core) (pick : Pick) (i : ℕ) (files : List Met) (marks used : 
   chain_is = same_chain core old.body b passed.head_is blocks_are ∙ parts.0
 
   read : file_of core m ≡ Ok f
-  read = file_is core m b old.chain old.entries listed.body chain_is (ap (λ k. entries_of_kind core k old.chain.blocks) (sym passed.kind_is) ∙ parts.1)
+  read = file_is core m b old.chain old.entries listed.body chain_is (ap (λ d. cond d (entries_of core old.chain.blocks) (Ok [])) (sym passed.kind_is) ∙ parts.1)
 
   -- its pages were listed
   pages_known : (n : ℕ) → is_among n (f.chain.index ++ f.chain.blocks) ≡ true → is_among n (listed_pages core done) ≡ true
@@ -205,6 +210,19 @@ module _ (core : Core) (pick : Pick) (i : ℕ) (files : List Met) (marks used : 
   tabled_again owners rows t =
       let more : take (i + 1) files ≡ done ++ m ∷ [] = take_more files i m inside ∙ ap (λ x. done ++ x ∷ []) at in
       rw more (tabled_by core done m f owners owners rows read (next_is_new (children core pick) (root_of core) i files m s.queued inside at) (λ new. absurd (false≢true (sym not_new ∙ new))) refl t)
+
+  -- what it lists has nothing that version 1 doesn't know, where the file passed has nothing
+  pub known_again : (old : Bool) → AreOld old core done → (old ≡ true → b.guard ≡ false) → old ≡ true → is_ok (old_file_of core m) ≡ true
+  known_again asked good unguarded it =
+      let was : is_ok (old_file_of core passed.met) ≡ true = list_all-In (λ x. is_ok (old_file_of core x)) passed.met done (good it) passed.among in
+      let none : new_place old ≡ None = old_ok-none old (new_place old) (ap is_ok (sym (old_file-read core passed.met old passed.read)) ∙ was) in
+      let links = (new_place-none old.body.guard (first_link old.entries) none).1 in
+      let still : new_place f ≡ None = ap (λ g. cond g (Some nowhere) (first_link old.entries)) (unguarded it) ∙ links in
+      ap is_ok (old_file-none core m f read still)
+
+  -- a guard alone is new
+  pub guarded_again : b.guard ≡ true → old_file_of core m ≡ Err nowhere
+  guarded_again guarded = old_file-some core m f nowhere read (ap (λ g. cond g (Some nowhere) (first_link old.entries)) guarded)
 
 pub knows_again : (core : Core) (i : ℕ) (files : List Met) (heads : Heads) (m : Met) → i < length files → get_or files i m ≡ m → KnowsAllHeads core (take i files) heads → KnowsAllHeads core (take (i + 1) files) heads
 knows_again core i files heads m inside at knows = λ kind.

@@ -1,5 +1,5 @@
 -- What a file says doesn't hang on the body of the root.
-use Rattle.trio_survey.proofs.Words.{◌-◌, ◌∙◌, ◌≡◌, Core, Directory, Err, Kind, List, Met, Ok, Regular, Result, ap, block_count, body_of, chain_from, chain_of, core_with, entries_of_kind, eqb, file_with, index_count, index_page, min, nowhere, refl, result_map, result_then, suc, there_or, with_index, zero, ℕ}
+use Rattle.trio_survey.proofs.Words.{◌-◌, ◌∙◌, ◌≡◌, Core, Directory, Err, Kind, Link, List, Met, Ok, Regular, Result, ap, block_count, body_of, chain_from, chain_of, core_with, entries_of_kind, eqb, file_with, index_count, index_page, min, nowhere, refl, result_map, result_then, suc, there_or, with_index, zero, ℕ}
 use Rattle.trio_layout.specs.Survey.{file_of}
 
 -- the core without its root
@@ -20,6 +20,7 @@ chain_rootless core (suc n) blocks at =
 entries_rootless : (core : Core) (kind : Kind) (blocks : List ℕ) → entries_of_kind core kind blocks ≡ entries_of_kind (rootless core) kind blocks
 entries_rootless core Regular blocks = refl
 entries_rootless core Directory blocks = refl
+entries_rootless core Link blocks = refl
 
 pub file_rootless : (core : Core) (m : Met) → file_of core m ≡ file_of (rootless core) m
 unfolding file_of

@@ -10,7 +10,7 @@ use Rattle.trio_survey.proofs.Tables.{all_first, owners_are, rows_are}
 use Rattle.trio_layout.specs.declared.refusal.Rule.TheVariants.{Grammar, Owning}
 use Rattle.trio_layout.specs.Rule.{rule_number}
 
-few_files : (core : Core) (pick : Pick) (i : ℕ) (files : List Met) (marks used : List Bool) (twice : Option FaultAt) → Stands core pick i files marks used twice → length files ≤ core.inodes + 1
+pub few_files : (core : Core) (pick : Pick) (i : ℕ) (files : List Met) (marks used : List Bool) (twice : Option FaultAt) → Stands core pick i files marks used twice → length files ≤ core.inodes + 1
 few_files core pick i files marks used twice s =
     omega (arith, s.marked.counted, s.many_marks, count_by-le-length (λ (b : Bool). b) marks)
 
@@ -113,7 +113,7 @@ repeat_more core pick i files marks used twice m f a b c read index block entry 
     first_repeat core pick (take i files) m f (numbers files) twice a b c read s.same (index P s.pages) (block P s.pages) entry s.once
 
 -- when no file is left, the files passed are all files of the survey
-all_passed : (core : Core) (pick : Pick) (i : ℕ) (files : List Met) (marks used : List Bool) (twice : Option FaultAt) → Stands core pick i files marks used twice → length files ≤ i → take i files ≡ survey core pick
+pub all_passed : (core : Core) (pick : Pick) (i : ℕ) (files : List Met) (marks used : List Bool) (twice : Option FaultAt) → Stands core pick i files marks used twice → length files ≤ i → take i files ≡ survey core pick
 all_passed core pick i files marks used twice s h = take_all i files h ∙ sym (survey_is core pick i files marks used twice s h)
 
 pub refused : (core : Core) (pick : Pick) (e : SurveyFault) → IsFault core pick e → IsRefused core pick e

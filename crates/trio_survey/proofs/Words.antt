@@ -36,7 +36,7 @@ pub use Rattle.trio_lists.specs.Lists.{In, are_new, both, gathered, gathered_bel
 pub use Rattle.trio_lists.specs.Marked.{MarksJust, all_below}
 pub use Rattle.trio_rights.specs.Row.{Row}
 pub use Rattle.trio_rights.specs.declared.kind.Kind.{Kind}
-pub use Rattle.trio_rights.specs.declared.kind.Kind.TheVariants.{Directory, Regular}
+pub use Rattle.trio_rights.specs.declared.kind.Kind.TheVariants.{Directory, Link, Regular}
 pub use Rattle.trio_tables.specs.Stored.{padded_to_pages, page_at}
 pub use Rattle.trio_survey.specs.Answer.{IsRefused}
 pub use Rattle.trio_survey.specs.Picks.{pick_of}

@@ -6,3 +6,4 @@ pub mod Verdict
 pub mod PickLaws
 pub mod inner
 pub mod Stored
+pub mod OldVersion

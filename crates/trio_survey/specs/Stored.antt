@@ -4,7 +4,7 @@ use Rattle.std.specs.List.{flat_map}
 use Rattle.trio_rights.specs.Row.{Row}
 use Rattle.trio_tables.specs.Stored.{shadow_bytes, owner_bytes, padded_to_pages, page_at}
 use Rattle.trio_layout.specs.declared.superblock.Superblock.{Superblock}
-use Rattle.trio_layout.specs.Superblock.{superblock_bytes, IsSuperblock}
+use Rattle.trio_layout.specs.Superblock.{current_version, superblock_bytes, IsSuperblock, IsSuperblockOf}
 use Rattle.trio_layout.specs.Core.{Core}
 use Rattle.trio_layout.specs.Survey.{plain, survey}
 use Rattle.trio_layout.specs.Sound.{IsSound, rows_table, owners_table}
@@ -35,11 +35,15 @@ pub record PagesVerify (s : Superblock) (pages : List (Option (List ℕ))) : Typ
       (rows_table (core_in s pages) (survey (core_in s pages) plain))
       (owners_table (core_in s pages) (survey (core_in s pages) plain))
 
--- the pages' superblock
-pub record HasSuperblock (s : Superblock) (pages : List (Option (List ℕ))) : Type 0 where
+-- the pages' superblock, in a version
+pub record HasSuperblockOf (version : ℕ) (s : Superblock) (pages : List (Option (List ℕ))) : Type 0 where
   pub bytes : List ℕ
   pub here : HasPage pages 0 bytes
-  pub read : IsSuperblock bytes s
+  pub read : IsSuperblockOf version bytes s
+
+-- the pages' superblock, in today's version
+abbrev pub HasSuperblock : Superblock → List (Option (List ℕ)) → Type 0
+HasSuperblock s pages = HasSuperblockOf current_version s pages
 
 -- the image that these pages store, where they verify
 abbrev pub image_in : Superblock → List (Option (List ℕ)) → Image

@@ -5,3 +5,4 @@ pub mod Files
 pub mod Kept
 pub mod Steps
 pub mod Walk
+pub mod Old

@@ -52,7 +52,7 @@ pub struct FileParts {
     pub index: Vec<u32>,
     /// The numbers of its blocks, in the order of the file.
     pub blocks: Vec<u32>,
-    /// The entries of a directory, in the order of block and slot; none of a regular file.
+    /// The entries of a directory, in the order of block and slot; none of what is no directory.
     pub entries: Vec<EntryRead>,
 }
 
@@ -64,7 +64,7 @@ pub(crate) struct FilePages {
 }
 
 /// Reads a file that is met, in an image with these core pages and so many inode numbers.
-/// Blocks of a regular file aren't looked at, and each core page is looked at once at most.
+/// Blocks of what is no directory aren't looked at, and each core page is looked at once at most.
 ///
 /// Where the file leaves the grammar or a page is absent, the answer is the first such place, in this
 /// order: neither page nor slot for its body; an index page as a whole; a directory page that is
@@ -144,12 +144,9 @@ pub(crate) fn read_pages(
     }
 }
 
-/// The blocks of a file in which entries stand: none of a regular file.
+/// The blocks of a file in which entries stand: none of what is no directory.
 pub(crate) fn listing_blocks(kind: Kind, blocks: &[u32]) -> &[u32]
     ensures { result.now ≡ listing_blocks kind blocks.now }
 {
-    match kind {
-        Kind::Regular => &[],
-        Kind::Directory => blocks,
-    }
+    if kind.is_directory() { blocks } else { &[] }
 }

@@ -113,7 +113,8 @@ fn are_marked(marks: &Vec<bool>, entries: &[DirEntry]) -> bool
     true
 }
 
-fn place_of(listed: &DirEntry) -> Location
+/// Where an entry stands.
+pub(crate) fn place_of(listed: &DirEntry) -> Location
     ensures { result ≡ record { page = listed.now.page; slot = listed.now.slot } }
 {
     Location {

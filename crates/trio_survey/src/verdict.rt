@@ -75,7 +75,7 @@ fn superblock(home: &mut Home, reads: &mut Reads) -> Superblock
 }
 
 /// Compares the stored tables with those that were found.
-fn compare(
+pub(crate) fn compare(
     home: &mut Home,
     superblock: &Superblock,
     found: &Found,

@@ -5,7 +5,10 @@ ghost use Rattle.trio_layout.specs.Survey.{Pick};
 ghost use Rattle.trio_survey.specs.Picks.{pick_of};
 ghost use Rattle.trio_survey.specs.inner.Blocks.{HasParts, SaysBlocks};
 ghost use Rattle.trio_survey.specs.inner.Kept.{kept_count, Keeps};
-ghost use Rattle.trio_survey.specs.inner.Walk.{file_repeat, framed, IsFault, WalkHeads, WalkStands, WalkTables};
+ghost use Rattle.trio_layout.specs.Rule.{rule_number};
+ghost use Rattle.trio_layout.specs.declared.refusal.Rule.TheVariants.{Grammar};
+ghost use Rattle.trio_survey.specs.inner.Old.{IsFaultBy, WalkOld};
+ghost use Rattle.trio_survey.specs.inner.Walk.{file_repeat, framed, WalkHeads, WalkStands, WalkTables};
 
 use crate::again::{Heads, listed_before};
 use crate::enter::{enter, row_of};
@@ -13,6 +16,7 @@ use crate::fault::SurveyFault;
 use crate::file::{MetFile, listing_blocks, read_pages};
 use crate::kept::Kept;
 use crate::marks::{add_children, mark_new};
+use crate::old::unknown;
 use crate::picks::Picks;
 use std::alloc::Global;
 use trio_layout::{CoreRange, FaultAt, Location, Rule};
@@ -28,6 +32,8 @@ pub struct CoreFrame {
     pub range: CoreRange,
     /// How many inode numbers there are.
     pub inodes: u32,
+    /// Whether the files are read by version 1.
+    pub old: bool,
 }
 
 /// A walk on its way: the files met so far, those passed at the front, and what was found of these.
@@ -90,7 +96,9 @@ impl Walk {
     }
 
     /// Passes the file at this place of the queue. Once something was listed again, a file whose chain
-    /// is that of one of its kind that was passed isn't gone over: all that it lists was met.
+    /// is that of one that was passed, a directory's as a directory's, isn't gone over: all that it lists
+    /// was met.
+    #[tactic(auto, using(crate::proofs::OldFiles::no_memory_by))]
     pub fn visit(
         &mut self,
         alloc: Global,
@@ -104,6 +112,7 @@ impl Walk {
         requires stands { WalkStands (framed home.old.pages frame.now) (pick_of picks.now) at self.old }
         requires tables { WalkTables (framed home.old.pages frame.now) at self.old }
         requires heads { WalkHeads (framed home.old.pages frame.now) at self.old }
+        requires old { WalkOld frame.now.old (framed home.old.pages frame.now) at self.old }
         requires keeps { Keeps frame.now.range home.old.pages self.old.kept.pages.pages.items }
         requires parts { HasParts frame.now.range self.old.kept.blocks }
         requires says { SaysBlocks home.old.pages frame.now.range frame.now.inodes self.old.kept.blocks }
@@ -111,7 +120,8 @@ impl Walk {
         ensures stands { OnOk result (WalkStands (framed home.old.pages frame.now) (pick_of picks.now) (at + 1) self.new) }
         ensures tables { OnOk result (WalkTables (framed home.old.pages frame.now) (at + 1) self.new) }
         ensures heads { OnOk result (WalkHeads (framed home.old.pages frame.now) (at + 1) self.new) }
-        ensures fault { IfErr result (IsFault (framed home.old.pages frame.now) (pick_of picks.now)) }
+        ensures old { OnOk result (WalkOld frame.now.old (framed home.old.pages frame.now) (at + 1) self.new) }
+        ensures fault { IfErr result (IsFaultBy frame.now.old (framed home.old.pages frame.now) (pick_of picks.now)) }
         ensures keeps { Keeps frame.now.range home.old.pages self.new.kept.pages.pages.items }
         ensures parts { OnOk result (HasParts frame.now.range self.new.kept.blocks) }
         ensures says { OnOk result (SaysBlocks home.old.pages frame.now.range frame.now.inodes self.new.kept.blocks) }
@@ -121,6 +131,9 @@ impl Walk {
         let met = self.files[at];
         if self.repeated.is_some() {
             if let Some(body) = listed_before(self.heads.of(met.kind), frame.range, &met) {
+                if frame.old && body.guard {
+                    return Err(leaves_grammar(met.ino, Location { page: 0, slot: 0 }));
+                }
                 self.rows.set(met.ino, Some(row_of(&met, &body)));
                 return Ok(());
             }
@@ -129,6 +142,7 @@ impl Walk {
     }
 
     /// Goes over the file at this place of the queue.
+    #[tactic(auto, using(crate::proofs::OldFiles::no_memory_by))]
     fn pass(
         &mut self,
         alloc: Global,
@@ -142,6 +156,7 @@ impl Walk {
         requires stands { WalkStands (framed home.old.pages frame.now) (pick_of picks.now) at self.old }
         requires tables { WalkTables (framed home.old.pages frame.now) at self.old }
         requires heads { WalkHeads (framed home.old.pages frame.now) at self.old }
+        requires old { WalkOld frame.now.old (framed home.old.pages frame.now) at self.old }
         requires keeps { Keeps frame.now.range home.old.pages self.old.kept.pages.pages.items }
         requires parts { HasParts frame.now.range self.old.kept.blocks }
         requires says { SaysBlocks home.old.pages frame.now.range frame.now.inodes self.old.kept.blocks }
@@ -149,7 +164,8 @@ impl Walk {
         ensures stands { OnOk result (WalkStands (framed home.old.pages frame.now) (pick_of picks.now) (at + 1) self.new) }
         ensures tables { OnOk result (WalkTables (framed home.old.pages frame.now) (at + 1) self.new) }
         ensures heads { OnOk result (WalkHeads (framed home.old.pages frame.now) (at + 1) self.new) }
-        ensures fault { IfErr result (IsFault (framed home.old.pages frame.now) (pick_of picks.now)) }
+        ensures old { OnOk result (WalkOld frame.now.old (framed home.old.pages frame.now) (at + 1) self.new) }
+        ensures fault { IfErr result (IsFaultBy frame.now.old (framed home.old.pages frame.now) (pick_of picks.now)) }
         ensures keeps { Keeps frame.now.range home.old.pages self.new.kept.pages.pages.items }
         ensures parts { OnOk result (HasParts frame.now.range self.new.kept.blocks) }
         ensures says { OnOk result (SaysBlocks home.old.pages frame.now.range frame.now.inodes self.new.kept.blocks) }
@@ -167,14 +183,12 @@ impl Walk {
             reads,
         )? {
             Ok(file) => file,
-            Err(place) => {
-                let at = FaultAt {
-                    ino: met.ino,
-                    place,
-                };
-                return Err(SurveyFault::fails(Rule::Grammar, at));
-            }
+            Err(place) => return Err(leaves_grammar(met.ino, place)),
         };
+        let unknown = unknown(frame.old, frame.range, &self.kept.blocks, met.kind, &file);
+        if let Some(place) = unknown {
+            return Err(leaves_grammar(met.ino, place));
+        }
         let index = mark_new(&mut self.used, &file.chain.index);
         let block = mark_new(&mut self.used, &file.chain.blocks);
         let entry = add_children(
@@ -191,6 +205,13 @@ impl Walk {
         self.repeated = self.repeated.or(repeated_in(met.ino, index, block, entry));
         Ok(())
     }
+}
+
+/// The fault of a file that can't be read, because of this place.
+fn leaves_grammar(ino: u32, place: Location) -> SurveyFault
+    ensures { result ≡ SurveyFault.Fails (rule_number Grammar) ino place.page place.slot }
+{
+    SurveyFault::fails(Rule::Grammar, FaultAt { ino, place })
 }
 
 /// What a file lists again, by the first such index page, block and entry.

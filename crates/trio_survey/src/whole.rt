@@ -6,6 +6,8 @@ ghost use Rattle.trio_layout.specs.Survey.{plain, survey};
 ghost use Rattle.trio_layout.specs.Sound.{IsSound, rows_table, owners_table};
 ghost use Rattle.trio_survey.specs.Answer.{core_of, IsRefused};
 ghost use Rattle.trio_survey.specs.Picks.{pick_of};
+ghost use Rattle.trio_survey.specs.inner.Old.{AreOld, IsRefusedBy};
+ghost use Rattle.trio_survey.specs.inner.Walk.{framed};
 
 use crate::fault::SurveyFault;
 use crate::picks::Picks;
@@ -29,7 +31,7 @@ pub struct Found {
 /// of a sound core. `root` is the body of the root, `range` says which pages are core pages, and the
 /// inode numbers run from 1 up to `inodes`.
 ///
-/// Blocks of regular files aren't looked at, and each core page is looked at once at most, however
+/// Blocks of what is no directory aren't looked at, and each core page is looked at once at most, however
 /// often it is listed.
 ///
 /// [`SurveyFault::Fails`] names the lower of the rules I1 and I2 that fails, with a file and place at
@@ -63,7 +65,6 @@ pub fn survey(
 
 /// As [`survey`], where an entry for whose number a body is picked at its place has that body in
 /// place of the bytes in its slot.
-#[tactic(auto, using(crate::proofs::KeptPages::few_kept))]
 pub fn survey_picked(
     alloc: Global,
     home: &mut Home,
@@ -91,11 +92,41 @@ pub fn survey_picked(
         root: *root,
         range,
         inodes,
+        old: false,
     };
-    let mut walk = Walk::start(alloc, &frame)?;
+    survey_framed(alloc, home, &frame, picks, reads)
+}
+
+/// As [`survey_picked`], of a core by its frame. Where version 1 is asked, the core is sound only if its
+/// files are in that version's grammar too.
+#[tactic(auto, using(crate::proofs::KeptPages::few_kept))]
+pub(crate) fn survey_framed(
+    alloc: Global,
+    home: &mut Home,
+    frame: &CoreFrame,
+    picks: &Picks,
+    reads: &mut Reads,
+) -> Result<Found, SurveyFault>
+    requires order { frame.now.range.first ≤ frame.now.range.end }
+    requires pages { frame.now.range.end ≤ 8192 }
+    requires some { 1 ≤ frame.now.inodes }
+    requires inodes { frame.now.inodes ≤ 16384 }
+    ensures pages { home.new.pages ≡ home.old.pages }
+    ensures sound { OnOk result (IsSound (framed home.old.pages frame.now) (pick_of picks.now)) }
+    ensures rows { let core = framed home.old.pages frame.now in
+        IfOk result (λ f. f.rows ≡ rows_table core (survey core (pick_of picks.now))) }
+    ensures owners { let core = framed home.old.pages frame.now in
+        IfOk result (λ f. f.owners ≡ owners_table core (survey core (pick_of picks.now))) }
+    ensures old { let core = framed home.old.pages frame.now in
+        OnOk result (AreOld frame.now.old core (survey core (pick_of picks.now))) }
+    ensures fails { IfErr result (IsRefusedBy frame.now.old (framed home.old.pages frame.now) (pick_of picks.now)) }
+    ensures reads { reads.new ≤ reads.old + core_count frame.now.range }
+    ensures looked { home.new.looked ≤ home.old.looked + core_count frame.now.range }
+{
+    let mut walk = Walk::start(alloc, frame)?;
     let mut at = 0;
     while at < walk.files.len() {
-        walk.visit(alloc, home, &frame, picks, at, reads)?;
+        walk.visit(alloc, home, frame, picks, at, reads)?;
         at += 1;
     }
     match walk.repeated {

@@ -1,5 +1,5 @@
 -- A survey goes by the pages that it reads, and by nothing else of a core.
-use Rattle.trio_surveys.proofs.Words.{◌++◌, ◌-◌, ◌∙◌, ◌∷◌, ◌≡◌, AgreeOn, Body, Chain, Core, Directory, FileRead, Front, In, In-left, In-right, Kind, List, Listed, Met, Ok, Option, Pick, Regular, Some, [], ap, are_in_grammar, arith, at_page, block_count, body_of, both, chain_from, chain_of, children, children_in, descend, entries_of_kind, entries_on, first_listed, flat_map-same, gathered, index_count, index_of, index_page, inl, inr, is_ok, levels, list_all-In, min, numbers, option_and_then, page_entries, page_of, pages_read, refl, result_map, result_map-Ok, result_then, result_then-Ok, root_of, subst, suc, there_or, there_or-Ok, true, with_index, with_other, zero, ℕ}
+use Rattle.trio_surveys.proofs.Words.{◌++◌, ◌-◌, ◌∙◌, ◌∷◌, ◌≡◌, AgreeOn, Body, Chain, Core, Directory, FileRead, Front, In, In-left, In-right, Kind, Link, List, Listed, Met, Ok, Option, Pick, Regular, Some, [], ap, are_in_grammar, arith, at_page, block_count, body_of, both, chain_from, chain_of, children, children_in, descend, entries_of_kind, entries_on, first_listed, flat_map-same, gathered, index_count, index_of, index_page, inl, inr, is_ok, levels, list_all-In, min, numbers, option_and_then, page_entries, page_of, pages_read, refl, result_map, result_map-Ok, result_then, result_then-Ok, root_of, subst, suc, there_or, there_or-Ok, true, with_index, with_other, zero, ℕ}
 use Rattle.std.proofs.Common.{◌==◌}
 use Rattle.trio_layout.specs.Survey.{file_of, survey}
 use Rattle.trio_lists.proofs.Members.{is_ok-Ok}
@@ -54,6 +54,7 @@ entries_local core pages kind f h = search (arith, gathered_local, In-right)
 index_read : (kind : Kind) (f : FileRead) (p : ℕ) → In p f.chain.index → In p (pages_read kind f)
 index_read Regular f p k = k
 index_read Directory f p k = In-left p f.chain.index f.chain.blocks k
+index_read Link f p k = k
 
 pub file_local : (core : Core) (pages : List (Option (List ℕ))) (m : Met) (f : FileRead) → file_of core m ≡ Ok f → ((p : ℕ) → In p (pages_read m.kind f) → page_of (with_other core pages) p ≡ page_of core p) → file_of (with_other core pages) m ≡ Ok f
 file_local core pages m f e h =

@@ -1,5 +1,5 @@
 -- The survey of a core in which one file has another mode.
-use Rattle.trio_surveys.proofs.Words.{◌&&◌, ◌++◌, ◌∙◌, ◌∷◌, ◌≡◌, ◌≤◌, Body, Bool, CoreRange, Front, In, In-left, In-right, Kind, List, Met, Some, [], and_from, and_parts, ap, arith, body_with_mode, bytes_eq, bytes_eq-Decides, cond, cond_some, descend, eqb, false, first_listed, flat_map, inl, inr, is_among, levels, map, map-append, numbers, refl, suc, sym, true, w32, zero, ℕ}
+use Rattle.trio_surveys.proofs.Words.{◌&&◌, ◌++◌, ◌∙◌, ◌∷◌, ◌≡◌, ◌≤◌, Body, Bool, CoreRange, Front, In, In-left, In-right, Kind, List, Met, Some, [], and_from, and_parts, ap, arith, body_with_mode, bytes_eq, bytes_eq-Decides, cond, cond_some, descend, eqb, false, first_listed, flat_map, inl, inr, is_among, levels, map, map-append, numbers, refl, slice_index, suc, sym, true, w32, zero, ℕ}
 use Rattle.std.proofs.lemmas.Bool.{le-leb}
 use Rattle.std.specs.Int.{w16, w64}
 use Rattle.std.proofs.lemmas.Nat.{from_le_bytes-to_le_bytes_2}
@@ -30,12 +30,16 @@ size_same : (mode : ℕ) (b : Body) → number_at w64 16 (body_bytes (body_moded
 unfolding number_at body_bytes
 size_same mode b = refl
 
+guard_same : (mode : ℕ) (b : Body) → slice_index (body_bytes (body_moded mode b)) 24 ≡ slice_index (body_bytes b) 24
+unfolding body_bytes
+guard_same mode b = refl
+
 mode_read : (mode : ℕ) (b : Body) → mode ≤ 511 → number_at w16 0 (body_bytes (body_moded mode b)) ≡ mode
 unfolding number_at body_bytes
 mode_read mode b small = from_le_bytes-to_le_bytes_2 mode (omega arith)
 
 body_read : (mode : ℕ) (b : Body) → mode ≤ 511 → body_at (body_bytes b) ≡ b → body_at (body_bytes (body_moded mode b)) ≡ body_moded mode b
-body_read mode b small back = search (arith, uid_same, gid_same, head_same, size_same, mode_read)
+body_read mode b small back = search (arith, uid_same, gid_same, head_same, size_same, guard_same, mode_read)
 
 fits_moded : (kind : Kind) (range : CoreRange) (mode : ℕ) (b : Body) → mode ≤ 511 → body_fits kind range b ≡ true → body_fits kind range (body_moded mode b) ≡ true
 fits_moded kind range mode b small fits = search (arith, and_parts, and_from, le-leb)

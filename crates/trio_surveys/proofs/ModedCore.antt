@@ -1,5 +1,5 @@
 -- The core with one body of another mode: its files, and that it is sound.
-use Rattle.trio_surveys.proofs.Words.{◌++◌, ◌<◌, ◌∙◌, ◌∷◌, ◌≡◌, ◌≤◌, Body, Bool, Core, Directory, Entry, EntryPart, FileRead, Front, In, In-flat, IsFit, Kind, List, Listed, Met, None, Option, Pick, Regular, Some, [], ap, are_in_grammar, are_new, arith, at_page, block_count, body_in_slot, body_of, body_with_mode, cases_eq, chain_of, children, children_in, cond, entries_of_kind, eq-eqb, eqb, false, file_of, flat_map, flat_map-In, gathered, index_count, inl, inr, is_sound, length, length-with_part, levels, list_all-each, listed_at, listed_numbers, listed_pages, map, map-In, met_in, ne_eqb, numbers, option_map, page_entries, page_of, pages_in, pages_of, plain, refl, result_map, result_then, root_of, slot_bytes, slot_entries, slot_of, subst, suc, sym, there_or, true, unless_repeated, with_bodies, with_names_apart, with_other, ℕ}
+use Rattle.trio_surveys.proofs.Words.{◌++◌, ◌<◌, ◌∙◌, ◌∷◌, ◌≡◌, ◌≤◌, Body, Bool, Core, Directory, Entry, EntryPart, FileRead, Front, In, In-flat, IsFit, Kind, Link, List, Listed, Met, None, Option, Pick, Regular, Some, [], ap, are_in_grammar, are_new, arith, at_page, block_count, body_in_slot, body_of, body_with_mode, cases_eq, chain_of, children, children_in, cond, entries_of_kind, eq-eqb, eqb, false, file_of, flat_map, flat_map-In, gathered, index_count, inl, inr, is_sound, length, length-with_part, levels, list_all-each, listed_at, listed_numbers, listed_pages, map, map-In, met_in, ne_eqb, numbers, option_map, page_entries, page_of, pages_in, pages_of, plain, refl, result_map, result_then, root_of, slot_bytes, slot_entries, slot_of, subst, suc, sym, there_or, true, unless_repeated, with_bodies, with_names_apart, with_other, ℕ}
 use Rattle.std.specs.Prelude.{Ok, is_ok}
 use Rattle.trio_page.specs.Field.{with_number}
 use Rattle.trio_layout.specs.Entries.{entries_on}
@@ -140,6 +140,8 @@ module _ (core : Core) (fit : IsFit core) (sound : is_sound core plain ≡ true)
 
   entries_now : (m : Met) (f : FileRead) → In m (survey core plain) → file_of core m ≡ Ok f → (kind : Kind) → entries_of_kind core kind f.chain.blocks ≡ Ok f.entries → entries_of_kind now kind f.chain.blocks ≡ Ok (map (picked_entry pick m.ino) f.entries)
   entries_now m f i read Regular e =
+      let n : [] ≡ f.entries = cc e in ap (λ es. Ok (map (picked_entry pick m.ino) es)) n
+  entries_now m f i read Link e =
       let n : [] ≡ f.entries = cc e in ap (λ es. Ok (map (picked_entry pick m.ino) es)) n
   entries_now m f i read Directory e =
       let g = gathers_directory core f.chain.blocks f.entries e in

@@ -1,5 +1,5 @@
 -- The plain survey of a core with the picked bodies at their places is the survey with the pick.
-use Rattle.trio_surveys.proofs.Words.{◌++◌, ◌<◌, ◌∙◌, ◌∷◌, ◌≡◌, Core, Directory, Entry, EntryPart, FileRead, In, In-flat, In-map, In-right, IsFit, Kind, List, Listed, Met, None, Ok, Option, Pick, Regular, Result, SlotRead, Some, [], ap, are_in_grammar, are_new, are_new-before, arith, at_page, block_count, body_in_slot, both, bytes_eq, children, children_in, cond, entries_of_kind, file_of, flat_map, flat_map-In, flat_map-same, gathered, gathered_below, index_count, inl, inr, is_sound, list_all-each, listed_at, listed_numbers, listed_pages, map, met_in, numbers, numbers-flat, option_map, page_entries, page_of, pages_in, pages_of, plain, refl, repeated_name, result_map, result_then, slot_bytes, slot_entries, slot_of, subst, suc, survey, sym, there_or, true, unless_repeated, with_bodies, with_names_apart, with_other, zero, ℕ}
+use Rattle.trio_surveys.proofs.Words.{◌++◌, ◌<◌, ◌∙◌, ◌∷◌, ◌≡◌, Core, Directory, Entry, EntryPart, FileRead, In, In-flat, In-map, In-right, IsFit, Kind, Link, List, Listed, Met, None, Ok, Option, Pick, Regular, Result, SlotRead, Some, [], ap, are_in_grammar, are_new, are_new-before, arith, at_page, block_count, body_in_slot, both, bytes_eq, children, children_in, cond, entries_of_kind, file_of, flat_map, flat_map-In, flat_map-same, gathered, gathered_below, index_count, inl, inr, is_sound, list_all-each, listed_at, listed_numbers, listed_pages, map, met_in, numbers, numbers-flat, option_map, page_entries, page_of, pages_in, pages_of, plain, refl, repeated_name, result_map, result_then, slot_bytes, slot_entries, slot_of, subst, suc, survey, sym, there_or, true, unless_repeated, with_bodies, with_names_apart, with_other, zero, ℕ}
 use Rattle.std.proofs.Common.{◌||◌}
 use Rattle.std.specs.Prelude.{is_ok}
 use Rattle.trio_layout.specs.Entries.{entries_on, place_of, has_name}
@@ -153,6 +153,8 @@ module _ (core : Core) (pick : Pick) (fit : IsFit core) (sound : is_sound core p
 
   entries_put : (m : Met) (f : FileRead) → In m (survey core pick) → file_of core m ≡ Ok f → (kind : Kind) → entries_of_kind core kind f.chain.blocks ≡ Ok f.entries → entries_of_kind (put core pick) kind f.chain.blocks ≡ Ok (map (picked pick m.ino) f.entries)
   entries_put m f i read Regular e =
+      let n : [] ≡ f.entries = cc e in ap (λ es. Ok (map (picked pick m.ino) es)) n
+  entries_put m f i read Link e =
       let n : [] ≡ f.entries = cc e in ap (λ es. Ok (map (picked pick m.ino) es)) n
   entries_put m f i read Directory e =
       let g = gathers_directory core f.chain.blocks f.entries e in

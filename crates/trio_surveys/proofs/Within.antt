@@ -1,5 +1,5 @@
 -- A file that is read as far as its pages are there, and the same file where they all are.
-use Rattle.trio_surveys.proofs.Words.{◌++◌, ◌-◌, ◌∙◌, ◌∷◌, ◌≡◌, Chain, Core, CoreRange, Directory, FileRead, In, In-left, In-right, Index, Kind, List, Met, None, Ok, Option, Regular, Some, [], ap, arith, at_page, block_count, both, chain_from, entries_of_kind, entries_on, eqb, file_within, gathered, index_count, index_of, inl, inr, min, option_and_then, page_entries, page_of, pages_read, refl, result_map, result_map-Ok, result_then, result_then-Ok, subst, suc, sym, there_or, with_index, with_names_apart, zero, ℕ}
+use Rattle.trio_surveys.proofs.Words.{◌++◌, ◌-◌, ◌∙◌, ◌∷◌, ◌≡◌, Chain, Core, CoreRange, Directory, FileRead, In, In-left, In-right, Index, Kind, Link, List, Met, None, Ok, Option, Regular, Some, [], ap, arith, at_page, block_count, both, chain_from, entries_of_kind, entries_on, eqb, file_within, gathered, index_count, index_of, inl, inr, min, option_and_then, page_entries, page_of, pages_read, refl, result_map, result_map-Ok, result_then, result_then-Ok, subst, suc, sym, there_or, with_index, with_names_apart, zero, ℕ}
 use Rattle.trio_layout.specs.Survey.{file_of}
 use Rattle.trio_layout.specs.Within.{chain_within, entries_where, entries_within, index_within}
 use Rattle.trio_surveys.proofs.Local.{reads_from, reads_to}
@@ -43,6 +43,7 @@ gathered_where core (b ∷ bs) h =
 entries_whole : (core : Core) (kind : Kind) (blocks : List ℕ) → ((p : ℕ) → In p blocks → IsThere core p) → entries_within core kind blocks ≡ entries_of_kind core kind blocks
 entries_whole core Regular blocks h = refl
 entries_whole core Directory blocks h = ap (result_then with_names_apart) (gathered_where core blocks h)
+entries_whole core Link blocks h = refl
 
 -- where all pages that it lists are there a file is read whole
 pub file_whole : (core : Core) (m : Met) (f : FileRead) → file_within core m ≡ Ok f → ((p : ℕ) → In p (f.chain.index ++ f.chain.blocks) → (bytes : List ℕ) × (page_of core p ≡ Some bytes)) → file_of core m ≡ Ok f

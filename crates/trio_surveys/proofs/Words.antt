@@ -44,7 +44,7 @@ pub use Rattle.trio_rights.specs.Bundle.{Bundle, bundle_pages, bundle_sheets}
 pub use Rattle.trio_rights.specs.Row.{Row}
 pub use Rattle.trio_rights.specs.Sheets.{Sheet, sheet_numbers, with_pages}
 pub use Rattle.trio_rights.specs.declared.kind.Kind.{Kind}
-pub use Rattle.trio_rights.specs.declared.kind.Kind.TheVariants.{Directory, Regular}
+pub use Rattle.trio_rights.specs.declared.kind.Kind.TheVariants.{Directory, Link, Regular}
 pub use Rattle.trio_rights.specs.declared.rights.Creds.{Creds}
 pub use Rattle.trio_surveys.specs.Reading.{AgreeOn, pages_read, with_other}
 pub use Rattle.trio_surveys.specs.Tree.{Reaches}

@@ -1,7 +1,7 @@
 -- Which pages a survey reads of a file, and cores with other pages.
-use Rattle.std.specs.Prelude.{◌≡◌, ℕ, List, ◌++◌, Option, Ok}
+use Rattle.std.specs.Prelude.{◌≡◌, ℕ, List, ◌++◌, Option, Ok, if◌then◌else◌}
 use Rattle.trio_rights.specs.declared.kind.Kind.{Kind}
-use Rattle.trio_rights.specs.declared.kind.Kind.TheVariants.{Regular, Directory}
+use Rattle.trio_rights.specs.ByKind.{is_directory}
 use Rattle.trio_lists.specs.Lists.{In}
 use Rattle.trio_layout.specs.Core.{Core, page_of}
 use Rattle.trio_layout.specs.Entries.{Listed}
@@ -10,8 +10,7 @@ use Rattle.trio_layout.specs.Accept.{with_bodies}
 
 -- the pages that are read of a file of this kind: its index pages, and a directory's blocks
 abbrev pub pages_read : Kind → FileRead → List ℕ
-pages_read Regular f = f.chain.index
-pages_read Directory f = f.chain.index ++ f.chain.blocks
+pages_read kind f = if is_directory kind then f.chain.index ++ f.chain.blocks else f.chain.index
 
 -- the core with other pages; its root, range and count of inode numbers are the same
 abbrev pub with_other : Core → List (Option (List ℕ)) → Core

@@ -1,7 +1,6 @@
 -- Files whose chain is that of one that was passed. Cited by private functions alone.
-use Rattle.std.specs.Prelude.{◌≡◌, ℕ, ◌<◌, List, Some, Ok, slice_index_or, slice_set}
-use Rattle.trio_rights.specs.declared.kind.Kind.{Kind}
-use Rattle.trio_rights.specs.declared.kind.Kind.TheVariants.{Regular, Directory}
+use Rattle.std.specs.Prelude.{◌≡◌, ℕ, ◌<◌, Bool, true, false, List, Some, Ok, slice_index_or, slice_set}
+use Rattle.trio_rights.specs.ByKind.{is_directory}
 use Rattle.trio_lists.specs.Lists.{In}
 use Rattle.trio_layout.specs.declared.body.Body.{Body}
 use Rattle.trio_layout.specs.declared.range.CoreRange.{CoreRange}
@@ -10,35 +9,35 @@ use Rattle.trio_layout.specs.Core.{Core}
 use Rattle.trio_layout.specs.Survey.{Met, FileRead, file_of}
 use Rattle.trio_survey.specs.declared.again.Heads.{Heads}
 
--- a file of this kind among these whose chain begins at this index page and has so many blocks
-pub record WasPassed (core : Core) (done : List Met) (kind : Kind) (head blocks : ℕ) : Type 0 where
+-- a file among these, a directory or not, whose chain begins at this index page and has so many blocks
+pub record WasPassed (core : Core) (done : List Met) (directory : Bool) (head blocks : ℕ) : Type 0 where
   pub met : Met
   pub file : FileRead
   pub among : In met done
-  pub kind_is : met.kind ≡ kind
+  pub kind_is : is_directory met.kind ≡ directory
   pub read : file_of core met ≡ Ok file
   pub head_is : file.body.head ≡ head
   pub blocks_are : block_count file.body.size ≡ blocks
 
--- where the chains of passed files of a kind begin: by page number, the count of blocks of one, or 0
-abbrev pub KnowsHeads : Core → List Met → Kind → List ℕ → Type 0
-KnowsHeads core done kind heads =
-    (head : ℕ) → 0 < slice_index_or heads head 0 → WasPassed core done kind head (slice_index_or heads head 0)
+-- where the chains of passed directories begin, or those of other files: by page number, the count of blocks of one, or 0
+abbrev pub KnowsHeads : Core → List Met → Bool → List ℕ → Type 0
+KnowsHeads core done directory heads =
+    (head : ℕ) → 0 < slice_index_or heads head 0 → WasPassed core done directory head (slice_index_or heads head 0)
 
-abbrev pub heads_of : Heads → Kind → List ℕ
-heads_of heads Regular = heads.regular.items
-heads_of heads Directory = heads.directory.items
+abbrev pub heads_of : Heads → Bool → List ℕ
+heads_of heads true = heads.directory.items
+heads_of heads false = heads.other.items
 
--- the same for both kinds
+-- the same of directories and of other files
 abbrev pub KnowsAllHeads : Core → List Met → Heads → Type 0
-KnowsAllHeads core done heads = (kind : Kind) → KnowsHeads core done kind (heads_of heads kind)
+KnowsAllHeads core done heads = (directory : Bool) → KnowsHeads core done directory (heads_of heads directory)
 
--- those of the first kind, with one file more, of the second kind
-abbrev pub heads_after : Kind → List ℕ → Kind → Body → List ℕ
-heads_after Regular heads Regular b = slice_set heads b.head (block_count b.size)
-heads_after Regular heads Directory b = heads
-heads_after Directory heads Regular b = heads
-heads_after Directory heads Directory b = slice_set heads b.head (block_count b.size)
+-- those of directories, or of other files, with one file more, a directory or not
+abbrev pub heads_after : Bool → List ℕ → Bool → Body → List ℕ
+heads_after true heads true b = slice_set heads b.head (block_count b.size)
+heads_after true heads false b = heads
+heads_after false heads true b = heads
+heads_after false heads false b = slice_set heads b.head (block_count b.size)
 
 -- the file has this body, and one of the same chain was passed
 pub record IsListedBefore (range : CoreRange) (heads : List ℕ) (m : Met) (b : Body) : Type 0 where

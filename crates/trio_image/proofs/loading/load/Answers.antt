@@ -1,4 +1,4 @@
-use Rattle.trio_image.proofs.Words.{◌≤◌, IsPagesFault, IsWholeImage, LoadFails, ap, err_from_is_err_and, length, rules, subst, sym}
+use Rattle.trio_image.proofs.Words.{◌≤◌, IsPagesFault, IsWholeImage, LoadFails, ap, current_version, err_from_is_err_and, length, rules, subst, sym}
 use Rattle.std.proofs.lemmas.Result.{IfErr-weaker}
 use Rattle.trio_image.proofs.Loads.{file_count, file_whole, first_page_refused, loaded_if, pages_refused}
 use Rattle.trio_image.proofs.loading.load.Goals as goal
@@ -17,7 +17,7 @@ pub from_pages-requires : goal.from_pages-requires
 from_pages-requires g c =
     let file = c.in_ok-read.ensures.file in
     let s = c.in_ok-superblock.superblock in
-    subst (IsWholeImage s) (sym (ap (λ h. h.pages) c.of.ensures)) (file_whole _ c.in_ok-read.read.whole.items c.in_ok-read.read.count s file (c.in_ok-superblock.ensures.superblock file.bytes file.are))
+    subst (IsWholeImage s) (sym (ap (λ h. h.pages) c.of.ensures)) (file_whole current_version _ c.in_ok-read.read.whole.items c.in_ok-read.read.count s file (c.in_ok-superblock.ensures.superblock file.bytes file.are))
 
 pub returns-clause-image : goal.returns-clause-image
 returns-clause-image g c =

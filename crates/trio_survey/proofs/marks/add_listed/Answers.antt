@@ -1,4 +1,4 @@
-use Rattle.trio_survey.proofs.Words.{◌++◌, ◌<◌, ◌∙◌, ◌≡◌, DirEntry, all_below, ap, append_assoc, are_marked, arith, entry_seen, false, get_or, get_or_read, length, map, map_push, met_seen, pick_of, refl, rules, subst, sym, take, take_all, true, vec_len}
+use Rattle.trio_survey.proofs.Words.{◌++◌, ◌<◌, ◌∙◌, ◌≡◌, DirEntry, all_below, append_assoc, are_marked, arith, entry_seen, false, get_or_read, length, map, map_push, met_seen, pick_of, refl, rules, subst, sym, take, take_all, true, vec_len}
 use Rattle.trio_survey.proofs.Adding.{grows_again, grows_first, grows_known, entry_below}
 use Rattle.trio_survey.proofs.Naming.{IsAt, taken}
 use Rattle.trio_survey.proofs.marks.add_listed.Goals as goal

@@ -1,4 +1,4 @@
-use Rattle.trio_survey.proofs.Words.{◌&&◌, ◌+◌, ◌<◌, ◌∙◌, ◌≡◌, ap, are_marked, arith, drop, false, get_or, get_or_read, length, sym, true, vec_len}
+use Rattle.trio_survey.proofs.Words.{◌<◌, ◌∙◌, ◌≡◌, arith, false, get_or, get_or_read, length, sym, true, vec_len}
 use Rattle.trio_survey.proofs.Adding.{entry_below, rest_marked}
 use Rattle.trio_survey.proofs.marks.are_marked.Goals as goal
 

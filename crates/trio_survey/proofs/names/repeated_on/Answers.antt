@@ -1,5 +1,5 @@
-use Rattle.trio_survey.proofs.Words.{◌++◌, ◌+◌, ◌∙◌, ◌≡◌, MarksNames, ap, arith, entry_seen, get_or, length, length-set, map, subst, sym, take, take_all, true}
-use Rattle.trio_survey.proofs.Naming.{IsAt, comes_again, goes_on, is_in, marks_on, stands}
+use Rattle.trio_survey.proofs.Words.{◌++◌, ◌+◌, ◌∙◌, ◌≡◌, MarksNames, ap, arith, entry_seen, length, length-set, map, subst, sym, take, take_all, true}
+use Rattle.trio_survey.proofs.Naming.{IsAt, comes_again, goes_on, is_in, marks_on}
 use Rattle.trio_survey.proofs.names.repeated_on.Goals as goal
 
 pub set-requires : goal.set-requires

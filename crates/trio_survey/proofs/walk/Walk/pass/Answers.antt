@@ -1,6 +1,7 @@
 use Rattle.trio_survey.proofs.Words.{◌++◌, ◌+◌, ◌<◌, ◌∙◌, ◌≡◌, Err, Ok, ap, append_assoc, arith, entries_kept, file_kept, file_of, flat_map, framed, get_or, get_or-map, length, length-map, listing_blocks, map, met_seen, pick_of, sym, take}
 use Rattle.trio_survey.proofs.Fits.{file_within}
 use Rattle.trio_survey.proofs.ListedAgain.{knows_more}
+use Rattle.trio_survey.proofs.OldFiles.{fails_by, known_ok, old_file-fault, old_more, unknown_fails}
 use Rattle.trio_survey.proofs.Roots.{file_rootless}
 use Rattle.trio_survey.proofs.Standing.{file_fails, repeat_more, stands_more}
 use Rattle.trio_survey.proofs.Tables.{met_below, met_some, tabled_after, taken_after}
@@ -15,7 +16,34 @@ returns-in-Err-clause-fault c =
     let inside : c.args.at < length files = omega (arith, length-map walk.files.items met_seen) in
     let at : get_or files c.args.at m ≡ m = get_or-map met_seen walk.files.items c.args.at c.index.result.now m (omega arith) ∙ ap met_seen (sym c.index.ensures) in
     let bad : file_of core m ≡ Err c.in-Err.place = file_rootless core m ∙ sym (rw c.in-Err.is at c.in_ok-file.ensures.file) in
-    rw c.fails.ensures (file_fails core (pick_of c.args.picks.now) c.args.at files walk.met.items walk.used.items walk.repeated m c.in-Err.place c.requires.stands inside at bad)
+    let pick = pick_of c.args.picks.now in
+    let now = file_fails core pick c.args.at files walk.met.items walk.used.items walk.repeated m c.in-Err.place c.requires.stands inside at bad in
+    rw c.leaves_grammar.ensures (fails_by c.args.frame.now.old core pick c.args.at files walk.met.items walk.used.items walk.repeated m c.in-Err.place c.requires.stands inside at c.requires.old now (old_file-fault core m c.in-Err.place bad))
+
+pub returns-in-Some-clause-fault : goal.returns-in-Some-clause-fault
+returns-in-Some-clause-fault c =
+    let core = framed c.args.home.now.pages c.args.frame.now in
+    let walk = c.args.self.now in
+    let files = map met_seen walk.files.items in
+    let m = met_seen c.index.result.now in
+    let inside : c.args.at < length files = omega (arith, length-map walk.files.items met_seen) in
+    let at : get_or files c.args.at m ≡ m = get_or-map met_seen walk.files.items c.args.at c.index.result.now m (omega arith) ∙ ap met_seen (sym c.index.ensures) in
+    let f = file_kept c.args.frame.now.range c.read_pages.new.kept.blocks c.index.result.now.kind c.in-Ok.file in
+    let read : file_of core m ≡ Ok f = file_rootless core m ∙ sym (rw c.in-Ok.is at c.in_ok-file.ensures.file) in
+    rw c.leaves_grammar-in-Some.ensures (unknown_fails c.args.frame.now.old core (pick_of c.args.picks.now) c.args.at files walk.met.items walk.used.items walk.repeated m f c.in-Some.place c.requires.stands inside at c.requires.old read (sym c.unknown-unknown.ensures ∙ c.in-Some.is))
+
+pub returns-clause-old : goal.returns-clause-old
+returns-clause-old c =
+    let core = framed c.args.home.now.pages c.args.frame.now in
+    let walk = c.args.self.now in
+    let files = map met_seen walk.files.items in
+    let m = met_seen c.index.result.now in
+    let inside : c.args.at < length files = omega (arith, length-map walk.files.items met_seen) in
+    let at : get_or files c.args.at m ≡ m = get_or-map met_seen walk.files.items c.args.at c.index.result.now m (omega arith) ∙ ap met_seen (sym c.index.ensures) in
+    let f = file_kept c.args.frame.now.range c.read_pages.new.kept.blocks c.index.result.now.kind c.in-Ok.file in
+    let read : file_of core m ≡ Ok f = file_rootless core m ∙ sym (rw c.in-Ok.is at c.in_ok-file.ensures.file) in
+    rw (taken_after c.args.at files (map met_seen c.add_children.new.files.items) _ m inside at c.in_ok-entry.ensures.grows.added)
+    (old_more c.args.frame.now.old core (take c.args.at files) m c.requires.old (known_ok c.args.frame.now.old core m f read (sym c.unknown-unknown.ensures ∙ c.in_default.is)))
 
 pub enter-requires-clause-some : goal.enter-requires-clause-some
 enter-requires-clause-some c =
@@ -77,7 +105,7 @@ returns-clause-heads c =
     let f = file_kept c.args.frame.now.range c.read_pages.new.kept.blocks c.index.result.now.kind c.in-Ok.file in
     let read : file_of core m ≡ Ok f = file_rootless core m ∙ sym (rw c.in-Ok.is at c.in_ok-file.ensures.file) in
     rw (taken_after c.args.at files (map met_seen c.add_children.new.files.items) _ m inside at c.in_ok-entry.ensures.grows.added)
-    (knows_more core (take c.args.at files) walk.heads c.note.new.self m f read c.note.ensures.regular c.note.ensures.directory c.requires.heads)
+    (knows_more core (take c.args.at files) walk.heads c.note.new.self m f read c.note.ensures.other c.note.ensures.directory c.requires.heads)
 
 pub returns-clause-tables : goal.returns-clause-tables
 returns-clause-tables c =

@@ -20,4 +20,4 @@ returns-clause-says c = λ pages. c.in_ok-none-2.ensures.says pages c.args.frame
 pub returns-clause-heads : goal.returns-clause-heads
 returns-clause-heads c = λ pages.
     let heads = c.in_ok-none.ensures in
-    knows_none (framed pages c.args.frame.now) c.args.frame.now.range.end c.in_ok-none.field-0 heads.regular heads.directory
+    knows_none (framed pages c.args.frame.now) c.args.frame.now.range.end c.in_ok-none.field-0 heads.other heads.directory
