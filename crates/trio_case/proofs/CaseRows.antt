@@ -1,11 +1,12 @@
 -- What a bundle has under a number, and the rows that are copied for it.
-use Rattle.trio_case.proofs.Words.{◌&&◌, ◌++◌, ◌+◌, ◌<◌, ◌||◌, ◌∙◌, ◌∷◌, ◌≡◌, ◌≤◌, Bool, Bundled, CaseShown, CoreRange, Directory, HoldParts, InoParts, IsCase, LentFile, List, None, Numbers, Option, Regular, Row, RowData, Some, Tells, Written, [], and_from, and_parts, ap, are_new, arith, as_row, body_lent, bundle_in, case_in, cases_eq, cases_lt, cond, copied_row, eqb, false, find, get_or, inl, inr, is_among, is_directory, is_some, is_written, length, list_all, list_all-append, list_any, map, nat_le, nat_lt, nat_tests, option_and_then, option_copied, option_map, option_map_or, place_of, refl, row_in, slice_get, subst, suc, sym, tabulated-get, tabulated-length, true, written_in, zero, ℕ}
+use Rattle.trio_case.proofs.Words.{◌&&◌, ◌++◌, ◌+◌, ◌<◌, ◌||◌, ◌∙◌, ◌∷◌, ◌≡◌, ◌≤◌, Bool, Bundled, CaseShown, CoreRange, HoldParts, InoParts, IsCase, LentFile, List, None, Numbers, Option, Row, RowData, Some, Tells, Written, [], and_from, and_parts, ap, are_new, arith, as_row, body_lent, bundle_in, case_in, cases_eq, cases_lt, cond, copied_row, eqb, false, false≢true, find, get_or, inl, inr, is_among, is_directory, is_some, is_written, length, list_all, list_all-append, list_any, map, nat_le, nat_lt, nat_tests, option_and_then, option_copied, option_map, option_map_or, place_of, refl, row_in, slice_get, subst, suc, sym, tabulated-get, tabulated-length, true, written_in, zero, ℕ}
 use Rattle.std.proofs.Common.{Bor, IsTrue, IsSome, IfSome}
 use Rattle.std.specs.Prelude.{is_none}
 use Rattle.std.proofs.lemmas.Bool.{le-leb}
 use Rattle.std.proofs.lemmas.List.{ext_get_or}
 use Rattle.std.proofs.lemmas.List.Folds.{list_any-append}
 use Rattle.trio_rights.specs.declared.kind.Kind.{Kind}
+use Rattle.trio_rights.proofs.KindFacts.{same_kind-true}
 use Rattle.trio_lists.specs.Lists.{tabulated}
 use Rattle.trio_lists.proofs.Marked.{are_new-append}
 use Rattle.trio_lists.proofs.New.{are_new-fewer}
@@ -82,16 +83,23 @@ or_from : (a b : Bool) → a ≡ false → b ≡ false → (a || b) ≡ false
 or_from true b h k = absurd cc
 or_from false b h k = k
 
-other : (kind : Kind) (rows : List (Option Row)) (n p : ℕ) → has_kind kind (row_in rows n) ≡ true → is_directory kind ≡ false → has_kind Regular (row_in rows p) ≡ false → eqb n p ≡ false
-other Directory rows n p a d h = absurd cc
-other Regular rows n p a d h =
+-- the row, if the number has one, is a directory's
+abbrev IsNoLeaf : List (Option Row) → ℕ → Type 0
+IsNoLeaf rows p = (q : Row) → row_in rows p ≡ Some q → is_directory q.kind ≡ true
+
+no_leaf : (kind : Kind) (rows : List (Option Row)) (n : ℕ) (o : Option Row) → row_in rows n ≡ o → has_kind kind o ≡ true → is_directory kind ≡ false → IsNoLeaf rows n → ⊥
+no_leaf kind rows n None e a d h = false≢true a
+no_leaf kind rows n (Some q) e a d h = false≢true (sym d ∙ ap is_directory (same_kind-true kind q.kind a) ∙ h q e)
+
+other : (kind : Kind) (rows : List (Option Row)) (n p : ℕ) → has_kind kind (row_in rows n) ≡ true → is_directory kind ≡ false → IsNoLeaf rows p → eqb n p ≡ false
+other kind rows n p a d h =
     elim (cases_eq n p) [
-      | inl same ↦ (let both : true ≡ false = sym a ∙ ap (λ i. has_kind Regular (row_in rows i)) same ∙ h in absurd cc)
+      | inl same ↦ absurd (no_leaf kind rows n (row_in rows n) refl a d (subst (IsNoLeaf rows) (sym same) h))
       | inr differ ↦ grind (arith, nat_tests)
     ]
 
--- a regular file is no row's directory
-no_child : (fs : List LentFile) (rows : List (Option Row)) (p : ℕ) → list_all (λ f. has_kind f.stands.kind (row_in rows f.stands.ino)) fs ≡ true → list_any (λ f. is_directory f.stands.kind) fs ≡ false → has_kind Regular (row_in rows p) ≡ false → is_among p (map (λ (f : LentFile). f.stands.ino) fs) ≡ false
+-- what is no directory is no row's directory
+no_child : (fs : List LentFile) (rows : List (Option Row)) (p : ℕ) → list_all (λ f. has_kind f.stands.kind (row_in rows f.stands.ino)) fs ≡ true → list_any (λ f. is_directory f.stands.kind) fs ≡ false → IsNoLeaf rows p → is_among p (map (λ (f : LentFile). f.stands.ino) fs) ≡ false
 no_child [] rows p all none h = refl
 no_child (f ∷ fs) rows p all none h =
     let a = and_parts (has_kind f.stands.kind (row_in rows f.stands.ino)) (list_all (λ g. has_kind g.stands.kind (row_in rows g.stands.ino)) fs) all in
@@ -106,7 +114,7 @@ last_false false false z h = sym h
 own_row : (b : Bundled) (rows : List (Option Row)) (n : ℕ) (o : Option Row) → row_in rows n ≡ o → list_all (λ f. has_kind f.stands.kind (row_in rows f.stands.ino)) b.writes ≡ true → list_any (λ f. is_directory f.stands.kind) b.writes ≡ false → HasDirectoryParents rows → cond (is_among n (lent_numbers b)) o None ≡ copied_row (bundle_in b) n o
 own_row b rows n None e all none parents = same_cond (is_among n (lent_numbers b)) None refl
 own_row b rows n (Some r) e all none parents =
-    let child : is_written (bundle_in b) r.parent ≡ false = written_is b.writes r.parent ∙ no_child b.writes rows r.parent all none (parents n r e) in
+    let child : is_written (bundle_in b) r.parent ≡ false = written_is b.writes r.parent ∙ no_child b.writes rows r.parent all none (λ q. parents n r q e) in
     let own : is_among n (lent_numbers b) ≡ (is_written (bundle_in b) n || is_among n (bundle_in b).holds) =
     list_any-append (λ x. eqb x n) (map (λ (f : LentFile). f.stands.ino) b.writes) (map (λ (h : HoldParts). h.ino) b.holds) ∙ ap (λ x. x || is_among n (bundle_in b).holds) (sym (written_is b.writes n)) in
     ap (λ x. cond x (Some r) None) (own ∙ last_false (is_written (bundle_in b) n) (is_among n (bundle_in b).holds) (is_written (bundle_in b) r.parent) child)

@@ -42,6 +42,7 @@ pub use Rattle.trio_lists.proofs.Sorting.{sorted_in}
 pub use Rattle.trio_lists.proofs.Tabulated.{tabulated-get, tabulated-length}
 pub use Rattle.trio_lists.specs.Lists.{In, are_new, both, gathered, gathered_below, is_among, result_map}
 pub use Rattle.trio_lists.specs.Sorting.{inserted_by, sorted_by}
+pub use Rattle.trio_rights.specs.ByKind.{is_directory}
 pub use Rattle.trio_rights.specs.Bundle.{Written, bundle_pages, bundle_sheets, is_written}
 pub use Rattle.trio_rights.specs.Row.{Row, row_in}
 pub use Rattle.trio_rights.specs.Sheets.{Sheet, sheet_numbers, with_pages}
@@ -50,7 +51,7 @@ pub use Rattle.trio_tables.specs.Row.{as_row}
 pub use Rattle.trio_tables.specs.declared.row.Row.{Row as RowData}
 pub use Rattle.trio_case.specs.Cases.{CaseShown, IsCase, case_in}
 pub use Rattle.trio_case.specs.Listed.{entry_seen}
-pub use Rattle.trio_case.specs.Memory.{is_directory, writes_directory}
+pub use Rattle.trio_case.specs.Memory.{writes_directory}
 pub use Rattle.trio_case.specs.Order.{AreRising, in_order, place_of}
 pub use Rattle.trio_case.specs.Places.{bytes_at, number_at}
 pub use Rattle.trio_case.specs.Reading.{AreNamed, listed_seen}

@@ -4,7 +4,7 @@ use Rattle.std.specs.List.{list_all}
 use Rattle.std.specs.Option.{option_map_or}
 use Rattle.trio_rights.specs.Row.{Row, row_in}
 use Rattle.trio_rights.specs.Bundle.{bundle_pages, is_written}
-use Rattle.trio_rights.specs.declared.kind.Kind.TheVariants.{Regular}
+use Rattle.trio_rights.specs.ByKind.{is_directory}
 use Rattle.trio_rights.specs.declared.rights.Creds.{Creds}
 use Rattle.trio_rights.specs.declared.rights.LibNo.{LibNo}
 use Rattle.trio_lists.specs.Lists.{are_new}
@@ -49,9 +49,10 @@ lent_numbers b = map (λ f. f.stands.ino) b.writes ++ map (λ h. h.ino) b.holds
 abbrev pub is_free_number : List (Option Row) → ℕ → ℕ → Bool
 is_free_number rows inodes n = nat_lt 0 n && nat_le n inodes && is_none (row_in rows n)
 
--- no row names a regular file as the directory that lists its file
+-- each live file that a row names as the parent of its own is a directory
 abbrev pub HasDirectoryParents : List (Option Row) → Type 0
-HasDirectoryParents rows = (n : ℕ) (r : Row) → row_in rows n ≡ Some r → has_kind Regular (row_in rows r.parent) ≡ false
+HasDirectoryParents rows =
+    (n : ℕ) (r p : Row) → row_in rows n ≡ Some r → row_in rows r.parent ≡ Some p → is_directory p.kind ≡ true
 
 -- the row of a file that stands in a directory that the bundle writes
 abbrev pub is_child : Bundled → Option Row → Bool

@@ -1,8 +1,7 @@
 -- The memory of a case, by how much its bundle has.
-use Rattle.std.specs.Prelude.{ℕ, ◌≡◌, ◌≤◌, ◌+◌, Bool, true, false, length}
+use Rattle.std.specs.Prelude.{ℕ, ◌≡◌, ◌≤◌, ◌+◌, Bool, true, length}
 use Rattle.std.specs.List.{list_any}
-use Rattle.trio_rights.specs.declared.kind.Kind.{Kind}
-use Rattle.trio_rights.specs.declared.kind.Kind.TheVariants.{Regular, Directory}
+use Rattle.trio_rights.specs.ByKind.{is_directory}
 use Rattle.trio_rights.specs.Bundle.{bundle_pages}
 use Rattle.trio_lease.specs.Bundles.{Bundled}
 use Rattle.trio_lease.specs.Views.{bundle_in}
@@ -13,11 +12,6 @@ use Rattle.trio_case.specs.inner.Memory.{HasNumbersMemory, HasRowsFor}
 -- how many write leases, holds and handed-in numbers a bundle has
 abbrev pub value_count : Bundled → ℕ
 value_count b = length b.writes + length b.holds + length b.inodes
-
--- the kind is a directory's
-abbrev pub is_directory : Kind → Bool
-is_directory Regular = false
-is_directory Directory = true
 
 -- whether a bundle writes a directory
 abbrev pub writes_directory : Bundled → Bool

@@ -1,9 +1,9 @@
 -- What stands in the room of a judgement.
-use Rattle.std.specs.Prelude.{ℕ, ◌≡◌, ◌+◌, ◌*◌, ◌<◌, ◌≤◌, Bool, true, not, ⊤, List, [], map, length, take, drop, count_by, Option, None, Some, is_some, slice_get, vec_len, vec_capacity, MatchOption, MatchResult, Result, Ok, Err}
+use Rattle.std.specs.Prelude.{ℕ, ◌≡◌, ◌+◌, ◌*◌, ◌<◌, ◌≤◌, Bool, true, not, if◌then◌else◌, ⊤, List, [], map, length, take, drop, count_by, Option, None, Some, is_some, slice_get, vec_len, vec_capacity, MatchOption, MatchResult, Result, Ok, Err}
 use Rattle.std.specs.List.{flat_map}
 use Rattle.std.specs.Option.{option_and_then, option_map_or}
 use Rattle.trio_rights.specs.declared.kind.Kind.{Kind}
-use Rattle.trio_rights.specs.declared.kind.Kind.TheVariants.{Regular, Directory}
+use Rattle.trio_rights.specs.ByKind.{is_directory}
 use Rattle.trio_rights.specs.Bundle.{bundle_pages}
 use Rattle.trio_lists.specs.Lists.{In}
 use Rattle.trio_lease.specs.Bundles.{Bundled}
@@ -48,10 +48,9 @@ abbrev pub entries_kept : KeptPages → ℕ → List Listed
 entries_kept kept page =
     option_map_or (entries_said kept.names.names kept.entries.items) (option_and_then (λ p. p.entries) (kept_page kept page)) []
 
--- the entries of the blocks of the file that was read last; a regular file has none
+-- the entries of the blocks of the file that was read last; what is no directory has none
 abbrev pub entries_in_room : PageRoom → Kind → List Listed
-entries_in_room room Regular = []
-entries_in_room room Directory = flat_map (entries_kept room.kept) room.blocks.items
+entries_in_room room kind = if is_directory kind then flat_map (entries_kept room.kept) room.blocks.items else []
 
 -- the file that was read last, of this kind and body
 abbrev pub file_in_room : PageRoom → Kind → Body → FileRead

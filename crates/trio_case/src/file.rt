@@ -1,7 +1,7 @@
 //! One file read as far as its pages are the bundle's.
 
 ghost use Rattle.std.specs.Prelude.{◌≡◌, ◌+◌, ◌≤◌, OnOk, true};
-ghost use Rattle.trio_rights.specs.declared.kind.Kind.TheVariants.{Directory};
+ghost use Rattle.trio_rights.specs.ByKind.{is_directory};
 ghost use Rattle.trio_layout.specs.Case.{file_in};
 ghost use Rattle.trio_layout.specs.Survey.{Met};
 ghost use Rattle.trio_case.specs.Cases.{case_in};
@@ -35,7 +35,7 @@ pub fn read_file(
     reads: &mut Reads,
 ) -> Result<Body, Location>
     requires room { Keeps case.now room.old }
-    requires lists { kind ≡ Directory → writes_directory case.now.bundle ≡ true }
+    requires lists { is_directory kind ≡ true → writes_directory case.now.bundle ≡ true }
     ensures file { (m : Met) → m.kind ≡ kind → m.body ≡ body.now
         → result_map (file_in_room room.new kind) result ≡ file_in (case_in case.now) m }
     ensures room { Keeps case.now room.new }
@@ -48,7 +48,7 @@ pub fn read_file(
     if let Err(page) = read_chain(case, room, &body, reads) {
         return Err(Location { page, slot: 0 });
     }
-    if kind == Kind::Directory {
+    if kind.is_directory() {
         if let Err(place) = read_entries(case, &mut room.kept, &room.blocks, reads) {
             return Err(place);
         }

@@ -6,7 +6,6 @@ ghost use Rattle.trio_case.specs.Memory.{size_of, value_count, writes_directory}
 use crate::kept::page_count;
 use trio_lease::Bundle;
 use trio_page::NoMemory;
-use trio_rights::Kind;
 
 /// How much a bundle has at most.
 #[derive(Clone, Copy)]
@@ -93,7 +92,7 @@ pub(crate) fn writes_directory(bundle: &Bundle) -> bool
     ensures { result ≡ writes_directory bundle.now }
 {
     let writes = bundle.writes();
-    writes.iter().any(|lease| lease.kind() == Kind::Directory)
+    writes.iter().any(|lease| lease.kind().is_directory())
 }
 
 /// Over how many inode numbers the judgement of a bundle is to have a table: over all of an image's, with

@@ -1,14 +1,12 @@
 -- All rows one at a time, and the rule.
-use Rattle.trio_edges.proofs.Words.{◌<◌, ◌∙◌, ◌≡◌, In, In-map, ListedFile, Some, [], and_parts, ap, arith, as_row, climbs_clear, comes_to_root, eqb, false, get_or, inr, is_among, is_clear, is_listed, is_regular, length, list_all, map, nat_tests, not, option_map, refl, row_in, stays_listed, sym, true, ℕ}
+use Rattle.trio_edges.proofs.Words.{◌<◌, ◌∙◌, ◌≡◌, In, In-map, ListedFile, Some, [], and_parts, ap, arith, as_row, climbs_clear, comes_to_root, eqb, false, get_or, inr, is_among, is_clear, is_listed, length, list_all, map, nat_tests, not, option_map, refl, row_in, stays_listed, sym, true, ℕ}
 use Rattle.std.proofs.Common.{◌≤◌, ◌+◌, ◌-◌, ltb, zero, suc, cond, Bool, ◌&&◌, ◌||◌, List, ◌∷◌, Option, None, is_some, inl}
 use Rattle.std.specs.List.{find, list_any}
 use Rattle.std.proofs.lemmas.List.{get_or_past}
 use Rattle.std.proofs.lemmas.Bool.{cases_Bool, cases_eq, and_left, and_right, and_from, or_left, or_right, false≢true}
-use Rattle.trio_rights.specs.declared.kind.Kind.{Kind}
-use Rattle.trio_rights.specs.declared.kind.Kind.TheVariants.{Regular, Directory}
-use Rattle.trio_rights.specs.Kind.{same_kind}
+use Rattle.trio_rights.specs.ByKind.{is_directory}
 use Rattle.trio_lists.proofs.Members.{In-is_among, list_all-each, list_all-In}
-use Rattle.trio_lists.proofs.Filters.{list_any-In}
+use Rattle.trio_lists.proofs.Filters.{In-list_any, list_any-In, list_any-map}
 use Rattle.trio_layout.specs.Allowed.{all_up_to}
 use Rattle.trio_rights.specs.Row.{Row, is_child}
 use Rattle.trio_layout.specs.Listing.{Listing, ListedEntry}
@@ -16,7 +14,7 @@ use Rattle.trio_layout.specs.Edges.{has_file, keeps_children, leaves_none, meets
 use Rattle.trio_layout.specs.Broken.{BreaksEdges}
 use Rattle.trio_edges.specs.inner.Steps.{drops_parent, IsLost}
 use Rattle.trio_case.specs.declared.listing.ListedFile.{ListedFile as FileData}
-use Rattle.trio_edges.specs.Leaves.{RegularFilesAreLeaves}
+use Rattle.trio_edges.specs.Leaves.{DataFilesAreLeaves}
 
 all_up : (p : ℕ → Bool) (n : ℕ) → ((k : ℕ) → p k ≡ true) → all_up_to p n ≡ true
 all_up p zero h = refl
@@ -167,37 +165,40 @@ pub lost_breaks : (l : Listing) (rows : List (Option Row)) (ino : ℕ) → IsLos
 lost_breaks l rows ino (inl h) = breaks_not l rows ino (inl h)
 lost_breaks l rows ino (inr h) = breaks_not l rows ino (inr (inl h))
 
--- ---- no file is held, and each judged file is regular
+-- ---- no file is held, and no judged file is a directory
 
-regular-is : (k : Kind) → same_kind k Regular ≡ true → k ≡ Regular
-regular-is Regular h = refl
-regular-is Directory h = absurd (false≢true h)
+-- none of these files is a directory
+abbrev AreData : List ListedFile → Type 0
+AreData fs = list_any (λ (f : ListedFile). is_directory f.row.kind) fs ≡ false
 
 -- then no row names a judged file for its parent
-no_parent : (l : Listing) (rows : List (Option Row)) (n : ℕ) (r : Row) → RegularFilesAreLeaves l rows → list_all is_regular (map (λ (f : ListedFile). f.row) l.files) ≡ true → row_in rows n ≡ Some r → has_file l r.parent ≡ true → ⊥
-no_parent l rows n r leaves all here has =
+no_parent : (l : Listing) (rows : List (Option Row)) (n : ℕ) (r : Row) → DataFilesAreLeaves l rows → AreData l.files → row_in rows n ≡ Some r → has_file l r.parent ≡ true → ⊥
+no_parent l rows n r leaves none here has =
     let found = list_any-In (λ (f : ListedFile). eqb f.ino r.parent) l.files has in
     let f : ListedFile = found.0 in
-    let regular : f.row.kind ≡ Regular = regular-is f.row.kind (list_all-In is_regular f.row (map (λ (f : ListedFile). f.row) l.files) all (In-map (λ (f : ListedFile). f.row) f l.files found.1)) in
+    let plain : is_directory f.row.kind ≡ false = elim (cases_Bool (is_directory f.row.kind)) [
+      | inl lists ↦ absurd (false≢true (sym none ∙ In-list_any (λ (x : ListedFile). is_directory x.row.kind) f l.files found.1 lists))
+      | inr not_one ↦ not_one
+    ] in
     let same : f.ino ≡ r.parent = let e = found.2 in grind (arith, nat_tests, e) in
     let child : is_child f.ino (row_in rows n) ≡ true = let e : eqb r.parent f.ino ≡ true = grind (arith, nat_tests) in ap (is_child f.ino) here ∙ e in
-    false≢true (sym (leaves f found.1 regular n) ∙ child)
+    false≢true (sym (leaves f found.1 plain n) ∙ child)
 
-plain_row : (l : Listing) (rows : List (Option Row)) (n : ℕ) (o : Option Row) → row_in rows n ≡ o → l.held ≡ [] → RegularFilesAreLeaves l rows → list_all is_regular (map (λ (f : ListedFile). f.row) l.files) ≡ true → (stays_listed l n o && not (drops_parent l o)) ≡ true
-plain_row l rows n None here none leaves all = refl
-plain_row l rows n (Some r) here none leaves all =
+plain_row : (l : Listing) (rows : List (Option Row)) (n : ℕ) (o : Option Row) → row_in rows n ≡ o → l.held ≡ [] → DataFilesAreLeaves l rows → AreData l.files → (stays_listed l n o && not (drops_parent l o)) ≡ true
+plain_row l rows n None here none leaves data_files = refl
+plain_row l rows n (Some r) here none leaves data_files =
     let has : has_file l r.parent ≡ false = elim (cases_Bool (has_file l r.parent)) [
-      | inl has ↦ absurd (no_parent l rows n r leaves all here has)
+      | inl has ↦ absurd (no_parent l rows n r leaves data_files here has)
       | inr other ↦ other
     ] in
     rw (has, none) refl
 
-pub plain_clear : (l : Listing) (rows : List (Option Row)) → l.held ≡ [] → RegularFilesAreLeaves l rows → list_all is_regular (map (λ (f : ListedFile). f.row) l.files) ≡ true → (n : ℕ) → is_clear l rows n ≡ true
-plain_clear l rows none leaves all = λ n. plain_row l rows n (row_in rows n) refl none leaves all
+pub plain_clear : (l : Listing) (rows : List (Option Row)) → l.held ≡ [] → DataFilesAreLeaves l rows → AreData l.files → (n : ℕ) → is_clear l rows n ≡ true
+plain_clear l rows none leaves data_files = λ n. plain_row l rows n (row_in rows n) refl none leaves data_files
 
-pub regular-seen : (fs : List FileData) (rs : List Row) → map (λ (f : FileData). as_row f.row) fs ≡ rs → list_all is_regular rs ≡ list_all (λ (f : FileData). is_regular (as_row f.row)) fs
-regular-seen fs rs e = ap (list_all is_regular) (sym e) ∙ go fs
-  where
-    go : (fs : List FileData) → list_all is_regular (map (λ (f : FileData). as_row f.row) fs) ≡ list_all (λ (f : FileData). is_regular (as_row f.row)) fs
-    go [] = refl
-    go (f ∷ fs) = ap (λ b. is_regular (as_row f.row) && b) (go fs)
+-- whether a directory is among the files, in the words of the listing
+pub directory-seen : (fs : List FileData) (ls : List ListedFile) → map (λ (f : FileData). as_row f.row) fs ≡ map (λ (f : ListedFile). f.row) ls → list_any (λ (f : ListedFile). is_directory f.row.kind) ls ≡ list_any (λ (f : FileData). is_directory f.row.kind) fs
+directory-seen fs ls e =
+    sym (list_any-map (λ (f : ListedFile). f.row) (λ (r : Row). is_directory r.kind) ls)
+    ∙ ap (list_any (λ (r : Row). is_directory r.kind)) (sym e)
+    ∙ list_any-map (λ (f : FileData). as_row f.row) (λ (r : Row). is_directory r.kind) fs

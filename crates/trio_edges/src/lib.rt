@@ -3,27 +3,27 @@
 #![tactic(auto)]
 
 ghost use Rattle.std.specs.Prelude.{◌≡◌, ℕ, Some, IfSome, IfNone, IsTrue, IsFalse, length, not, true};
-ghost use Rattle.std.specs.List.{list_all};
+ghost use Rattle.std.specs.List.{list_any};
+ghost use Rattle.trio_rights.specs.ByKind.{is_directory};
 ghost use Rattle.trio_tables.specs.Row.{as_row};
 ghost use Rattle.trio_layout.specs.Broken.{BreaksEdges};
 ghost use Rattle.trio_layout.specs.Edges.{climbs_clear, comes_to_root, meets_edges, proposed_parent, stays_listed};
 ghost use Rattle.trio_case.specs.Listed.{entry_seen};
-ghost use Rattle.trio_edges.specs.Leaves.{RegularFilesAreLeaves};
-ghost use Rattle.trio_edges.specs.inner.Steps.{drops_parent, is_clear, is_regular, IsLost};
+ghost use Rattle.trio_edges.specs.Leaves.{DataFilesAreLeaves};
+ghost use Rattle.trio_edges.specs.inner.Steps.{drops_parent, is_clear, IsLost};
 
 use trio_case::{ListedEntry, ListedFile, Listing};
-use trio_rights::Kind;
 use trio_tables::{Row, Shadow};
 
 /// A number at which the rule fails, over the rows of the image; `None` exactly where it holds.
 ///
-/// No row names a judged regular file for its parent: those of an image that verifies don't.
+/// No row names a judged file for its parent that is no directory: those of an image that verifies don't.
 ///
 /// It takes no memory. The rows are gone over only where a file is held or a judged file is a
 /// directory, and then once; beside that there is one pass over the entries, and one climb for each
 /// held directory that an entry lists at another place.
 pub fn edges(listing: &Listing, rows: &Shadow) -> Option<u32>
-    requires { RegularFilesAreLeaves listing.now.listing rows.now }
+    requires { DataFilesAreLeaves listing.now.listing rows.now }
     ensures holds { IfNone result (IsTrue (meets_edges listing.now.listing rows.now)) }
     ensures fails { IfSome result (BreaksEdges listing.now.listing rows.now) }
     ensures broken { IfSome result (λ _. IsFalse (meets_edges listing.now.listing rows.now)) }
@@ -42,20 +42,20 @@ pub fn edges(listing: &Listing, rows: &Shadow) -> Option<u32>
 // a recorded child that is lost, or a held file that is dropped over a recorded child; the rows are
 // gone over only where there may be one
 fn lost(listing: &Listing, rows: &Shadow) -> Option<u32>
-    requires { RegularFilesAreLeaves listing.now.listing rows.now }
+    requires { DataFilesAreLeaves listing.now.listing rows.now }
     ensures none { IfNone result ((n : ℕ) → is_clear listing.now.listing rows.now n ≡ true) }
     ensures some { IfSome result (IsLost listing.now.listing rows.now) }
 {
-    if listing.held().is_empty() && are_regular(listing.files()) {
+    if listing.held().is_empty() && !have_directory(listing.files()) {
         return None;
     }
     lost_child(listing, rows)
 }
 
-fn are_regular(files: &[ListedFile]) -> bool
-    ensures { result ≡ list_all (λ f. is_regular (as_row f.row)) files.now }
+fn have_directory(files: &[ListedFile]) -> bool
+    ensures { result ≡ list_any (λ f. is_directory f.row.kind) files.now }
 {
-    files.iter().all(|file| file.row.kind == Kind::Regular)
+    files.iter().any(|file| file.row.kind.is_directory())
 }
 
 // a recorded child that is lost, or a held file that is dropped over a recorded child
@@ -97,7 +97,7 @@ fn comes_to_root(listing: &Listing, rows: &Shadow, entry: &ListedEntry) -> bool
         return true;
     }
     match rows.row(entry.ino) {
-        Some(row) if row.kind == Kind::Directory => {
+        Some(row) if row.kind.is_directory() => {
             let parent = proposed_parent(listing, rows, entry.ino);
             climbs_clear(listing, rows, entry.ino, parent)
         }

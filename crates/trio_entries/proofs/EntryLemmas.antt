@@ -1,5 +1,5 @@
 -- What the entry of a judged directory tells, by its slot.
-use Rattle.trio_entries.proofs.Words.{◌&&◌, ◌∙◌, ◌≡◌, ◌≤◌, Bad, Bool, Case, Empty, Entry, EntryData, EntryPart, IsReadable, List, ListedEntry, Listing, None, Notes, Option, Regular, Row, [], and_parts, ap, arith, bytes_eq, cond, entry_at, entry_fits, entry_name, entry_size, false, get_or, is_untold, length, noted_name, option_map, option_map_or, refl, row_after, slot_bytes, sym, take, told_entry, told_row, true, ℕ}
+use Rattle.trio_entries.proofs.Words.{◌&&◌, ◌∙◌, ◌≡◌, ◌≤◌, Bad, Bool, Case, Empty, Entry, EntryData, EntryPart, IsReadable, List, ListedEntry, Listing, None, Notes, Option, Regular, Row, [], and_parts, ap, arith, bytes_eq, cond, entry_at, entry_fits, entry_guard, entry_name, entry_size, false, get_or, is_untold, length, noted_name, option_map, option_map_or, refl, row_after, slot_bytes, sym, take, told_entry, told_row, true, ℕ}
 use Rattle.std.proofs.Common.{◌==◌, not}
 use Rattle.std.specs.Prelude.{slice_index}
 use Rattle.std.proofs.lemmas.List.{get_or-take}
@@ -52,10 +52,12 @@ untold_by_slot c notes e slot name is named =
 
 pub tells_none : (c : Case) (l : Listing) (notes : Notes) (e : ListedEntry) → is_untold c notes e ≡ true → None ≡ told_entry c l notes e
 tells_none c l notes e untold =
-    sym (ap (λ t. cond t None (option_map (told_row c.bundle e.ino false (entry_name c e) (entry_size c notes e)) (row_after l c.rows e.ino))) untold)
+    sym (ap (λ t. cond t None (option_map (told_row c.bundle e.ino false (entry_name c e) (entry_size c notes e) (entry_guard c notes e)) (row_after l c.rows e.ino))) untold)
 
-pub tells_row : (c : Case) (l : Listing) (notes : Notes) (e : ListedEntry) (name : List ℕ) (size : ℕ) (o : Option Row) → name ≡ entry_name c e → is_untold c notes e ≡ false → size ≡ entry_size c notes e → o ≡ row_after l c.rows e.ino → option_map (told_row c.bundle e.ino false name size) o ≡ told_entry c l notes e
-tells_row c l notes e name size o named told sized is =
-    ap (λ n. option_map (told_row c.bundle e.ino false n size) o) named ∙ ap (λ n. option_map (told_row c.bundle e.ino false (entry_name c e) n) o) sized
-    ∙ ap (option_map (told_row c.bundle e.ino false (entry_name c e) (entry_size c notes e))) is
-    ∙ sym (ap (λ t. cond t None (option_map (told_row c.bundle e.ino false (entry_name c e) (entry_size c notes e)) (row_after l c.rows e.ino))) told)
+pub tells_row : (c : Case) (l : Listing) (notes : Notes) (e : ListedEntry) (name : List ℕ) (size : ℕ) (guarded : Bool) (o : Option Row) → name ≡ entry_name c e → is_untold c notes e ≡ false → size ≡ entry_size c notes e → guarded ≡ entry_guard c notes e → o ≡ row_after l c.rows e.ino → option_map (told_row c.bundle e.ino false name size guarded) o ≡ told_entry c l notes e
+tells_row c l notes e name size guarded o named told sized guards is =
+    ap (λ n. option_map (told_row c.bundle e.ino false n size guarded) o) named
+    ∙ ap (λ n. option_map (told_row c.bundle e.ino false (entry_name c e) n guarded) o) sized
+    ∙ ap (λ g. option_map (told_row c.bundle e.ino false (entry_name c e) (entry_size c notes e) g) o) guards
+    ∙ ap (option_map (told_row c.bundle e.ino false (entry_name c e) (entry_size c notes e) (entry_guard c notes e))) is
+    ∙ sym (ap (λ t. cond t None (option_map (told_row c.bundle e.ino false (entry_name c e) (entry_size c notes e) (entry_guard c notes e)) (row_after l c.rows e.ino))) told)

@@ -1,5 +1,6 @@
 -- What a release tells of a file, by what was found of it.
-use Rattle.trio_entries.proofs.Words.{◌&&◌, ◌∙◌, ◌∷◌, ◌≡◌, Bad, Bool, Bundled, Empty, Entry, EntryPart, LentFile, List, ListedEntry, ListedFile, Listing, None, Option, Row, Some, Written, [], ap, bundle_in, bytes_eq, cond, entry_at, entry_fits, eqb, false, find, is_among, is_listed, is_some, map, option_and_then, option_map, option_map_or, place_of, refl, row_after, row_in, size_in, slice_get, suc, sym, take, true, written_in, written_size, zero, ℕ}
+use Rattle.trio_entries.proofs.Words.{◌&&◌, ◌∙◌, ◌∷◌, ◌≡◌, Bad, Bool, Bundled, Empty, Entry, EntryPart, LentFile, List, ListedEntry, ListedFile, Listing, None, Option, Row, Some, Written, [], ap, bundle_in, bytes_eq, cond, entry_at, entry_fits, eqb, false, find, is_among, is_listed, is_some, map, option_and_then, option_map, option_map_or, place_of, refl, row_after, row_in, size_in, slice_get, suc, sym, take, true, written_guard, written_in, written_size, zero, ℕ}
+use Rattle.trio_layout.specs.Body.{guard_in}
 use Rattle.trio_layout.specs.Slot.{entry_bytes, slot_of}
 use Rattle.trio_layout.specs.Tables.{placed_row}
 use Rattle.trio_entries.proofs.Finding.{find-any, find-map, place_found}
@@ -59,12 +60,20 @@ entry_is inodes bytes e h = by (eqb (entry_at bytes).ino 0) (bytes_eq (take 192 
     by false true h = cc
     by false false h = absurd cc
 
--- the size that the lease of a file says
-pub written_size_is : (b : Bundled) (n : ℕ) → written_size (bundle_in b) n ≡ option_map (λ (f : LentFile). size_in f.stands.body) (find (λ (f : LentFile). eqb f.stands.ino n) b.writes)
-written_size_is b n =
-    ap (option_map (λ (w : Written). size_in w.body)) (find-map (λ (f : LentFile). written_in f.stands) (λ (w : Written). eqb w.ino n) b.writes)
+-- what the lease of a file says
+written_says : {X : Type 0} (says : List ℕ → X) (b : Bundled) (n : ℕ) → option_map (λ (w : Written). says w.body) (find (λ (w : Written). eqb w.ino n) (bundle_in b).writes) ≡ option_map (λ (f : LentFile). says f.stands.body) (find (λ (f : LentFile). eqb f.stands.ino n) b.writes)
+written_says says b n =
+    ap (option_map (λ (w : Written). says w.body)) (find-map (λ (f : LentFile). written_in f.stands) (λ (w : Written). eqb w.ino n) b.writes)
     ∙ twice (find (λ (f : LentFile). eqb f.stands.ino n) b.writes)
   where
-    twice : (o : Option LentFile) → option_map (λ (w : Written). size_in w.body) (option_map (λ (f : LentFile). written_in f.stands) o) ≡ option_map (λ (f : LentFile). size_in f.stands.body) o
+    twice : (o : Option LentFile) → option_map (λ (w : Written). says w.body) (option_map (λ (f : LentFile). written_in f.stands) o) ≡ option_map (λ (f : LentFile). says f.stands.body) o
     twice None = refl
     twice (Some f) = refl
+
+-- its size
+pub written_size_is : (b : Bundled) (n : ℕ) → written_size (bundle_in b) n ≡ option_map (λ (f : LentFile). size_in f.stands.body) (find (λ (f : LentFile). eqb f.stands.ino n) b.writes)
+written_size_is b n = written_says size_in b n
+
+-- and its guard
+pub written_guard_is : (b : Bundled) (n : ℕ) → written_guard (bundle_in b) n ≡ option_map (λ (f : LentFile). guard_in f.stands.body) (find (λ (f : LentFile). eqb f.stands.ino n) b.writes)
+written_guard_is b n = written_says guard_in b n

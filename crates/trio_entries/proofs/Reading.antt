@@ -1,6 +1,6 @@
 -- The entries of a listing stand in slots of the bundle's pages.
-use Rattle.trio_entries.proofs.Words.{◌<◌, ◌∙◌, ◌∷◌, ◌≡◌, Bad, Case, Core, Directory, Empty, Entry, Err, FileRead, In, In-cases, IsReadable, Kind, List, ListedEntry, Location, Met, None, Ok, Option, Regular, Result, Some, [], ap, arith, bundle_core, children_in, entries_in, entry_listed, flat_map-In, inl, inr, judged_entries, listing, map-In, page_of, plain, refl, slot_bytes, slot_of, subst, suc, sym, zero, ℕ}
-use Rattle.trio_lists.specs.Lists.{gathered, gathered_below}
+use Rattle.trio_entries.proofs.Words.{◌<◌, ◌∙◌, ◌∷◌, ◌≡◌, Bad, Bool, Case, Core, Empty, Entry, Err, FileRead, In, In-cases, IsReadable, Kind, List, ListedEntry, Location, Met, None, Ok, Option, Result, Some, [], ap, arith, bundle_core, children_in, cond, entries_in, entry_listed, false, flat_map-In, inl, inr, is_directory, judged_entries, listing, map-In, page_of, plain, refl, slot_bytes, slot_of, subst, suc, sym, true, zero, ℕ}
+use Rattle.trio_lists.specs.Lists.{gathered, gathered_below, result_then}
 use Rattle.trio_lists.proofs.Members.{both-Ok, result_then-Ok}
 use Rattle.trio_layout.specs.declared.slot.SlotRead.{SlotRead}
 use Rattle.trio_layout.specs.Case.{file_in}
@@ -76,13 +76,18 @@ apart_same ls es None e = cc
 apart_same ls es (Some place) e = absurd cc
 
 within_stands : (core : Core) (kind : Kind) (blocks : List ℕ) (es : List Listed) (l : Listed) → entries_within core kind blocks ≡ Ok es → In l es → StandsWithin core l
-within_stands core Regular blocks es l e i = let none : [] ≡ es = cc in absurd (subst (In l) (sym none) i)
-within_stands core Directory blocks es l e i =
-    let f : ℕ → Result (List Listed) Location = λ page. entries_where core.inodes page (page_of core page) in
-    let s = result_then-Ok with_names_apart (gathered f blocks) es e in
-    let same = apart_same s.0 es (repeated_name [] s.0) s.2 in
-    let w = gathered-In f blocks s.0 l s.1 (subst (In l) (sym same) i) in
-    page_stands core w.0 (page_of core w.0) w.1 l refl w.2 w.3
+within_stands core kind blocks es l e i = by (is_directory kind) e
+  where
+    f : ℕ → Result (List Listed) Location
+    f = λ page. entries_where core.inodes page (page_of core page)
+
+    by : (lists : Bool) → cond lists (result_then with_names_apart (gathered f blocks)) (Ok []) ≡ Ok es → StandsWithin core l
+    by false said = let none : [] ≡ es = cc in absurd (subst (In l) (sym none) i)
+    by true said =
+        let s = result_then-Ok with_names_apart (gathered f blocks) es said in
+        let same = apart_same s.0 es (repeated_name [] s.0) s.2 in
+        let w = gathered-In f blocks s.0 l s.1 (subst (In l) (sym same) i) in
+        page_stands core w.0 (page_of core w.0) w.1 l refl w.2 w.3
 
 -- ---- a file
 

@@ -1,7 +1,8 @@
 -- Each file is told once.
-use Rattle.trio_entries.proofs.Words.{◌++◌, ◌∙◌, ◌∷◌, ◌≡◌, AreListedOnce, Bool, Bundle, Case, CaseShown, HoldParts, In, In-cases, In-list_any, In-map, LentFile, List, ListedEntry, Listing, None, Notes, Option, RawFile, Row, Some, Written, [], and_parts, ap, are_new, are_new-first, arith, bundle_in, cond, cons_option, entry_name, entry_size, eqb, false, false≢true, filter_map, inl, inr, is_listed, is_untold, lent_once, map, map-In, map-append, nat_tests, noted_name, noted_size, option_map, refl, row_after, row_in, size_in, subst, sym, told_entry, told_gone, told_row, told_same, told_written, true, whole_case, writes_of, ℕ}
+use Rattle.trio_entries.proofs.Words.{◌++◌, ◌∙◌, ◌∷◌, ◌≡◌, AreListedOnce, Bool, Bundle, Case, CaseShown, HoldParts, In, In-cases, In-list_any, In-map, LentFile, List, ListedEntry, Listing, None, Notes, Option, RawFile, Row, Some, Written, [], and_parts, ap, are_new, are_new-first, arith, bundle_in, cond, cons_option, entry_guard, entry_name, entry_size, eqb, false, false≢true, filter_map, inl, inr, is_listed, is_untold, lent_once, map, map-In, map-append, nat_tests, noted_guard, noted_name, noted_size, option_map, refl, row_after, row_in, size_in, subst, sym, told_entry, told_gone, told_row, told_same, told_written, true, whole_case, writes_of, ℕ}
 use Rattle.std.proofs.lemmas.Bool.{and_from}
 use Rattle.trio_lists.proofs.Gathered.{new_beside}
+use Rattle.trio_layout.specs.Body.{guard_in}
 use Rattle.trio_lists.proofs.Marked.{are_new-append}
 use Rattle.trio_lists.proofs.New.{are_new-before, are_new-fewer}
 
@@ -46,9 +47,9 @@ module _ {X Y : Type 0} (key : X → ℕ) (number : Y → ℕ) (f : X → Option
 
 -- ---- what tells something
 
-row_told : (b : Bundle) (n : ℕ) (gone : Bool) (name : List ℕ) (size : ℕ) (o : Option Row) (y : RawFile) → option_map (told_row b n gone name size) o ≡ Some y → y.ino ≡ n
-row_told b n gone name size None y e = absurd cc
-row_told b n gone name size (Some r) y e = let same : told_row b n gone name size r ≡ y = cc in sym (ap (λ (f : RawFile). f.ino) same)
+row_told : (b : Bundle) (n : ℕ) (gone : Bool) (name : List ℕ) (size : ℕ) (guarded : Bool) (o : Option Row) (y : RawFile) → option_map (told_row b n gone name size guarded) o ≡ Some y → y.ino ≡ n
+row_told b n gone name size guarded None y e = absurd cc
+row_told b n gone name size guarded (Some r) y e = let same : told_row b n gone name size guarded r ≡ y = cc in sym (ap (λ (f : RawFile). f.ino) same)
 
 unless : (t : Bool) (o : Option RawFile) (y : RawFile) → cond t None o ≡ Some y → (t ≡ false) × (o ≡ Some y)
 unless true o y e = absurd cc
@@ -56,21 +57,21 @@ unless false o y e = (refl, e)
 
 entry_told : (c : Case) (l : Listing) (notes : Notes) (e : ListedEntry) (y : RawFile) → told_entry c l notes e ≡ Some y → y.ino ≡ e.ino
 entry_told c l notes e y h =
-    row_told c.bundle e.ino false (entry_name c e) (entry_size c notes e) (row_after l c.rows e.ino) y
-    (unless (is_untold c notes e) (option_map (told_row c.bundle e.ino false (entry_name c e) (entry_size c notes e)) (row_after l c.rows e.ino)) y h).1
+    row_told c.bundle e.ino false (entry_name c e) (entry_size c notes e) (entry_guard c notes e) (row_after l c.rows e.ino) y
+    (unless (is_untold c notes e) (option_map (told_row c.bundle e.ino false (entry_name c e) (entry_size c notes e) (entry_guard c notes e)) (row_after l c.rows e.ino)) y h).1
 
 written_told : (c : Case) (l : Listing) (notes : Notes) (w : Written) (y : RawFile) → told_written c l notes w ≡ Some y → (is_listed l w.ino ≡ false) × (y.ino ≡ w.ino)
 written_told c l notes w y h =
-    let u = unless (is_listed l w.ino) (option_map (told_row c.bundle w.ino false (noted_name notes w.ino) (size_in w.body)) (row_after l c.rows w.ino)) y h in
-    (u.0, row_told c.bundle w.ino false (noted_name notes w.ino) (size_in w.body) (row_after l c.rows w.ino) y u.1)
+    let u = unless (is_listed l w.ino) (option_map (told_row c.bundle w.ino false (noted_name notes w.ino) (size_in w.body) (guard_in w.body)) (row_after l c.rows w.ino)) y h in
+    (u.0, row_told c.bundle w.ino false (noted_name notes w.ino) (size_in w.body) (guard_in w.body) (row_after l c.rows w.ino) y u.1)
 
 gone_told : (c : Case) (l : Listing) (notes : Notes) (n : ℕ) (y : RawFile) → told_gone c l notes n ≡ Some y → (is_listed l n ≡ false) × (y.ino ≡ n)
 gone_told c l notes n y h =
-    let u = unless (is_listed l n) (option_map (told_row c.bundle n true (noted_name notes n) (noted_size notes n)) (row_in c.rows n)) y h in
-    (u.0, row_told c.bundle n true (noted_name notes n) (noted_size notes n) (row_in c.rows n) y u.1)
+    let u = unless (is_listed l n) (option_map (told_row c.bundle n true (noted_name notes n) (noted_size notes n) (noted_guard notes n)) (row_in c.rows n)) y h in
+    (u.0, row_told c.bundle n true (noted_name notes n) (noted_size notes n) (noted_guard notes n) (row_in c.rows n) y u.1)
 
 same_told : (c : Case) (notes : Notes) (n : ℕ) (y : RawFile) → told_same c notes n ≡ Some y → y.ino ≡ n
-same_told c notes n y h = row_told c.bundle n false (noted_name notes n) (noted_size notes n) (row_in c.rows n) y h
+same_told c notes n y h = row_told c.bundle n false (noted_name notes n) (noted_size notes n) (noted_guard notes n) (row_in c.rows n) y h
 
 listed_in : (l : Listing) (n : ℕ) → In n (map (λ (e : ListedEntry). e.ino) l.entries) → is_listed l n ≡ true
 listed_in l n i =

@@ -1,5 +1,5 @@
 -- The words that the proofs of this crate share: of the standard library, of the crates below, and of this crate's own definitions.
-pub use Rattle.std.proofs.Common.{◌&&◌, ◌++◌, ◌+◌, ◌-◌, ◌<◌, ◌||◌, ◌↔◌, ◌∙◌, ◌∷◌, ◌≡◌, ◌≤◌, Bool, Err, List, None, Ok, Option, Result, Some, [], ap, append_assoc, arith, cond, drop, eqb, false, get_or, inl, inr, length, map, nat_le, refl, replicate, rules, set, subst, suc, sym, take, true, zero, ℕ}
+pub use Rattle.std.proofs.Common.{◌&&◌, ◌++◌, ◌+◌, ◌-◌, ◌<◌, ◌||◌, ◌↔◌, ◌∙◌, ◌∷◌, ◌≡◌, ◌≤◌, Bool, Err, List, None, Ok, Option, Result, Some, [], ap, append_assoc, arith, cond, drop, eqb, false, get_or, inl, inr, length, map, nat_le, not, refl, replicate, rules, set, subst, suc, sym, take, true, zero, ℕ}
 pub use Rattle.std.proofs.Math.Seq.{drop-cons}
 pub use Rattle.std.proofs.lemmas.Bool.{and_parts, false≢true}
 pub use Rattle.std.proofs.lemmas.Bool.Decides.{nat_tests}
@@ -18,7 +18,7 @@ pub use Rattle.trio_case.proofs.Making.{bundle_length, bundle_numbers}
 pub use Rattle.trio_case.proofs.Ordered.{place_has}
 pub use Rattle.trio_case.specs.Cases.{CaseShown, case_in}
 pub use Rattle.trio_case.specs.Listed.{entry_seen}
-pub use Rattle.trio_case.specs.Memory.{is_directory, size_of, writes_directory}
+pub use Rattle.trio_case.specs.Memory.{size_of, writes_directory}
 pub use Rattle.trio_case.specs.Order.{place_of}
 pub use Rattle.trio_case.specs.declared.listing.ListedEntry.{ListedEntry as EntryData}
 pub use Rattle.trio_case.specs.declared.size.BundleSize.{BundleSize}
@@ -52,12 +52,13 @@ pub use Rattle.trio_nodes.specs.Handed.{Handed, all_pages, head_of}
 pub use Rattle.trio_nodes.specs.Told.{ToldBundle, block_in}
 pub use Rattle.trio_nodes.specs.declared.entry.HandedHead.{HandedHead}
 pub use Rattle.trio_nodes.specs.declared.entry.RawFile.{RawFile}
+pub use Rattle.trio_rights.specs.ByKind.{covers_blocks, is_directory}
 pub use Rattle.trio_rights.specs.Bundle.{Bundle, Written, bundle_pages}
 pub use Rattle.trio_rights.specs.Row.{Row, row_in}
 pub use Rattle.trio_rights.specs.Sheets.{Sheet, sheet_numbers}
 pub use Rattle.trio_rights.specs.declared.kind.Kind.{Kind}
 pub use Rattle.trio_rights.specs.declared.kind.Kind.TheVariants.{Directory, Regular}
-pub use Rattle.trio_state.specs.Listed.{Notes, block_told, blocks_listed_of, blocks_of_kind, changed_blocks, entry_name, entry_size, is_marked, is_untold, lent_blocks, noted_name, noted_size, size_in, told_entry, told_gone, told_row, told_same, told_written, written_size}
+pub use Rattle.trio_state.specs.Listed.{Notes, block_told, blocks_listed_of, blocks_of_kind, changed_blocks, entry_guard, entry_name, entry_size, is_marked, is_untold, lent_blocks, noted_guard, noted_name, noted_size, size_in, told_entry, told_gone, told_row, told_same, told_written, written_guard, written_size}
 pub use Rattle.trio_state.specs.Moves.{FileOutline, Outline, file_outline, outline_of}
 pub use Rattle.trio_tables.specs.Row.{as_row}
 pub use Rattle.trio_entries.specs.Drafts.{HasHandedPlaces, HasToldPlaces, IsRoom, outline_pages, outline_size}

@@ -2,10 +2,11 @@
 use Rattle.std.specs.Prelude.{ℕ, ◌≡◌, ◌+◌, ◌*◌, ◌≤◌, if◌then◌else◌, List, [], ◌++◌, length, vec_len, vec_capacity}
 use Rattle.std.specs.Global.{Vec}
 use Rattle.std.specs.List.{flat_map, list_any, All}
+use Rattle.trio_rights.specs.ByKind.{is_directory}
 use Rattle.trio_lease.specs.Bundles.{Bundled}
 use Rattle.trio_state.specs.Moves.{Outline}
 use Rattle.trio_case.specs.Indexed.{HasPlacesFor}
-use Rattle.trio_case.specs.Memory.{is_directory, size_of, IsWithin}
+use Rattle.trio_case.specs.Memory.{size_of, IsWithin}
 use Rattle.trio_case.specs.declared.size.BundleSize.{BundleSize}
 use Rattle.trio_entries.specs.declared.handed.Room.{Room}
 use Rattle.trio_entries.specs.declared.handed.HandedRoom.{HandedRoom}

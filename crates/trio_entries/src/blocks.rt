@@ -1,6 +1,6 @@
 //! What a release tells of blocks.
 
-ghost use Rattle.std.specs.Prelude.{◌≡◌, ◌+◌, ◌≤◌, ◌<◌, ◌^◌, ◌==◌, ◌++◌, ◌∷◌, [], List, None, Option, false, if◌then◌else◌, length, slice_get, vec_capacity, vec_len};
+ghost use Rattle.std.specs.Prelude.{◌≡◌, ◌+◌, ◌≤◌, ◌<◌, ◌^◌, ◌==◌, ◌++◌, ◌∷◌, [], List, None, Option, false, if◌then◌else◌, length, not, slice_get, vec_capacity, vec_len};
 ghost use Rattle.std.specs.List.{flat_map};
 ghost use Rattle.std.specs.Option.{option_map, option_map_or};
 ghost use Rattle.trio_rights.specs.Row.{Row};
@@ -22,7 +22,6 @@ use crate::notes::Notes;
 use trio_case::{Case, Listing};
 use trio_lease::WriteLease;
 use trio_nodes::{PlacedBlock, RawFile};
-use trio_rights::Kind;
 
 /// The blocks of a release that is accepted, by the files that it tells, put into an empty list that
 /// has places for them.
@@ -44,7 +43,16 @@ pub(crate) fn accepted_blocks(
 {
     for file in files {
         let pages = listed_blocks(case, listing, finder, file.ino);
-        add_told(blocks, case, notes, finder, file, &Pages::Listed(pages));
+        let told = !file.kind.is_directory();
+        add_told(
+            blocks,
+            case,
+            notes,
+            finder,
+            file,
+            told,
+            &Pages::Listed(pages),
+        );
     }
 }
 
@@ -66,7 +74,8 @@ pub(crate) fn refused_blocks(
 {
     for file in files {
         let pages = lent_blocks(case, file.ino);
-        add_told(blocks, case, notes, finder, file, &pages);
+        let told = !file.kind.covers_blocks(file.guard);
+        add_told(blocks, case, notes, finder, file, told, &pages);
     }
 }
 
@@ -121,27 +130,27 @@ fn lent_blocks(case: &Case, ino: u32) -> Pages<'_>
     }
 }
 
-/// Adds those of a regular file's blocks that are told, given the pages of all, to a list that has
-/// places for all.
+/// Adds those of a file's blocks that are told, given the pages of all, to a list that has places for
+/// all. None is added where blocks of such a file aren't told.
 fn add_told(
     blocks: &mut Vec<PlacedBlock>,
     case: &Case,
     notes: &Notes,
     finder: &Finder,
     file: &RawFile,
+    told: bool,
     pages: &Pages<'_>,
 )
     requires places { vec_len blocks.old + length (numbers_of pages.now) ≤ vec_capacity blocks.old }
     requires few { length (numbers_of pages.now) < 2 ^ 32 }
     requires finder { IsFinderOf case.now finder.now }
     requires marked { IsMarkedBy (handed_in case.now.bundle) finder.now }
-    ensures told { (rows : List (Option Row)) → blocks_in case.now blocks.new.items ≡ blocks_in case.now blocks.old.items ++ blocks_of_kind (whole_case case.now rows) notes.now (handed_in case.now.bundle) file.now file.now.kind (numbers_of pages.now) }
+    ensures told { (rows : List (Option Row)) → blocks_in case.now blocks.new.items ≡ blocks_in case.now blocks.old.items ++ blocks_of_kind (whole_case case.now rows) notes.now (handed_in case.now.bundle) file.now told (numbers_of pages.now) }
     ensures len { vec_len blocks.new ≤ vec_len blocks.old + length (numbers_of pages.now) }
     ensures capacity { vec_capacity blocks.new ≡ vec_capacity blocks.old }
 {
-    match file.kind {
-        Kind::Regular => add_changed(blocks, case, notes, finder, file, pages),
-        Kind::Directory => {}
+    if told {
+        add_changed(blocks, case, notes, finder, file, pages);
     }
 }
 

@@ -2,12 +2,12 @@
 
 ghost use Rattle.std.specs.Prelude.{◌≡◌, None, slice_index_or, slice_set};
 ghost use Rattle.std.specs.Str.{bytes_eq};
-ghost use Rattle.trio_state.specs.Listed.{note_told, noted_name, noted_size, notes_after};
+ghost use Rattle.trio_state.specs.Listed.{note_told, noted_guard, noted_name, noted_size, notes_after};
 
 use std::marker::Model;
 use trio_nodes::{Note, RawFile};
 
-/// The name and the size of each live file, by inode number, as the entries of releases tell them.
+/// The name, the size and the guard of each live file, by inode number, as the entries of releases tell them.
 ///
 /// Contracts see a list with a note or none at each number; past its end there is none.
 #[derive(Drop)]
@@ -60,8 +60,18 @@ impl Notes {
         }
     }
 
-    /// Notes what the files of an accepted release tell: of each its name and size, or nothing more
-    /// where it is gone. A number past the last is let be. It takes no memory.
+    /// The guard that is noted of a number; of one of which nothing is noted it is none.
+    pub(crate) fn guard(&self, ino: u32) -> bool
+        ensures { result ≡ noted_guard self.now ino }
+    {
+        match self.get(ino) {
+            Some(note) => note.guard,
+            None => false,
+        }
+    }
+
+    /// Notes what the files of an accepted release tell: of each its name, size and guard, or nothing
+    /// more where it is gone. A number past the last is let be. It takes no memory.
     pub fn tell(&mut self, files: &[RawFile])
         ensures { self.new ≡ notes_after files.now self.old }
     {
@@ -89,5 +99,6 @@ fn note_told(file: &RawFile) -> Option<Note>
     Some(Note {
         name: file.name,
         size: file.size,
+        guard: file.guard,
     })
 }

@@ -8,6 +8,7 @@ ghost use Rattle.trio_lists.specs.Lists.{is_among};
 ghost use Rattle.trio_rights.specs.Row.{row_in};
 ghost use Rattle.trio_tables.specs.Row.{as_row};
 ghost use Rattle.trio_lease.specs.Views.{bundle_in, written_in};
+ghost use Rattle.trio_layout.specs.Body.{guard_in};
 ghost use Rattle.trio_layout.specs.Case.{bundle_core};
 ghost use Rattle.trio_layout.specs.Core.{page_of};
 ghost use Rattle.trio_layout.specs.Edges.{is_listed};
@@ -16,7 +17,7 @@ ghost use Rattle.trio_layout.specs.Slot.{entry_at};
 ghost use Rattle.trio_layout.specs.Tables.{row_after, placed_row};
 ghost use Rattle.trio_case.specs.Cases.{case_in};
 ghost use Rattle.trio_case.specs.Listed.{entry_seen};
-ghost use Rattle.trio_state.specs.Listed.{entry_slot, is_handed, noted_name, noted_size, size_in, told_entry, told_row, told_written, written_size};
+ghost use Rattle.trio_state.specs.Listed.{entry_slot, is_handed, noted_guard, noted_name, noted_size, size_in, told_entry, told_row, told_written, written_guard, written_size};
 ghost use Rattle.trio_entries.specs.Telling.{whole_case, AreNoted};
 ghost use Rattle.trio_entries.specs.inner.Finding.{IsFinderOf, IsJudgedBy};
 ghost use Rattle.trio_entries.specs.inner.Slots.{IsReadable};
@@ -55,8 +56,8 @@ pub(crate) fn told_entry(
         return None;
     };
     let row = row_listed(case, listing, finder, rows, entry)?;
-    let size = entry_size(case, notes, entry.ino, slot);
-    Some(told_row(case, entry.ino, false, part.name, size, &row))
+    let said = entry_said(case, notes, entry.ino, slot);
+    Some(told_row(case, entry.ino, false, part.name, said, &row))
 }
 
 /// Whether an entry of this name is of a kept child that is neither written nor held and has its name
@@ -86,8 +87,8 @@ pub(crate) fn told_written(
     }
     let row = row_unlisted(case, listing, finder, rows, ino)?;
     let note = notes.get(ino)?;
-    let size = size_in(lease.body());
-    Some(told_row(case, ino, false, note.name, size, &row))
+    let said = said_in(lease.body());
+    Some(told_row(case, ino, false, note.name, said, &row))
 }
 
 /// What a file tells by its row and what is noted of it; nothing of one that isn't live.
@@ -99,16 +100,28 @@ pub(crate) fn told_noted(
     gone: bool,
 ) -> Option<RawFile>
     requires { AreNoted rows.now notes.now }
-    ensures { result ≡ option_map (told_row (bundle_in case.now.bundle) ino gone (noted_name notes.now ino) (noted_size notes.now ino)) (row_in rows.now ino) }
+    ensures { result ≡ option_map (told_row (bundle_in case.now.bundle) ino gone (noted_name notes.now ino) (noted_size notes.now ino) (noted_guard notes.now ino)) (row_in rows.now ino) }
 {
     let row = rows.row(ino)?;
     let note = notes.get(ino)?;
-    Some(told_row(case, ino, gone, note.name, note.size, &row))
+    let said = Said {
+        size: note.size,
+        guard: note.guard,
+    };
+    Some(told_row(case, ino, gone, note.name, said, &row))
 }
 
-/// A file by its row, with a name and a size.
-fn told_row(case: &Case, ino: u32, gone: bool, name: Name, size: u64, row: &Row) -> RawFile
-    ensures { result ≡ told_row (bundle_in case.now.bundle) ino gone name size (as_row row.now) }
+/// What a body says beside rights and pages.
+#[derive(Clone, Copy)]
+struct Said {
+    /// In bytes.
+    size: u64,
+    guard: bool,
+}
+
+/// A file by its row, with a name and what its body says.
+fn told_row(case: &Case, ino: u32, gone: bool, name: Name, said: Said, row: &Row) -> RawFile
+    ensures { result ≡ told_row (bundle_in case.now.bundle) ino gone name said.size said.guard (as_row row.now) }
 {
     RawFile {
         ino,
@@ -120,7 +133,8 @@ fn told_row(case: &Case, ino: u32, gone: bool, name: Name, size: u64, row: &Row)
         mode: row.mode,
         uid: row.uid,
         gid: row.gid,
-        size,
+        size: said.size,
+        guard: said.guard,
     }
 }
 
@@ -168,18 +182,22 @@ fn slot_name(slot: &[u8; 256]) -> &[u8]
     &slot[8..8 + len]
 }
 
-/// The size of the file of an entry: as its lease says, where it is new as its slot says, else as it
-/// is noted.
-fn entry_size(case: &Case, notes: &Notes, ino: u32, slot: &[u8; 256]) -> u64
-    ensures { result ≡ unwrap_or (written_size (bundle_in case.now.bundle) ino) (if is_among ino (bundle_in case.now.bundle).numbers then size_in (drop 192 slot.now) else noted_size notes.now ino) }
+/// The size and the guard of the file of an entry: as its lease says, where it is new as its slot
+/// says, else as they are noted.
+fn entry_said(case: &Case, notes: &Notes, ino: u32, slot: &[u8; 256]) -> Said
+    ensures guard { result.guard ≡ unwrap_or (written_guard (bundle_in case.now.bundle) ino) (if is_among ino (bundle_in case.now.bundle).numbers then guard_in (drop 192 slot.now) else noted_guard notes.now ino) }
+    ensures size { result.size ≡ unwrap_or (written_size (bundle_in case.now.bundle) ino) (if is_among ino (bundle_in case.now.bundle).numbers then size_in (drop 192 slot.now) else noted_size notes.now ino) }
 {
     if let Some(lease) = lease_on(case, ino) {
-        return size_in(lease.body());
+        return said_in(lease.body());
     }
     if case.is_fresh(ino) {
-        size_in(slot_body(slot))
+        said_in(slot_body(slot))
     } else {
-        notes.size(ino)
+        Said {
+            size: notes.size(ino),
+            guard: notes.guard(ino),
+        }
     }
 }
 
@@ -191,12 +209,16 @@ fn slot_body(slot: &[u8; 256]) -> &[u8]
     &slot[192..]
 }
 
-/// The size that a body says.
-fn size_in(body: &[u8]) -> u64
-    requires { 24 ≤ length body.now }
-    ensures { result ≡ size_in body.now }
+/// The size and the guard that a body says.
+fn said_in(body: &[u8]) -> Said
+    requires { 25 ≤ length body.now }
+    ensures guard { result.guard ≡ guard_in body.now }
+    ensures size { result.size ≡ size_in body.now }
 {
-    u64_in(body, 16)
+    Said {
+        size: u64_in(body, 16),
+        guard: body[24] == 1,
+    }
 }
 
 /// The row after the release of the file of an entry, the first that names its number.

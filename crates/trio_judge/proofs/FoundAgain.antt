@@ -1,8 +1,9 @@
 -- Directories that list again what one before them lists.
-use Rattle.trio_judge.proofs.Words.{◌&&◌, ◌++◌, ◌+◌, ◌-◌, ◌<◌, ◌^◌, ◌||◌, ◌∙◌, ◌∷◌, ◌≡◌, ◌≤◌, ◌⊎◌, AreFoundHeads, Bool, Case, Directory, FileRead, In, In-is_among, In-left, In-map, In-right, IsListedBefore, IsPassed, IsQueued, List, Listed, Location, Met, None, Ok, Option, Result, Some, Stands, Walk, [], and_from, and_parts, ap, append-nil, arith, at_page, block_count, body_of, bundle_core, bundle_pages, children_in, entries_in, entry_in_grammar, eqb, false, false≢true, file_in, file_in_room, files_of, filter, first_listed, flat_map, flat_map-append, get_or, has_body, inl, inr, is_among, is_among-In, is_marked, is_new, is_some, length, list_all, list_all-In, list_all-append, map, map-In, map-append, met_in, nat_tests, numbers, plain, refl, replicate, subst, suc, sym, take, take_more, true, within_from, zero, ℕ}
+use Rattle.trio_judge.proofs.Words.{◌&&◌, ◌++◌, ◌+◌, ◌-◌, ◌<◌, ◌^◌, ◌||◌, ◌∙◌, ◌∷◌, ◌≡◌, ◌≤◌, ◌⊎◌, AreFoundHeads, Bool, Case, Directory, FileRead, In, In-is_among, In-left, In-map, In-right, IsListedBefore, IsPassed, IsQueued, List, Listed, Location, Met, None, Ok, Option, Result, Some, Stands, Walk, [], and_from, and_parts, ap, append-nil, arith, at_page, block_count, body_of, bundle_core, bundle_pages, children_in, entries_in, entry_in_grammar, eqb, false, false≢true, file_in, file_in_room, files_of, filter, first_listed, flat_map, flat_map-append, get_or, has_body, inl, inr, is_among, is_among-In, is_directory, is_marked, is_new, is_some, length, list_all, list_all-In, list_all-append, map, map-In, map-append, met_in, nat_tests, numbers, plain, refl, replicate, subst, suc, sym, take, take_more, true, within_from, zero, ℕ}
 use Rattle.std.proofs.Common.{min}
 use Rattle.std.proofs.lemmas.Bool.{cases_eq, or_cases}
 use Rattle.std.proofs.lemmas.List.{length-replicate}
+use Rattle.trio_rights.proofs.KindFacts.{is_directory-true}
 use Rattle.trio_lists.specs.Lists.{result_map, there_or}
 use Rattle.trio_lists.proofs.Filters.{In-filter, Ok-one, some_one}
 use Rattle.trio_lists.proofs.Members.{list_all-each, result_map-Ok, result_then-Ok, there_or-Ok}
@@ -72,14 +73,14 @@ some_index : (n : ℕ) → 0 < n → eqb (index_count n) 0 ≡ false
 some_index n h = let some : 1 ≤ index_count n = omega arith in grind (arith, nat_tests)
 
 -- the head of a directory that was gone over
-pub found_head : (c : Case) (found : List ℕ) (m : Met) (f : FileRead) → 0 < c.range.first → c.range.end < 2 ^ 32 → m.kind ≡ Directory → file_in c m ≡ Ok f → 0 < block_count f.body.size → list_all (has_body c.range) f.entries ≡ true → ((l : Listed) → In l f.entries → is_among l.entry.ino c.bundle.numbers ≡ true → is_among l.entry.ino found ≡ true) → IsFoundHead c found f.body.head
+pub found_head : (c : Case) (found : List ℕ) (m : Met) (f : FileRead) → 0 < c.range.first → c.range.end < 2 ^ 32 → is_directory m.kind ≡ true → file_in c m ≡ Ok f → 0 < block_count f.body.size → list_all (has_body c.range) f.entries ≡ true → ((l : Listed) → In l f.entries → is_among l.entry.ino c.bundle.numbers ≡ true → is_among l.entry.ino found ≡ true) → IsFoundHead c found f.body.head
 found_head c found m f first small dir e some bodies all = λ b chain same blocks whole.
     let core : Core = bundle_core c in
     let r = within_from core m f e in
     let count : eqb (index_count (block_count f.body.size)) 0 ≡ eqb (index_count (block_count b.size)) 0 = some_index (block_count f.body.size) some ∙ sym (some_index (block_count b.size) blocks) in
     let here : chain_within core (index_count (block_count b.size)) (block_count b.size) f.body.head ≡ Ok chain = ap (chain_within core (index_count (block_count b.size)) (block_count b.size)) (sym same) ∙ whole in
     let one : f.chain ≡ chain = one_chain core first small (index_count (block_count f.body.size)) (index_count (block_count b.size)) (block_count f.body.size) (block_count b.size) f.body.head f.chain chain count r.chain here in
-    let read : entries_within core Directory f.chain.blocks ≡ Ok f.entries = ap (λ k. entries_within core k f.chain.blocks) (sym dir) ∙ r.entries in
+    let read : entries_within core Directory f.chain.blocks ≡ Ok f.entries = ap (λ k. entries_within core k f.chain.blocks) (sym (is_directory-true m.kind dir)) ∙ r.entries in
     subst (λ (x : Chain). AreFound c found x.blocks) one (record { entries = f.entries; read = read; bodies = bodies; known = all })
 
 -- ---- what is remembered
@@ -149,7 +150,7 @@ nothing_new c fs heads m all is =
     let core : Core = bundle_core c in
     let a = all.each is.body.head is.head is.body is.chain refl is.blocks is.whole in
     let f : FileRead = record { body = is.body; chain = is.chain; entries = a.entries } in
-    let entries : entries_within core m.kind is.chain.blocks ≡ Ok a.entries = ap (λ k. entries_within core k is.chain.blocks) is.directory ∙ a.read in
+    let entries : entries_within core m.kind is.chain.blocks ≡ Ok a.entries = ap (λ k. entries_within core k is.chain.blocks) (is_directory-true m.kind is.directory) ∙ a.read in
     let read : file_in c m ≡ Ok f = within_to core m f (record { body = is.reads; chain = is.whole; entries = entries }) in
     let list : entries_in c m ≡ map (met_in plain m.ino) a.entries = ap (children_in plain m.ino) read in
     let seen : (e : Met) → In e (map (met_in plain m.ino) a.entries) → is_new c e ≡ true → is_among e.ino (numbers fs) ≡ true = λ e i new.

@@ -1,5 +1,5 @@
 -- A walk before it begins.
-use Rattle.trio_judge.proofs.Words.{◌&&◌, ◌++◌, ◌+◌, ◌<◌, ◌||◌, ◌∙◌, ◌∷◌, ◌≡◌, ◌≤◌, AreFound, Bool, Case, CaseShown, Directory, HasListingRoom, In, In-cases, In-is_among, In-left, In-map, JudgedFile, KeepRights, LentFile, List, Lists, MatchOption, Met, None, Option, OwningFails, RightsFail, Some, Starts, Walk, Written, [], and_parts, ap, are_new, are_new-append, arith, bundle_pages, case_in, cond, eqb, false, false≢true, file_met, files_of, get_or, inl, inr, is_among, is_among-In, length, length-append, length-map, list_all-In, listing_of, map, map-In, nat_tests, numbers, option_map, option_map_or, own_numbers, place_of, refl, replicate, row_in, sorted-map, sorted_by, subst, suc, sym, true, vec_len, writes_directory, writes_of, written_files, written_in, written_met, zero, ℕ}
+use Rattle.trio_judge.proofs.Words.{◌&&◌, ◌++◌, ◌+◌, ◌<◌, ◌||◌, ◌∙◌, ◌∷◌, ◌≡◌, ◌≤◌, AreFound, Bool, Case, CaseShown, HasListingRoom, In, In-cases, In-is_among, In-left, In-map, JudgedFile, KeepRights, LentFile, List, Lists, MatchOption, Met, None, Option, OwningFails, RightsFail, Some, Starts, Walk, Written, [], and_parts, ap, are_new, are_new-append, arith, bundle_pages, case_in, cond, eqb, false, false≢true, file_met, files_of, get_or, inl, inr, is_among, is_among-In, is_directory, length, length-append, length-map, list_all-In, listing_of, map, map-In, nat_tests, numbers, option_map, option_map_or, own_numbers, place_of, refl, replicate, row_in, sorted-map, sorted_by, subst, suc, sym, true, vec_len, writes_directory, writes_of, written_files, written_in, written_met, zero, ℕ}
 use Rattle.std.proofs.Common.{leb, ltb, vec_capacity}
 use Rattle.trio_rights.specs.Row.{Row}
 use Rattle.trio_lists.proofs.Filters.{In-list_any, list_any-map}
@@ -7,7 +7,7 @@ use Rattle.trio_lists.proofs.Sorting.{in_sorted, sorted_in, sorted_new}
 use Rattle.trio_lease.specs.declared.parts.InoParts.{InoParts}
 use Rattle.trio_layout.specs.JudgedFiles.{written_at}
 use Rattle.trio_case.specs.Cases.{lent_numbers, IsCase}
-use Rattle.trio_case.specs.Memory.{is_directory, writes_directory as lends_directory}
+use Rattle.trio_case.specs.Memory.{writes_directory as lends_directory}
 use Rattle.trio_judge.specs.inner.Walk.{is_found}
 use Rattle.trio_case.proofs.Ordered.{are_unmarked}
 
@@ -40,11 +40,11 @@ pub directory_lent : (k : CaseShown) → writes_directory (case_in k) ≡ lends_
 directory_lent k = list_any-map (λ (f : LentFile). written_in f.stands) (λ (w : Written). is_directory w.kind) k.bundle.writes
 
 -- a directory among the written files
-written_directory : (c : Case) (m : Met) → In m (written_files c) → m.kind ≡ Directory → writes_directory c ≡ true
+written_directory : (c : Case) (m : Met) → In m (written_files c) → is_directory m.kind ≡ true → writes_directory c ≡ true
 written_directory c m i e =
     let q = map-In (written_met c) m (sorted_by (λ w. w.ino) c.bundle.writes) i in
-    let kind : q.0.kind ≡ Directory = sym (ap (λ (x : Met). x.kind) q.2 ∙ written_kind q.0 (row_in c.rows q.0.ino)) ∙ e in
-    In-list_any (λ (w : Written). is_directory w.kind) q.0 c.bundle.writes (sorted_in (λ w. w.ino) q.0 c.bundle.writes q.1) (ap is_directory kind)
+    let kind : is_directory q.0.kind ≡ true = sym (ap is_directory (ap (λ (x : Met). x.kind) q.2 ∙ written_kind q.0 (row_in c.rows q.0.ino))) ∙ e in
+    In-list_any (λ (w : Written). is_directory w.kind) q.0 c.bundle.writes (sorted_in (λ w. w.ino) q.0 c.bundle.writes q.1) kind
 
 -- ---- marks for the files found
 

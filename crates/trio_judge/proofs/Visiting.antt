@@ -1,5 +1,5 @@
 -- One file passed.
-use Rattle.trio_judge.proofs.Words.{◌*◌, ◌++◌, ◌+◌, ◌<◌, ◌∙◌, ◌∷◌, ◌≡◌, ◌≤◌, BadEntry, BreaksGrammar, Case, Directory, Err, FaultAt, In, In-flat, IsPassed, IsQueued, IsReady, List, Listing, Location, Met, Noted, Ok, PlacesLeft, Result, SameQueue, Stands, Walk, [], ap, append-nil, arith, bundle_pages, drop, drop_more, entries_in, entry_listed, file_in, files_of, filter, first_listed, flat_map, flat_map-append, get_or, get_or-In, inl, inr, is_new, length, length-append, length-map, length-take-le, new_entries, no_more, numbers, own_numbers, refl, subst, suc, sym, take, take-append-drop, take_more, true, writes_directory, written_files, ℕ}
+use Rattle.trio_judge.proofs.Words.{◌*◌, ◌++◌, ◌+◌, ◌<◌, ◌∙◌, ◌∷◌, ◌≡◌, ◌≤◌, BadEntry, BreaksGrammar, Case, Err, FaultAt, In, In-flat, IsPassed, IsQueued, IsReady, List, Listing, Location, Met, Noted, Ok, PlacesLeft, Result, SameQueue, Stands, Walk, [], ap, append-nil, arith, bundle_pages, drop, drop_more, entries_in, entry_listed, file_in, files_of, filter, first_listed, flat_map, flat_map-append, get_or, get_or-In, inl, inr, is_directory, is_new, length, length-append, length-map, length-take-le, new_entries, no_more, numbers, own_numbers, refl, subst, suc, sym, take, take-append-drop, take_more, true, writes_directory, written_files, ℕ}
 use Rattle.std.specs.Prelude.{IfErr, OnOk}
 use Rattle.std.proofs.lemmas.List.{drop-append-le, take-append-le}
 use Rattle.trio_layout.specs.Survey.{Front}
@@ -50,7 +50,7 @@ on_way c at w m p r h = record {
 }
 
 -- a directory among the files found, which is there only where one is written
-pub directory_found : (c : Case) (at : ℕ) (w : Walk) (m : Met) → IsReady c w → at < length (files_of w) → get_or (files_of w) at m ≡ m → m.kind ≡ Directory → writes_directory c ≡ true
+pub directory_found : (c : Case) (at : ℕ) (w : Walk) (m : Met) → IsReady c w → at < length (files_of w) → get_or (files_of w) at m ≡ m → is_directory m.kind ≡ true → writes_directory c ≡ true
 directory_found c at w m r h e d = r.lists m (subst (λ x. In x (files_of w)) e (get_or-In (files_of w) at m h)) d
 
 -- its entries have a place in the listing

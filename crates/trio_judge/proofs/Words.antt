@@ -38,6 +38,7 @@ pub use Rattle.trio_lists.proofs.Marked.{are_new-append, is_among-push}
 pub use Rattle.trio_lists.proofs.Members.{In-cases, In-flat, In-is_among, In-left, In-map, In-right, is_among-In, list_all-In, map-In}
 pub use Rattle.trio_lists.specs.Lists.{In, are_new, is_among}
 pub use Rattle.trio_lists.specs.Sorting.{sorted_by}
+pub use Rattle.trio_rights.specs.ByKind.{is_directory}
 pub use Rattle.trio_rights.specs.Bundle.{Written, bundle_pages}
 pub use Rattle.trio_rights.specs.Row.{row_in}
 pub use Rattle.trio_rights.specs.declared.kind.Kind.TheVariants.{Directory}

@@ -17,7 +17,6 @@ use crate::walk::JudgedFile;
 use trio_case::{Case, DirEntry, PageRoom, read_chain};
 use trio_layout::{Body, CoreRange, Location};
 use trio_page::Reads;
-use trio_rights::Kind;
 
 /// Whether a directory has a chain that begins with a marked index page, or where its body or this
 /// chain leaves the grammar.
@@ -40,8 +39,8 @@ pub(crate) fn is_listed_before(
     let Some(body) = Body::read(&file.body, file.kind, case.range()) else {
         return Err(Location { page: 0, slot: 0 });
     };
-    let regular = file.kind == Kind::Regular;
-    if regular || body.blocks() == 0 || !is_marked(case, room, heads, body.head) {
+    let no_directory = !file.kind.is_directory();
+    if no_directory || body.blocks() == 0 || !is_marked(case, room, heads, body.head) {
         return Ok(false);
     }
     match read_chain(case, room, &body, reads) {
@@ -61,7 +60,7 @@ pub(crate) fn mark_head(case: &Case, room: &PageRoom, heads: &mut Vec<bool>, fil
     let Some(body) = Body::read(&file.body, file.kind, case.range()) else {
         return;
     };
-    if file.kind == Kind::Directory && body.blocks() > 0 && have_bodies(case, room) {
+    if file.kind.is_directory() && body.blocks() > 0 && have_bodies(case, room) {
         let _new = mark(case, room, heads, body.head);
     }
 }

@@ -206,9 +206,10 @@ impl Walk {
             }
         };
         self.note_file(case, room, file, &body);
-        match file.kind {
-            Kind::Regular => Ok(()),
-            Kind::Directory => self.note_entries(case, room, file.ino),
+        if file.kind.is_directory() {
+            self.note_entries(case, room, file.ino)
+        } else {
+            Ok(())
         }
     }
 

@@ -17,6 +17,5 @@ pub use Rattle.trio_proposal.proofs.Puts.{lent_there}
 pub use Rattle.trio_proposal.specs.Judgement.{CanBeJudged, image_of}
 pub use Rattle.trio_rights.specs.Row.{Row, row_in}
 pub use Rattle.trio_rights.specs.Sheets.{Sheet}
-pub use Rattle.trio_rights.specs.declared.kind.Kind.TheVariants.{Regular}
 pub use Rattle.trio_tables.specs.Row.{as_row}
 pub use Rattle.trio_judge_tests.specs.Whole.{IsWhole, file_fits, sheet_fits}

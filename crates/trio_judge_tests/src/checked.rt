@@ -3,8 +3,8 @@
 ghost use Rattle.std.specs.Prelude.{◌≡◌, ◌==◌, ◌++◌, ◌*◌, ◌≤◌, IfOk, IsTrue, OnOk, Some, [], count_by, false, length, map, true};
 ghost use Rattle.std.specs.List.{list_all, list_any};
 ghost use Rattle.trio_rights.specs.Bundle.{bundle_pages};
+ghost use Rattle.trio_rights.specs.ByKind.{is_directory};
 ghost use Rattle.trio_rights.specs.Row.{Row, row_in};
-ghost use Rattle.trio_rights.specs.declared.kind.Kind.TheVariants.{Regular};
 ghost use Rattle.trio_lists.specs.Lists.{are_new};
 ghost use Rattle.trio_lease.specs.Views.{bundle_in};
 ghost use Rattle.trio_layout.specs.Allowed.{has_kind};
@@ -70,7 +70,7 @@ fn is_judgeable(
     pages_fit(alloc, bundle, range)
 }
 
-/// Whether no row names a regular file for its parent.
+/// Whether each live file that a row names for its parent is a directory.
 fn has_directory_parents(rows: &Shadow) -> bool
     ensures { IsTrue result → HasDirectoryParents rows.now }
 {
@@ -83,10 +83,20 @@ fn has_directory_parents(rows: &Shadow) -> bool
 }
 
 fn has_directory_parent(rows: &Shadow, ino: u32) -> bool
-    ensures { IsTrue result → (r : Row) → row_in rows.now ino ≡ Some r → has_kind Regular (row_in rows.now r.parent) ≡ false }
+    ensures { IsTrue result → (r p : Row) → row_in rows.now ino ≡ Some r → row_in rows.now r.parent ≡ Some p → is_directory p.kind ≡ true }
 {
     match rows.row(ino) {
-        Some(row) => !has_kind(rows, Kind::Regular, row.parent),
+        Some(row) => may_list(rows, row.parent),
+        None => true,
+    }
+}
+
+/// Whether the file of this number, where it is live, is a directory.
+fn may_list(rows: &Shadow, ino: u32) -> bool
+    ensures { IsTrue result → (p : Row) → row_in rows.now ino ≡ Some p → is_directory p.kind ≡ true }
+{
+    match rows.row(ino) {
+        Some(row) => row.kind.is_directory(),
         None => true,
     }
 }
@@ -136,7 +146,7 @@ fn has_kind(rows: &Shadow, kind: Kind, ino: u32) -> bool
     ensures { result ≡ has_kind kind (row_in rows.now ino) }
 {
     match rows.row(ino) {
-        Some(row) => kind == row.kind,
+        Some(row) => kind.byte() == row.kind.byte(),
         None => false,
     }
 }

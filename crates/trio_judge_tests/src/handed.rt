@@ -9,7 +9,7 @@ use trio_lease::{
 use trio_page::{Home, Page, PageNo, Reads};
 use trio_rights::{Creds, Kind, LibNo, Mode};
 use trio_samples::files::{root, six_directories, three_files};
-use trio_samples::{Sample, SampleFile, directory, put};
+use trio_samples::{Sample, SampleFile, directory, link, put};
 use trio_tables::{Row, Shadow};
 
 /// The core pages of each sample image.
@@ -22,7 +22,11 @@ enum Image {
     /// A directory `a`, of number 2, and in it a file `f`, of number 3 and five bytes. The root has
     /// pages 3 and 4, `a` 5 and 6, `f` 7 and 8.
     OneDirectory,
-    /// Beside these the directory `b` in the root, of number 4, empty.
+    /// The same, and `f` is guarded.
+    OneGuarded,
+    /// In place of `f` a link `l`, of number 3 and of the text `/a/f`.
+    OneLink,
+    /// Beside `a` and `f` the directory `b` in the root, of number 4, empty.
     TwoDirectories,
     /// A directory `t` alone, of number 2 and mode 777, empty.
     OpenDirectory,
@@ -40,12 +44,22 @@ pub enum Grants {
     F,
     /// The same, and the allotted page 9.
     FAndPage,
+    /// A write lease on the link `l`.
+    L,
+    /// The same, and the allotted page 9.
+    LAndPage,
     /// A write lease on `a`.
     A,
     /// The same, and a hold of `f`.
     AHoldingF,
+    /// A write lease on `a`, and a hold of the guarded `f`.
+    AHoldingGuarded,
+    /// A write lease on `a`, and a hold of the link `l`.
+    AHoldingL,
     /// A write lease on `a`, and the allotted inode number 4.
     AAndNumber,
+    /// The same, and the allotted pages 9 and 10.
+    AAndNumberAndPages,
     /// A write lease on the root.
     Root,
     /// The same, and a hold of `a`.
@@ -84,14 +98,35 @@ fn lent_of(grants: Grants) -> Lent {
         pages: &[],
         inodes: &[],
     };
+    let l = Lent {
+        image: Image::OneLink,
+        ..f
+    };
     let a = Lent { writes: &[2], ..f };
     let root = Lent { writes: &[1], ..f };
     match grants {
         Grants::F => f,
         Grants::FAndPage => Lent { pages: &[9], ..f },
         Grants::A => a,
+        Grants::L => l,
+        Grants::LAndPage => Lent { pages: &[9], ..l },
         Grants::AHoldingF => Lent { holds: &[3], ..a },
+        Grants::AHoldingGuarded => Lent {
+            image: Image::OneGuarded,
+            holds: &[3],
+            ..a
+        },
+        Grants::AHoldingL => Lent {
+            image: Image::OneLink,
+            holds: &[3],
+            ..a
+        },
         Grants::AAndNumber => Lent { inodes: &[4], ..a },
+        Grants::AAndNumberAndPages => Lent {
+            pages: &[9, 10],
+            inodes: &[4],
+            ..a
+        },
         Grants::Root => root,
         Grants::RootHoldingA => Lent {
             holds: &[2],
@@ -198,6 +233,8 @@ fn sample(alloc: Global, image: Image) -> Option<Sample> {
     let [top, a, f] = three_files();
     let made = match image {
         Image::OneDirectory => Sample::small(alloc, &[top, a, f]),
+        Image::OneGuarded => Sample::small(alloc, &[top, a, f.guarded()]),
+        Image::OneLink => Sample::small(alloc, &[top, a, link(3, 2, b"l", b"/a/f")]),
         Image::TwoDirectories => Sample::small(alloc, &[top, a, f, directory(4, 1, b"b")]),
         Image::OpenDirectory => Sample::small(alloc, &[root(), open_directory()]),
         Image::SixDirectories | Image::SixDirectoriesMoved => {

@@ -4,7 +4,7 @@ ghost use Rattle.std.specs.Prelude.{◌≡◌, IsTrue};
 ghost use Rattle.std.specs.List.{list_all};
 ghost use Rattle.trio_rights.specs.Row.{row_in};
 ghost use Rattle.trio_tables.specs.Row.{as_row};
-ghost use Rattle.trio_edges.specs.Leaves.{RegularFilesAreLeaves};
+ghost use Rattle.trio_edges.specs.Leaves.{DataFilesAreLeaves};
 ghost use Rattle.trio_judge_tests.specs.Leaves.{is_other, HasNoFile};
 
 use std::alloc::Global;
@@ -13,18 +13,18 @@ use trio_edges::edges;
 use trio_rights::{Kind, Mode};
 use trio_tables::{Row, Shadow};
 
-/// A number at which I3 fails. `None` where it holds, or where a row names a judged regular file for
-/// its parent, so that it can't be asked.
+/// A number at which I3 fails. `None` where it holds, or where a row names a judged file for its
+/// parent that is no directory, so that it can't be asked.
 pub fn broken_edge(listing: &Listing, rows: &Shadow) -> Option<u32> {
-    if !regular_files_are_leaves(listing, rows) {
+    if !data_files_are_leaves(listing, rows) {
         return None;
     }
     edges(listing, rows)
 }
 
-/// Whether no row names a judged regular file for its parent.
-fn regular_files_are_leaves(listing: &Listing, rows: &Shadow) -> bool
-    ensures { IsTrue result → RegularFilesAreLeaves listing.now.listing rows.now }
+/// Whether no row names a judged file for its parent that is no directory.
+fn data_files_are_leaves(listing: &Listing, rows: &Shadow) -> bool
+    ensures { IsTrue result → DataFilesAreLeaves listing.now.listing rows.now }
 {
     for ino in 0..rows.inodes() + 1 {
         if !is_listed_by_directory(listing, rows, ino) {
@@ -43,7 +43,7 @@ fn is_listed_by_directory(listing: &Listing, rows: &Shadow, ino: u32) -> bool
     }
 }
 
-/// Whether none of these is a regular file of this number.
+/// Whether none of these has this number and is no directory.
 fn are_not(files: &[ListedFile], ino: u32) -> bool
     ensures { result ≡ list_all (λ f. is_other (as_row f.row).kind f.ino ino) files.now }
 {
@@ -53,7 +53,7 @@ fn are_not(files: &[ListedFile], ino: u32) -> bool
 fn is_other(file: &ListedFile, ino: u32) -> bool
     ensures { result ≡ is_other (as_row file.now.row).kind file.now.ino ino }
 {
-    file.ino != ino || file.row.kind == Kind::Directory
+    file.ino != ino || file.row.kind.is_directory()
 }
 
 /// The row of a directory in slot 0 of a page.

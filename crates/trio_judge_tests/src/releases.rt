@@ -16,6 +16,20 @@ const BODY: Poke = (
     b"\xa4\x01\0\0\0\0\0\0\0\0\0\0\x07\0\0\0\x05\0\0\0\0\0\0\0",
 );
 
+/// The same body, guarded.
+const GUARDED_BODY: Poke = (
+    Target::Block(2),
+    448,
+    b"\xa4\x01\0\0\0\0\0\0\0\0\0\0\x07\0\0\0\x05\0\0\0\0\0\0\0\x01",
+);
+
+/// The body of `l` there.
+const LINK_BODY: Poke = (
+    Target::Block(2),
+    448,
+    b"\xff\x01\0\0\0\0\0\0\0\0\0\0\x07\0\0\0\x04\0\0\0\0\0\0\0",
+);
+
 const CLEARED: Poke = (Target::Block(2), 0, b"\0\0\0\0");
 
 /// A size of two blocks of `f`, and the second of them.
@@ -159,6 +173,76 @@ const RELEASES: &[Release] = &[
                 448,
                 b"\xa4\x01\0\0\0\0\0\0\0\0\0\0\x06\0\0\0\x05\0\0\0\0\0\0\0",
             ),
+        ],
+        (0, 0, 0, 0),
+    ),
+    // a kept child's kind turned from a regular file's to a link's
+    (Grants::A, &[(Target::Block(2), 4, b"\x03")], (4, 2, 6, 0)),
+    // the guard of a regular file is set, and no other value of its byte is one
+    (Grants::F, &[(Target::Body(3), 24, b"\x01")], (0, 0, 0, 0)),
+    (Grants::F, &[(Target::Body(3), 24, b"\x02")], (1, 3, 0, 0)),
+    // neither a directory nor a link has a guard
+    (Grants::A, &[(Target::Body(2), 24, b"\x01")], (1, 2, 0, 0)),
+    (Grants::L, &[(Target::Body(3), 24, b"\x01")], (1, 3, 0, 0)),
+    // a moved guarded file keeps its guard
+    (
+        Grants::AHoldingGuarded,
+        &[CLEARED, SECOND, GUARDED_BODY],
+        (0, 0, 0, 0),
+    ),
+    (
+        Grants::AHoldingGuarded,
+        &[CLEARED, SECOND, BODY],
+        (4, 2, 6, 1),
+    ),
+    // a link has another text, of any bytes
+    (
+        Grants::L,
+        &[(Target::Block(3), 0, b"\0\xff//")],
+        (0, 0, 0, 0),
+    ),
+    // a link without bytes
+    (
+        Grants::L,
+        &[(Target::Body(3), 12, b"\0\0\0\0\0\0\0\0\0\0\0\0")],
+        (1, 3, 0, 0),
+    ),
+    // a link of a whole block, and of a byte more, which a regular file may have
+    (
+        Grants::L,
+        &[(Target::Body(3), 16, b"\0\x10\0\0\0\0\0\0")],
+        (0, 0, 0, 0),
+    ),
+    (Grants::LAndPage, &[TWO_BLOCKS, BLOCK_NINE], (1, 3, 0, 0)),
+    // a held link in another slot, and there as a regular file
+    (
+        Grants::AHoldingL,
+        &[CLEARED, SECOND, LINK_BODY, (Target::Block(2), 260, b"\x03")],
+        (0, 0, 0, 0),
+    ),
+    (
+        Grants::AHoldingL,
+        &[CLEARED, SECOND, LINK_BODY],
+        (4, 2, 6, 1),
+    ),
+    // a new link without bytes
+    (
+        Grants::AAndNumber,
+        &[(Target::Block(2), 256, b"\x04\0\0\0\x03\x01\0\0h"), MODE],
+        (1, 2, 6, 1),
+    ),
+    // a new link with a text
+    (
+        Grants::AAndNumberAndPages,
+        &[
+            (Target::Block(2), 256, b"\x04\0\0\0\x03\x01\0\0h"),
+            (
+                Target::Block(2),
+                448,
+                b"\xff\x01\0\0\0\0\0\0\0\0\0\0\x09\0\0\0\x04\0\0\0\0\0\0\0",
+            ),
+            (Target::Fresh(9), 0, b"\x0a\0\0\0\0\0\0\0"),
+            (Target::Fresh(10), 0, b"/a/f"),
         ],
         (0, 0, 0, 0),
     ),

@@ -81,10 +81,7 @@ fn same_row(a: Row, b: Row) -> bool
 fn same_kind(a: Kind, b: Kind) -> bool
     ensures { result ≡ same_kind a b }
 {
-    match (a, b) {
-        (Kind::Regular, Kind::Regular) | (Kind::Directory, Kind::Directory) => true,
-        _ => false,
-    }
+    a.byte() == b.byte()
 }
 
 /// Whether each core page that a written file has, or a file that comes, was handed in.

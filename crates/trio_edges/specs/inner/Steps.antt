@@ -1,15 +1,9 @@
 -- One row at a time. Cited by private functions alone.
 use Rattle.std.specs.Prelude.{ℕ, ◌<◌, Bool, false, not, ◌&&◌, ◌⊎◌, IsFalse, List, Option, None, Some}
-use Rattle.trio_rights.specs.declared.kind.Kind.TheVariants.{Regular}
-use Rattle.trio_rights.specs.Kind.{same_kind}
 use Rattle.trio_rights.specs.Row.{Row, row_in}
 use Rattle.trio_lists.specs.Lists.{In, is_among}
 use Rattle.trio_layout.specs.Listing.{Listing}
 use Rattle.trio_layout.specs.Edges.{is_listed, leaves_none, stays_listed}
-
--- the row is a regular file's
-abbrev pub is_regular : Row → Bool
-is_regular r = same_kind r.kind Regular
 
 -- the file of the row is a recorded child of a held file that is listed nowhere
 abbrev pub drops_parent : Listing → Option Row → Bool

@@ -2,6 +2,7 @@
 use Rattle.std.specs.Prelude.{ℕ, ◌≡◌, ◌<◌, Bool, true, List, length, Some, Ok, is_some}
 use Rattle.std.specs.List.{list_all}
 use Rattle.trio_rights.specs.declared.kind.Kind.TheVariants.{Directory}
+use Rattle.trio_rights.specs.ByKind.{is_directory}
 use Rattle.trio_rights.specs.Bundle.{bundle_pages}
 use Rattle.trio_lists.specs.Lists.{In, is_among}
 use Rattle.trio_layout.specs.declared.body.Body.{Body}
@@ -42,7 +43,7 @@ pub record AreFoundHeads (c : Case) (found : List ℕ) (heads : List Bool) : Typ
 
 -- a directory with a chain in the grammar that begins with a marked index page
 pub record IsListedBefore (c : Case) (heads : List Bool) (m : Met) : Type 0 where
-  pub directory : m.kind ≡ Directory
+  pub directory : is_directory m.kind ≡ true
   pub body : Body
   pub reads : body_of m.kind c.range m.body ≡ Some body
   pub blocks : 0 < block_count body.size

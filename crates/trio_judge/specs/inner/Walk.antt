@@ -6,7 +6,7 @@ use Rattle.trio_rights.specs.Row.{row_in}
 use Rattle.trio_rights.specs.Bundle.{bundle_pages, is_written}
 use Rattle.trio_lists.specs.Lists.{In, is_among, are_new}
 use Rattle.trio_lists.specs.Sorting.{sorted_by}
-use Rattle.trio_rights.specs.declared.kind.Kind.TheVariants.{Directory}
+use Rattle.trio_rights.specs.ByKind.{is_directory}
 use Rattle.trio_layout.specs.declared.body.Body.{Body}
 use Rattle.trio_layout.specs.declared.refusal.FaultAt.{FaultAt}
 use Rattle.trio_layout.specs.Survey.{Met, numbers, first_listed}
@@ -16,7 +16,6 @@ use Rattle.trio_layout.specs.Listing.{Listing, entry_listed, file_listed}
 use Rattle.trio_layout.specs.Rules.{entry_in_grammar, entry_is_own, entry_keeps_rights, file_keeps_rights, has_rights}
 use Rattle.trio_layout.specs.Broken.{BreaksOwning, BreaksRights}
 use Rattle.trio_layout.proofs.QueueLaws.{pass_many}
-use Rattle.trio_case.specs.Memory.{is_directory}
 use Rattle.trio_case.specs.Order.{place_of, AreMarked}
 use Rattle.trio_case.specs.declared.entries.DirEntry.{DirEntry}
 use Rattle.trio_case.specs.declared.listing.ListingRoom.{ListingRoom}
@@ -157,7 +156,7 @@ pub record IsReady (c : Case) (w : Walk) : Type 0 where
   pub own : (n : ℕ) → In n (numbers (files_of w)) → In n (own_numbers c)
   pub written : (n : ℕ) → In n (map (λ x. x.ino) c.bundle.writes) → In n (numbers (files_of w))
   pub found : AreFound (own_numbers c) w.found.items (numbers (files_of w))
-  pub lists : (m : Met) → In m (files_of w) → m.kind ≡ Directory → writes_directory c ≡ true
+  pub lists : (m : Met) → In m (files_of w) → is_directory m.kind ≡ true → writes_directory c ≡ true
   pub places : length (own_numbers c) ≤ vec_capacity w.files
   pub pages : vec_len w.pages ≡ length (bundle_pages c.bundle)
   pub room : HasListingRoom c w.listing.room

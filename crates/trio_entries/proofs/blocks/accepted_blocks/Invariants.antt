@@ -1,7 +1,7 @@
-use Rattle.trio_entries.proofs.Words.{◌≡◌, ◌≤◌, List, Option, RawFile, Row, blocks_in, blocks_listed_of, blocks_of_kind, flat_map, handed_in, length, take, vec_capacity, vec_len, whole_case}
+use Rattle.trio_entries.proofs.Words.{◌≡◌, ◌≤◌, List, Option, RawFile, Row, blocks_in, blocks_listed_of, blocks_of_kind, flat_map, handed_in, is_directory, length, not, take, vec_capacity, vec_len, whole_case}
 use Rattle.trio_entries.proofs.blocks.accepted_blocks.Given as goal
 
 abbrev pub invariant-loop-file : goal.invariant-loop-file
 invariant-loop-file l =
-    ((rows : List (Option Row)) → blocks_in l.case l.blocks.items ≡ flat_map (λ (f : RawFile). blocks_of_kind (whole_case l.case rows) l.notes (handed_in l.case.bundle) f f.kind (blocks_listed_of l.listing.listing f.ino)) (take l.file-index l.files))
+    ((rows : List (Option Row)) → blocks_in l.case l.blocks.items ≡ flat_map (λ (f : RawFile). blocks_of_kind (whole_case l.case rows) l.notes (handed_in l.case.bundle) f (not (is_directory f.kind)) (blocks_listed_of l.listing.listing f.ino)) (take l.file-index l.files))
     × ((vec_len l.blocks ≤ length (flat_map (λ (f : RawFile). blocks_listed_of l.listing.listing f.ino) (take l.file-index l.files))) × (vec_capacity l.blocks ≡ vec_capacity l.fn.blocks))

@@ -1,4 +1,4 @@
-use Rattle.trio_entries.proofs.Words.{◌++◌, ◌∙◌, List, RawFile, ap, arith, blocks_in, blocks_of_kind, bundle_in, flat_map, handed_in, length, lent_blocks, take_all, whole_case, ℕ}
+use Rattle.trio_entries.proofs.Words.{◌++◌, ◌∙◌, Bool, List, RawFile, ap, arith, blocks_in, blocks_of_kind, bundle_in, covers_blocks, flat_map, handed_in, length, lent_blocks, not, numbers_of, take_all, whole_case, ℕ}
 use Rattle.trio_entries.proofs.Turns.{files_more, length_more, one_within, told_more}
 use Rattle.trio_entries.proofs.blocks.refused_blocks.Goals as goal
 
@@ -20,14 +20,16 @@ loop-file-preserved c =
     let now = blocks_in k c.loop-file.blocks.items in
     let more = length_more (λ (f : RawFile). lent_blocks (bundle_in c.args.case.now.bundle) f.ino) c.args.files.now c.loop-file.file-index file c.loop-file-test.true c.file-item.is in (
       λ rows.
-          let g = λ (f : RawFile). blocks_of_kind (whole_case k rows) c.args.notes.now h f f.kind ((λ (f : RawFile). lent_blocks (bundle_in c.args.case.now.bundle) f.ino) f) in
+          let g = λ (f : RawFile). blocks_of_kind (whole_case k rows) c.args.notes.now h f (not (covers_blocks f.kind f.guard)) ((λ (f : RawFile). lent_blocks (bundle_in c.args.case.now.bundle) f.ino) f) in
           told_more g c.args.files.now c.loop-file.file-index file now (blocks_in k c.add_told.new.blocks.items) c.loop-file-test.true c.file-item.is (c.loop-file.invariant.0 rows)
-          (c.add_told.ensures.told rows ∙ ap (λ (ns : List ℕ). now ++ blocks_of_kind (whole_case k rows) c.args.notes.now h file file.kind ns) c.lent_blocks-pages.ensures),
+          (c.add_told.ensures.told rows
+          ∙ ap (λ (t : Bool). now ++ blocks_of_kind (whole_case k rows) c.args.notes.now h file (not t) (numbers_of c.lent_blocks-pages.result)) c.covers_blocks-told.ensures
+          ∙ ap (λ (ns : List ℕ). now ++ blocks_of_kind (whole_case k rows) c.args.notes.now h file (not (covers_blocks file.kind file.guard)) ns) c.lent_blocks-pages.ensures),
       (omega (arith, more, c.add_told.ensures.len, c.loop-file.invariant.1.0, ap length c.lent_blocks-pages.ensures), c.add_told.ensures.capacity ∙ c.loop-file.invariant.1.1),
     )
 
 pub returns : goal.returns
 returns c = λ rows.
     let k = c.args.case.now in
-    let g = λ (f : RawFile). blocks_of_kind (whole_case k rows) c.args.notes.now (handed_in k.bundle) f f.kind ((λ (f : RawFile). lent_blocks (bundle_in c.args.case.now.bundle) f.ino) f) in
+    let g = λ (f : RawFile). blocks_of_kind (whole_case k rows) c.args.notes.now (handed_in k.bundle) f (not (covers_blocks f.kind f.guard)) ((λ (f : RawFile). lent_blocks (bundle_in c.args.case.now.bundle) f.ino) f) in
     c.loop-file.invariant.0 rows ∙ ap (flat_map g) (take_all c.loop-file.file-index c.args.files.now (omega arith))
