@@ -1,7 +1,13 @@
 -- Copies of pages, in the words of what is covered.
-use Rattle.trio_checkpoint.proofs.Words.{◌&&◌, ◌++◌, ◌∙◌, ◌∷◌, ◌≡◌, All, All-head, All-tail, AreCopies, Bool, Core, Directory, IsCopy, IsSome, IsTrue, Kind, List, None, Option, Regular, Sheet, Some, [], and_from, and_parts, ap, append-nil, are_there, covered_numbers, covered_of, false, false≢true, get_or, is_some, list_all-append, map-append, page_of, refl, sheet_numbers, sheets_of, sym, true, ℕ}
+use Rattle.trio_checkpoint.proofs.Words.{◌&&◌, ◌++◌, ◌∙◌, ◌∷◌, ◌≡◌, All, All-head, All-tail, AreCopies, Bool, Core, IsCopy, IsSome, IsTrue, Kind, List, None, Option, Sheet, Some, [], and_from, and_parts, ap, append-nil, are_there, covered_numbers, covered_of, false, false≢true, get_or, guard_in, is_some, list_all-append, map-append, page_of, refl, sheet_numbers, sheets_of, sym, true, ℕ}
 use Rattle.std.proofs.Common.{cond}
+use Rattle.std.proofs.lemmas.Option.{cond_some}
+use Rattle.std.specs.Str.{bytes_eq}
 use Rattle.std.proofs.lemmas.List.Elements.{All-nil, All-cons, All-push}
+use Rattle.trio_rights.specs.ByKind.{covers_blocks}
+use Rattle.trio_layout.specs.declared.body.Body.{Body}
+use Rattle.trio_layout.specs.declared.range.CoreRange.{CoreRange}
+use Rattle.trio_layout.specs.Body.{body_at, body_bytes, body_fits, body_of}
 use Rattle.trio_layout.specs.Range.{is_core}
 use Rattle.trio_checkpoint.specs.inner.Steps.{AllStand}
 
@@ -44,7 +50,23 @@ one_more_there core ns n h some =
     list_all-append (λ page. is_some (page_of core page)) ns (n ∷ [])
     ∙ and_from (are_there core ns) (is_some (page_of core n) && true) h (and_from (is_some (page_of core n)) true some refl)
 
+-- the guard of a body that could be read is that of its bytes
+pub guard_in-read : (kind : Kind) (range : CoreRange) (bytes : List ℕ) (b : Body) → body_of kind range bytes ≡ Some b → b.guard ≡ guard_in bytes
+unfolding body_of
+guard_in-read kind range bytes b e =
+    let x : Body = body_at bytes in
+    sym (ap (λ (y : Body). y.guard) (cond_some (bytes_eq bytes (body_bytes x) && body_fits kind range x) x b e).1)
+
+-- of these blocks, those that a checkpoint of the file of this body covers
+pub taken_numbers : (kind : Kind) (range : CoreRange) (bytes : List ℕ) (b : Body) (numbers : List ℕ) (covers : Bool) → body_of kind range bytes ≡ Some b → covers ≡ covers_blocks kind b.guard
+    → cond covers numbers [] ≡ covered_numbers kind (guard_in bytes) numbers
+taken_numbers kind range bytes b numbers covers read is =
+    ap (λ t. cond t numbers []) (is ∙ ap (covers_blocks kind) (guard_in-read kind range bytes b read))
+
 -- what is covered of these index pages and of the blocks of these numbers
-pub covered_are : (core : Core) (kind : Kind) (index : List Sheet) (blocks : List ℕ) → index ++ sheets_of core (covered_numbers kind blocks) ≡ covered_of kind index (sheets_of core blocks)
-covered_are core Regular index blocks = append-nil index
-covered_are core Directory index blocks = refl
+pub covered_are : (core : Core) (kind : Kind) (guarded : Bool) (index : List Sheet) (blocks : List ℕ) → index ++ sheets_of core (covered_numbers kind guarded blocks) ≡ covered_of kind guarded index (sheets_of core blocks)
+covered_are core kind guarded index blocks = by (covers_blocks kind guarded)
+  where
+    by : (t : Bool) → index ++ sheets_of core (cond t blocks []) ≡ cond t (index ++ sheets_of core blocks) index
+    by false = append-nil index
+    by true = refl

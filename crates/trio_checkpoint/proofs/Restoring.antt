@@ -1,9 +1,10 @@
 -- Pages that are put back.
-use Rattle.trio_checkpoint.proofs.Words.{◌&&◌, ◌++◌, ◌∙◌, ◌∷◌, ◌≡◌, All, All-head, All-tail, Core, Directory, IsCopy, IsTrue, Kind, List, None, Option, Regular, Sheet, Some, [], all_below, and_from, and_parts, ap, cases_lt, covered_of, get_or, inl, inr, length, list_all-append, map-append, page_of, refl, set, sheet_numbers, sheets_of, sym, true, with_pages, ℕ}
-use Rattle.std.proofs.Common.{ltb, subst}
+use Rattle.trio_checkpoint.proofs.Words.{◌&&◌, ◌++◌, ◌∙◌, ◌∷◌, ◌≡◌, All, All-head, All-tail, Bool, Core, IsCopy, IsTrue, Kind, List, None, Option, Sheet, Some, [], all_below, and_from, and_parts, ap, cases_lt, covered_of, false, get_or, inl, inr, length, list_all-append, map-append, page_of, refl, set, sheet_numbers, sheets_of, subst, sym, true, with_pages, ℕ}
+use Rattle.std.proofs.Common.{cond, ltb}
 use Rattle.std.proofs.Math.ListN.{length-set}
 use Rattle.std.proofs.lemmas.Bool.{lt-ltb}
 use Rattle.std.proofs.lemmas.List.{set-get_or, get_or_past}
+use Rattle.trio_rights.specs.ByKind.{covers_blocks}
 use Rattle.trio_page.specs.Home.{Pages}
 use Rattle.trio_checkpoint.proofs.Copies.{at_its_number}
 
@@ -56,12 +57,15 @@ sheets_back core (n ∷ ns) = by (sheets_back core ns) (page_of core n) refl
         let stands : get_or core.pages n None ≡ Some bytes = sym (at_its_number core n (rw e refl)) ∙ e in
         rw e (ap (with_pages (sheets_of core ns)) (put_same core.pages n bytes stands) ∙ again)
 
-pub restoring_keeps : (core : Core) (kind : Kind) (index blocks : List ℕ) → with_pages (covered_of kind (sheets_of core index) (sheets_of core blocks)) core.pages ≡ core.pages
-restoring_keeps core Regular index blocks = sheets_back core index
-restoring_keeps core Directory index blocks =
-    with_pages-append (sheets_of core index) (sheets_of core blocks) core.pages
-    ∙ ap (with_pages (sheets_of core blocks)) (sheets_back core index)
-    ∙ sheets_back core blocks
+pub restoring_keeps : (core : Core) (kind : Kind) (guarded : Bool) (index blocks : List ℕ) → with_pages (covered_of kind guarded (sheets_of core index) (sheets_of core blocks)) core.pages ≡ core.pages
+restoring_keeps core kind guarded index blocks = by (covers_blocks kind guarded)
+  where
+    by : (t : Bool) → with_pages (cond t (sheets_of core index ++ sheets_of core blocks) (sheets_of core index)) core.pages ≡ core.pages
+    by false = sheets_back core index
+    by true =
+        with_pages-append (sheets_of core index) (sheets_of core blocks) core.pages
+        ∙ ap (with_pages (sheets_of core blocks)) (sheets_back core index)
+        ∙ sheets_back core blocks
 
 -- pages that are put after others are within too
 pub within_still : (pages now : Pages) (xs ys : List Sheet) → IsTrue (all_below (length pages.pages) (sheet_numbers (xs ++ ys))) → now ≡ record pages { pages = with_pages xs pages.pages } → IsTrue (all_below (length now.pages) (sheet_numbers ys))

@@ -14,7 +14,7 @@ use Rattle.trio_rights.specs.Sheets.{Sheet}
 use Rattle.trio_layout.specs.Accept.{with_body_in}
 
 -- A checkpoint of a file that is lent for writing: the inode number, the body, the numbers of all its index pages and blocks, and what the pages
--- are that the checkpoint covers, which are the index pages and a directory's blocks.
+-- are that the checkpoint covers, which are the index pages and the blocks of a directory or of a guarded file.
 pub record Checkpointed : Type 0 where
   pub ino : ℕ
   pub body : List ℕ
@@ -34,9 +34,9 @@ core_of pages range = record { pages = pages; root = []; range = range; inodes =
 abbrev pub chain_in : Core → Kind → List ℕ → Result Chain Location
 chain_in core kind body = result_then (chain_of core) (there_or nowhere (body_of kind core.range body))
 
--- of the numbers of a file's blocks, those of blocks that are covered
-abbrev pub covered_numbers : Kind → List ℕ → List ℕ
-covered_numbers kind numbers = if covers_blocks kind then numbers else []
+-- of the numbers of a file's blocks, those of blocks that are covered, where the file is of this kind and guarded or not
+abbrev pub covered_numbers : Kind → Bool → List ℕ → List ℕ
+covered_numbers kind guarded numbers = if covers_blocks kind guarded then numbers else []
 
 -- each of these pages is there
 abbrev pub are_there : Core → List ℕ → Bool

@@ -1,5 +1,5 @@
 -- Laws of checkpoints.
-use Rattle.std.specs.Prelude.{◌≡◌, ℕ, List, Option, IsTrue}
+use Rattle.std.specs.Prelude.{◌≡◌, ℕ, Bool, List, Option, IsTrue}
 use Rattle.trio_rights.specs.declared.kind.Kind.{Kind}
 use Rattle.trio_lists.specs.Lists.{is_among}
 use Rattle.trio_layout.specs.Core.{Core}
@@ -11,8 +11,8 @@ use Rattle.trio_checkpoint.specs.Covered.{with_body}
 -- What is covered of a file with these index pages and blocks, put back where it was taken, leaves the pages as they are.
 abbrev pub RestoringKeeps : Type 0
 RestoringKeeps =
-    (core : Core) (kind : Kind) (index blocks : List ℕ)
-    → with_pages (covered_of kind (sheets_of core index) (sheets_of core blocks)) core.pages ≡ core.pages
+    (core : Core) (kind : Kind) (guarded : Bool) (index blocks : List ℕ)
+    → with_pages (covered_of kind guarded (sheets_of core index) (sheets_of core blocks)) core.pages ≡ core.pages
 
 -- Covered pages with a body renewed, put in place, are those pages put in place with the body renewed there.
 abbrev pub RenewedBodyIsRestored : Type 0

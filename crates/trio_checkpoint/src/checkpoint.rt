@@ -1,11 +1,12 @@
 //! Checkpoints.
 
-ghost use Rattle.std.specs.Prelude.{◌≡◌, ◌<◌, ◌≤◌, ◌==◌, IfOk, IsOk, IsTrue, Ok, is_some, length};
+ghost use Rattle.std.specs.Prelude.{◌≡◌, ◌<◌, ◌≤◌, ◌==◌, [], IfOk, IsOk, IsTrue, Ok, if◌then◌else◌, is_some, length};
 ghost use Rattle.std.specs.List.{find};
 ghost use Rattle.std.specs.Option.{option_copied};
 ghost use Rattle.std.specs.Result.{ForOk};
 ghost use Rattle.trio_lists.specs.Lists.{is_among};
 ghost use Rattle.trio_lists.specs.Marked.{all_below};
+ghost use Rattle.trio_layout.specs.Body.{guard_in};
 ghost use Rattle.trio_layout.specs.Pages.{covered_of, sheets_of};
 ghost use Rattle.trio_rights.specs.Sheets.{sheet_numbers, with_pages};
 ghost use Rattle.trio_checkpoint.specs.Covered.{are_there, body_on, chain_in, core_of, covered_numbers, covered_pages, with_body};
@@ -19,10 +20,11 @@ use trio_layout::{Body, CoreRange};
 use trio_page::{Home, NoMemory, PageNo, Reads};
 use trio_rights::Kind;
 
-/// What a write grant covers of a file: its body, its index pages and, of a directory, its blocks.
+/// What a write grant covers of a file: its body, its index pages and, of a directory or of a
+/// guarded file, its blocks.
 ///
 /// Contracts see the inode number, the body, the numbers of all index pages and blocks, and the
-/// covered pages with their numbers: a list of the index pages and one of the directory's blocks.
+/// covered pages with their numbers: a list of the index pages and one of the blocks.
 #[derive(Drop)]
 pub struct Checkpoint {
     ino: u32,
@@ -30,7 +32,7 @@ pub struct Checkpoint {
     index_numbers: Vec<u32>,
     block_numbers: Vec<u32>,
     index: Vec<PageCopy>,
-    /// A directory's; none of a regular file.
+    /// Those of a directory or of a guarded file; of any other file none.
     blocks: Vec<PageCopy>,
 }
 
@@ -52,8 +54,9 @@ impl Checkpoint {
     /// Takes the checkpoint of a file of this number and kind that has this body, in an image with
     /// these core pages.
     ///
-    /// The chain of the body is in the grammar and at home, and so are a directory's blocks. Each
-    /// page that is copied is looked at once. All pages stay as they were.
+    /// The chain of the body is in the grammar and at home, and so are the blocks that are covered:
+    /// a directory's, and those of a file whose body says that it is guarded. Each page that is
+    /// copied is looked at once. All pages stay as they were.
     ///
     /// `NoMemory`: there was no memory for the copies.
     pub fn taken(
@@ -67,20 +70,20 @@ impl Checkpoint {
     ) -> Result<Checkpoint, NoMemory>
         requires chain { IsOk (chain_in (core_of home.old.pages range) kind body.now) }
         requires blocks { ForOk (chain_in (core_of home.old.pages range) kind body.now)
-            (λ chain. IsTrue (are_there (core_of home.old.pages range) (covered_numbers kind chain.blocks))) }
+            (λ chain. IsTrue (are_there (core_of home.old.pages range) (covered_numbers kind (guard_in body.now) chain.blocks))) }
         ensures ino { IfOk result (λ c. c.ino ≡ ino) }
         ensures body { IfOk result (λ c. c.body ≡ body.now) }
         ensures chain { IfOk result (λ c. Ok c.chain ≡ chain_in (core_of home.old.pages range) kind body.now) }
         ensures index { IfOk result (λ c. c.index ≡ sheets_of (core_of home.old.pages range) c.chain.index) }
         ensures blocks { IfOk result
-            (λ c. c.blocks ≡ sheets_of (core_of home.old.pages range) (covered_numbers kind c.chain.blocks)) }
+            (λ c. c.blocks ≡ sheets_of (core_of home.old.pages range) (covered_numbers kind (guard_in body.now) c.chain.blocks)) }
         // both lists in one, as the state of the controller has it
         ensures covered { IfOk result
-            (λ c. covered_pages c ≡ covered_of kind
+            (λ c. covered_pages c ≡ covered_of kind (guard_in body.now)
             (sheets_of (core_of home.old.pages range) c.chain.index)
             (sheets_of (core_of home.old.pages range) c.chain.blocks)) }
         ensures index_numbers { IfOk result (λ c. sheet_numbers c.index ≡ c.chain.index) }
-        ensures block_numbers { IfOk result (λ c. sheet_numbers c.blocks ≡ covered_numbers kind c.chain.blocks) }
+        ensures block_numbers { IfOk result (λ c. sheet_numbers c.blocks ≡ covered_numbers kind (guard_in body.now) c.chain.blocks) }
         ensures within { IfOk result
             (λ c. IsTrue (all_below (length home.old.pages) (sheet_numbers (covered_pages c)))) }
         ensures home { home.new.pages ≡ home.old.pages }
@@ -91,7 +94,8 @@ impl Checkpoint {
             unreachable!()
         };
         let chain = copy_chain(alloc, home, range, &read, reads)?;
-        let blocks = copy_blocks(alloc, home, kind, &chain.block_numbers, reads)?;
+        let covers = kind.covers_blocks(read.guard);
+        let blocks = copy_blocks(alloc, home, covers, &chain.block_numbers, reads)?;
         Ok(Checkpoint {
             ino,
             body: *body,
@@ -116,12 +120,19 @@ impl Checkpoint {
         &self.index_numbers
     }
 
-    /// The numbers of the file's blocks, in the order in which the index pages list them; also of a
-    /// regular file, whose blocks aren't covered.
+    /// The numbers of the file's blocks, in the order in which the index pages list them; also where
+    /// the blocks aren't covered.
     pub fn block_numbers(&self) -> &[u32]
         ensures { result.now ≡ self.now.chain.blocks }
     {
         &self.block_numbers
+    }
+
+    /// The 64 bytes of the file's body, as the grant lent it.
+    pub fn body(&self) -> &[u8; 64]
+        ensures { result.now ≡ self.now.body }
+    {
+        &self.body
     }
 
     /// Puts the covered pages in their places at home, and answers the body.
@@ -168,21 +179,21 @@ impl Checkpoint {
     }
 }
 
-/// Copies a directory's blocks, which are at home; of a regular file none.
+/// Copies the blocks of a file, which are at home, where they are covered; else none.
 fn copy_blocks(
     alloc: Global,
     home: &mut Home,
-    kind: Kind,
+    covers: bool,
     numbers: &[u32],
     reads: &mut Reads,
 ) -> Result<Vec<PageCopy>, NoMemory>
-    requires { AllStand home.old.pages (covered_numbers kind numbers.now) }
-    ensures copies { IfOk result (λ copies. AreCopies home.old.pages (covered_numbers kind numbers.now) copies.items) }
+    requires { AllStand home.old.pages (if covers then numbers.now else []) }
+    ensures copies { IfOk result (λ copies. AreCopies home.old.pages (if covers then numbers.now else []) copies.items) }
     ensures home { home.new.pages ≡ home.old.pages }
     ensures floor { home.old.looked ≤ home.new.looked }
 {
-    match kind {
-        Kind::Directory => copy_pages(alloc, home, numbers, reads),
-        Kind::Regular => Ok(Vec::new(alloc)),
+    if !covers {
+        return Ok(Vec::new(alloc));
     }
+    copy_pages(alloc, home, numbers, reads)
 }

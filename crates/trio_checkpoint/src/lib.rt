@@ -2,8 +2,8 @@
 //!
 //! While a file is lent for writing, its pages are out and their holder may put any bytes into
 //! them. A [`Checkpoint`] has what the file was before: its body, copies of its index pages and,
-//! of a directory, copies of its blocks. A regular file's blocks aren't covered: they stay as their
-//! holder leaves them. So a checkpoint in its place is the settled state of the file, and
+//! of a directory or of a guarded file, copies of its blocks. The blocks of any other file aren't
+//! covered: they stay as their holder leaves them. So a checkpoint in its place is the settled state of the file, and
 //! [`Checkpoint::restored`] puts it there.
 //!
 //! The bodies of a directory's children stand in its blocks. Where a child is accepted while its

@@ -1,15 +1,17 @@
 -- Pages that are brought home one list after another.
-use Rattle.trio_commit.proofs.Words.{◌++◌, ◌<◌, ◌∙◌, ◌∷◌, ◌≡◌, All, IsTrue, IsWithinImage, LentFile, LentPage, List, OutByNumber, Pages, Regular, Sheet, Written, [], all_below, ap, below_at, below_parts, bundle_in, bundle_sheets, file_sheets, flat_map, fresh_sheet, length, length-with_all, length-with_pages, lent_sheets, lent_uncovered, map, map-append, page_numbers, refl, reverse, sheet_numbers, subst, sym, uncovered_sheets, with_all, with_pages, written_in, written_pages, ℕ}
+use Rattle.trio_commit.proofs.Words.{if◌then◌else◌, ◌++◌, ◌<◌, ◌∙◌, ◌∷◌, ◌≡◌, All, Bool, Checkpointed, IsTrue, IsWithinImage, LentFile, LentPage, List, Option, OutByNumber, Pages, Sheet, Written, [], all_below, ap, as_before, below_at, below_parts, bundle_in, bundle_sheets, false, file_sheets, flat_map, fresh_sheet, lease_numbers, length, length-with_all, length-with_pages, lent_sheets, map, map-append, page_numbers, refl, reverse, sheet_numbers, subst, sym, true, uncovered_sheets, with_all, with_pages, written_in, written_pages, ℕ}
 use Rattle.std.proofs.lemmas.List.Elements.{All-from_get_or}
 use Rattle.std.proofs.lemmas.List.{reverse-append}
 use Rattle.std.proofs.lemmas.List.Folds.{flat_map-map}
 use Rattle.trio_rights.specs.declared.kind.Kind.{Kind}
-use Rattle.trio_rights.specs.declared.kind.Kind.TheVariants.{Directory}
+use Rattle.trio_rights.specs.ByKind.{covers_blocks}
+use Rattle.trio_layout.specs.Body.{guard_in}
 use Rattle.trio_lease.specs.Bundles.{Bundled, bundled}
 use Rattle.trio_lease.specs.declared.bundle.BundleParts.{BundleParts}
 use Rattle.trio_allot.specs.Out.{inode_numbers, outs_after}
 use Rattle.trio_state.specs.Bundles.{uncovered_of}
 use Rattle.trio_lease.specs.Views.{lent_sheet}
+use Rattle.trio_commit.specs.Handed.{body_before}
 use Rattle.trio_checkpoint.proofs.Restoring.{below_joined, with_pages-append}
 use Rattle.trio_commit.proofs.Cells.{with_all-append}
 use Rattle.trio_commit.proofs.Outs.{fresh_numbers}
@@ -84,11 +86,26 @@ pages_are parts b is =
     ap sheet_numbers (sym (flat_map-map (λ (w : Written). w.index ++ w.blocks) (λ (f : LentFile). written_in f.stands) parts.writes.items))
     ∙ ap (λ (b : Bundled). written_pages (bundle_in b)) is
 
-pub uncovered_are : (parts : BundleParts) (b : Bundled) → bundled parts ≡ b → lent_uncovered (bundle_in b) ++ (bundle_in b).pages ≡ flat_map uncovered_sheets parts.writes.items ++ map fresh_sheet parts.pages.items
-uncovered_are parts b is =
-    ap (λ (b : Bundled). lent_uncovered (bundle_in b) ++ (bundle_in b).pages) (sym is)
-    ∙ ap (λ ss. ss ++ map fresh_sheet parts.pages.items)
-    (flat_map-map (λ (w : Written). uncovered_of w.kind w.blocks) (λ (f : LentFile). written_in f.stands) parts.writes.items)
+-- the blocks that no checkpoint covers, by leases that have the bodies of before
+pub uncovered_are : (cs : List (Option Checkpointed)) (files : List LentFile) → flat_map uncovered_sheets (map (as_before cs) files) ≡ flat_map (λ (w : Written). uncovered_of w.kind (guard_in (body_before cs w)) w.blocks) (map (λ (f : LentFile). written_in f.stands) files)
+uncovered_are cs [] = refl
+uncovered_are cs (f ∷ files) = ap (λ ss. uncovered_sheets (as_before cs f) ++ ss) (uncovered_are cs files)
+
+-- such leases have the pages and the numbers that they had
+sheets_before : (cs : List (Option Checkpointed)) (files : List LentFile)
+    → flat_map (λ (w : Written). w.index ++ w.blocks) (map (λ (f : LentFile). written_in f.stands) (map (as_before cs) files)) ≡ flat_map (λ (w : Written). w.index ++ w.blocks) (map (λ (f : LentFile). written_in f.stands) files)
+sheets_before cs [] = refl
+sheets_before cs (f ∷ files) = ap (λ ss. file_sheets f ++ ss) (sheets_before cs files)
+
+pub pages_before : (cs : List (Option Checkpointed)) (files : List LentFile) (pages : List Sheet) (now : List LentFile) → now ≡ map (as_before cs) files
+    → sheet_numbers (flat_map (λ (w : Written). w.index ++ w.blocks) (map (λ (f : LentFile). written_in f.stands) now) ++ pages) ≡ sheet_numbers (flat_map (λ (w : Written). w.index ++ w.blocks) (map (λ (f : LentFile). written_in f.stands) files) ++ pages)
+pages_before cs files pages now is =
+    ap (λ fs. sheet_numbers (flat_map (λ (w : Written). w.index ++ w.blocks) (map (λ (f : LentFile). written_in f.stands) fs) ++ pages)) is
+    ∙ ap (λ ss. sheet_numbers (ss ++ pages)) (sheets_before cs files)
+
+pub numbers_before : (cs : List (Option Checkpointed)) (files : List LentFile) → lease_numbers (map (as_before cs) files) ≡ lease_numbers files
+numbers_before cs [] = refl
+numbers_before cs (f ∷ files) = ap (λ ns. f.stands.ino ∷ ns) (numbers_before cs files)
 
 pub All-below : (n : ℕ) (xs : List ℕ) → IsTrue (all_below n xs) → All (λ m. m < n) xs
 All-below n xs below = All-from_get_or (λ m. m < n) xs 0 (λ i lt. below_at n xs i lt below)
@@ -106,16 +123,19 @@ returned_are parts b outs is =
     ap (λ ns. outs_after outs ns (inode_numbers parts.inodes.items)) (sym (fresh_numbers parts.pages.items))
     ∙ ap (λ (x : Bundled). outs_after outs (sheet_numbers (bundle_in x).pages) (bundle_in x).numbers) is
 
-file_within : (n : ℕ) (kind : Kind) (index blocks : List Sheet) → IsTrue (all_below n (sheet_numbers (index ++ blocks))) → IsTrue (all_below n (sheet_numbers (uncovered_of kind blocks)))
-file_within n Regular index blocks below = (below_parts n index blocks below).1
-file_within n Directory index blocks below = refl
+file_within : (n : ℕ) (kind : Kind) (guarded : Bool) (index blocks : List Sheet) → IsTrue (all_below n (sheet_numbers (index ++ blocks))) → IsTrue (all_below n (sheet_numbers (uncovered_of kind guarded blocks)))
+file_within n kind guarded index blocks below = by (covers_blocks kind guarded)
+  where
+    by : (t : Bool) → IsTrue (all_below n (sheet_numbers (if t then [] else blocks)))
+    by false = (below_parts n index blocks below).1
+    by true = refl
 
 uncovered_within : (n : ℕ) (files : List LentFile) → IsTrue (all_below n (sheet_numbers (flat_map file_sheets files))) → IsTrue (all_below n (sheet_numbers (flat_map uncovered_sheets files)))
 uncovered_within n [] below = refl
 uncovered_within n (f ∷ files) below =
     let parts = below_parts n (file_sheets f) (flat_map file_sheets files) below in
     below_joined n (uncovered_sheets f) (flat_map uncovered_sheets files)
-    (file_within n f.stands.kind (map lent_sheet f.stands.index) (map lent_sheet f.stands.blocks) parts.0)
+    (file_within n f.stands.kind (guard_in f.stands.body) (map lent_sheet f.stands.index) (map lent_sheet f.stands.blocks) parts.0)
     (uncovered_within n files parts.1)
 
 -- pages of a bundle that no checkpoint covers are within where all of its pages are

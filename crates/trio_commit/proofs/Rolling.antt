@@ -1,15 +1,25 @@
 -- A bundle in the words of its leases, and what of it has its place.
-use Rattle.trio_commit.proofs.Words.{◌∙◌, ◌∷◌, ◌≡◌, Bundle, IsTrue, IsWithinImage, LentFile, List, OutByNumber, Pages, Sheet, Written, [], all_below, ap, lease_numbers, length, length-with_pages, map, refl, sheet_numbers, subst, sym, with_pages, written_in, ℕ}
+use Rattle.trio_commit.proofs.Words.{◌∙◌, ◌∷◌, ◌≡◌, Bundle, Checkpointed, IsTrue, IsWithinImage, LentFile, List, Option, OutByNumber, Pages, Sheet, Written, [], all_below, ap, as_before, bundle_in, lease_numbers, length, length-with_pages, map, refl, sheet_numbers, subst, sym, with_pages, written_in, ℕ}
 use Rattle.std.proofs.Common.{is_some}
 use Rattle.trio_rights.specs.declared.rights.LibNo.{LibNo}
 use Rattle.trio_tables.proofs.OutLemmas.{within_some}
-use Rattle.trio_commit.specs.Handed.{AreOutTo}
+use Rattle.trio_lease.specs.Bundles.{Bundled, bundled}
+use Rattle.trio_lease.specs.declared.bundle.BundleParts.{BundleParts}
+use Rattle.trio_commit.specs.Handed.{AreOutTo, written_numbers}
+use Rattle.trio_commit.proofs.Bringing.{numbers_before}
 use Rattle.trio_commit.proofs.Cells.{below_from}
 
 -- the numbers of the written files, by the bundle and by its leases
 pub lease_numbers-written : (files : List LentFile) → map (λ (w : Written). w.ino) (map (λ (f : LentFile). written_in f.stands) files) ≡ lease_numbers files
 lease_numbers-written [] = refl
 lease_numbers-written (f ∷ files) = ap (λ ns. f.stands.ino ∷ ns) (lease_numbers-written files)
+
+-- the same by leases that have the bodies of before
+pub numbers_are : (parts : BundleParts) (b : Bundled) (cs : List (Option Checkpointed)) → bundled parts ≡ b → lease_numbers (map (as_before cs) parts.writes.items) ≡ written_numbers (bundle_in b)
+numbers_are parts b cs is =
+    numbers_before cs parts.writes.items
+    ∙ sym (lease_numbers-written parts.writes.items)
+    ∙ ap (λ (b : Bundled). written_numbers (bundle_in b)) is
 
 -- what is out to a library has its place
 pub out_within : (outs : OutByNumber) (lib : LibNo) (b : Bundle) → AreOutTo outs lib b → IsWithinImage outs b

@@ -35,6 +35,6 @@ pub use Rattle.trio_commit.specs.Bodies.{bodies_home, kept_body, kept_children, 
 pub use Rattle.trio_commit.specs.Handed.{lent_uncovered}
 pub use Rattle.trio_commit.specs.Listed.{HasNumbersBelow, HasPagesBelow, written_pages}
 pub use Rattle.trio_commit.specs.Store.{checkpoint_at}
-pub use Rattle.trio_commit.specs.inner.Files.{IsWithinImage, file_sheets, lease_numbers, leases_in, lent_sheets, uncovered_sheets}
+pub use Rattle.trio_commit.specs.inner.Files.{IsWithinImage, as_before, file_sheets, lease_numbers, leases_in, lent_sheets, uncovered_sheets}
 pub use Rattle.trio_commit.specs.inner.Putting.{looks_for, taken_number, with_taken}
 pub use Rattle.trio_commit.specs.inner.Tables.{owner_listed, owner_staying, row_judged, row_moved}

@@ -19,7 +19,7 @@ ghost use Rattle.trio_commit.specs.Listed.{HasNumbersBelow, HasPagesBelow, Owner
 use crate::bodies::{put_kept, put_root, put_written};
 use crate::bundles::{bring_home, bring_uncovered};
 use crate::owners::put_owners;
-use crate::restoring::{end_grants, restore_written};
+use crate::restoring::{end_grants, give_bodies_back, restore_written};
 use crate::rows::put_rows;
 use trio_allot::Allotments;
 use trio_case::Listing;
@@ -108,9 +108,10 @@ impl Store {
     }
 
     /// Ends a bundle of this library that is refused. What the checkpoints of the written files
-    /// cover is put back at home, and they are gone. The lent blocks of regular files, which no
-    /// checkpoint covers, and the allotted pages come home as handed in. The bundle's allotments
-    /// end. Takes no memory.
+    /// cover is put back at home, and they are gone. The lent blocks of links and of regular files
+    /// that aren't guarded, which no checkpoint covers, and the allotted pages come home as handed
+    /// in. Whether a file is guarded goes by the body that it was lent with, which its checkpoint
+    /// has, and not by what its writer made of that. The bundle's allotments end. Takes no memory.
     ///
     /// The bundle's allotments are out to the library; each file stands among its leases once; the
     /// pages of the bundle, and those that the checkpoints of its files cover, are the image's.
@@ -120,7 +121,7 @@ impl Store {
         requires within { IsTrue (all_below (length self.old.home.pages) (bundle_pages (bundle_in bundle))) }
         requires covered { IsTrue (all_below (length self.old.home.pages) (sheet_numbers (written_covered self.old.checkpoints.items (bundle_in bundle)))) }
         ensures home { self.new.home ≡ record self.old.home {
-          pages = with_pages (lent_uncovered (bundle_in bundle) ++ (bundle_in bundle).pages)
+          pages = with_pages (lent_uncovered self.old.checkpoints.items (bundle_in bundle) ++ (bundle_in bundle).pages)
               (with_pages (written_covered self.old.checkpoints.items (bundle_in bundle)) self.old.home.pages);
         } }
         ensures checkpoints { self.new.checkpoints.items ≡ with_all None (written_numbers (bundle_in bundle)) self.old.checkpoints.items }
@@ -129,7 +130,9 @@ impl Store {
         ensures rows { self.new.rows ≡ self.old.rows }
         ensures owners { self.new.owners ≡ self.old.owners }
     {
-        restore_written(&mut self.home, &mut self.checkpoints, bundle.writes());
-        bring_uncovered(&mut self.home, &mut self.allotments, bundle);
+        let mut parts = bundle.parts();
+        give_bodies_back(&self.checkpoints, &mut parts.writes);
+        restore_written(&mut self.home, &mut self.checkpoints, &parts.writes);
+        bring_uncovered(&mut self.home, &mut self.allotments, parts);
     }
 }

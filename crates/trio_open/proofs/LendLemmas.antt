@@ -8,7 +8,7 @@ use Rattle.std.proofs.lemmas.List.{take-append-drop}
 use Rattle.std.proofs.lemmas.List.Elements.{filter_map-append}
 use Rattle.std.proofs.lemmas.List.Folds.{list_all-append}
 use Rattle.trio_rights.specs.declared.kind.Kind.{Kind}
-use Rattle.trio_rights.specs.declared.kind.Kind.TheVariants.{Regular, Directory}
+use Rattle.trio_layout.specs.Body.{guard_in}
 use Rattle.trio_layout.specs.Chain.{Chain}
 use Rattle.trio_layout.specs.Core.{Core, Location, page_of}
 use Rattle.trio_layout.specs.Range.{is_core}
@@ -121,9 +121,12 @@ index_there core c l = (there_parts core c.index c.blocks l.there).0
 pub blocks_at_home : (core : Core) (c : Chain) → IsLendable core c → are_there core c.blocks ≡ true
 blocks_at_home core c l = (there_parts core c.index c.blocks l.there).1
 
-pub covered_there : (core : Core) (kind : Kind) (c : Chain) → IsLendable core c → are_there core (covered_numbers kind c.blocks) ≡ true
-covered_there core Regular c l = refl
-covered_there core Directory c l = (there_parts core c.index c.blocks l.there).1
+pub covered_there : (core : Core) (kind : Kind) (guarded : Bool) (c : Chain) → IsLendable core c → are_there core (covered_numbers kind guarded c.blocks) ≡ true
+covered_there core kind guarded c l = by (covers_blocks kind guarded)
+  where
+    by : (t : Bool) → are_there core (if t then c.blocks else []) ≡ true
+    by false = refl
+    by true = (there_parts core c.index c.blocks l.there).1
 
 once_parts : (c : Chain) → are_new [] (c.index ++ c.blocks) ≡ true → (are_new [] c.index ≡ true) × (are_new c.index c.blocks ≡ true)
 once_parts c once = and_parts (are_new [] c.index) (are_new c.index c.blocks) (sym (are_new-append [] c.index c.blocks) ∙ once)
@@ -181,9 +184,9 @@ opened_is o key lib ino entry of body index blocks core c x made first second sa
 -- the checkpoint is that of the grant
 pub checkpoint_is : (o : Opened) (key lib ino entry : ℕ) (of : Kind) (body : List ℕ) (core : Core) (k : Checkpointed)
     → o ≡ record { key = key; grant = record (grant_on core lib ino Write of entry body k.chain) { checkpoint = [] } }
-    → covered_pages k ≡ covered_of of (sheets_of core k.chain.index) (sheets_of core k.chain.blocks)
-    → covered_pages k ≡ covered_of o.grant.of o.grant.index o.grant.blocks
-checkpoint_is o key lib ino entry of body core k made told = told ∙ ap (λ (p : Opened). covered_of p.grant.of p.grant.index p.grant.blocks) (sym made)
+    → covered_pages k ≡ covered_of of (guard_in body) (sheets_of core k.chain.index) (sheets_of core k.chain.blocks)
+    → covered_pages k ≡ covered_of o.grant.of (guard_in o.grant.body) o.grant.index o.grant.blocks
+checkpoint_is o key lib ino entry of body core k made told = told ∙ ap (λ (p : Opened). covered_of p.grant.of (guard_in p.grant.body) p.grant.index p.grant.blocks) (sym made)
 
 -- the sheets of a chain have its numbers
 numbers_there : (core : Core) (c : Chain) → IsLendable core c → record { index = sheet_numbers (sheets_of core c.index); blocks = sheet_numbers (sheets_of core c.blocks) } ≡ c
@@ -197,14 +200,14 @@ numbers_there core c fit =
 
 pub checkpoint_covers : (o : Opened) (key lib ino entry : ℕ) (of : Kind) (body : List ℕ) (core : Core) (k : Checkpointed)
     → o ≡ record { key = key; grant = record (grant_on core lib ino Write of entry body k.chain) { checkpoint = [] } }
-    → k.index ≡ sheets_of core k.chain.index → k.blocks ≡ sheets_of core (covered_numbers of k.chain.blocks) → IsLendable core k.chain
+    → k.body ≡ body → k.index ≡ sheets_of core k.chain.index → k.blocks ≡ sheets_of core (covered_numbers of (guard_in body) k.chain.blocks) → IsLendable core k.chain
     → CoversLent o.grant k
-checkpoint_covers o key lib ino entry of body core k made first second fit =
-    subst (λ (p : Opened). CoversLent p.grant k) (sym made) (record { chain = sym (numbers_there core k.chain fit); index = ap sheet_numbers first; blocks = ap sheet_numbers second ∙ by_kind of })
+checkpoint_covers o key lib ino entry of body core k made has first second fit =
+    subst (λ (p : Opened). CoversLent p.grant k) (sym made) (record { body = has; chain = sym (numbers_there core k.chain fit); index = ap sheet_numbers first; blocks = ap sheet_numbers second ∙ by (covers_blocks of (guard_in body)) })
   where
-    by_kind : (kind : Kind) → sheet_numbers (sheets_of core (covered_numbers kind k.chain.blocks)) ≡ (if covers_blocks kind then sheet_numbers (sheets_of core k.chain.blocks) else [])
-    by_kind Regular = refl
-    by_kind Directory = refl
+    by : (t : Bool) → sheet_numbers (sheets_of core (if t then k.chain.blocks else [])) ≡ (if t then sheet_numbers (sheets_of core k.chain.blocks) else [])
+    by false = refl
+    by true = refl
 
 pub lease_is : (o : Opened) (l : LentFile) (key ino entry : ℕ) (lib : LibNo) (of : Kind) (body : List ℕ) (index blocks : List LentPage) (xs ys : List Sheet)
     → o ≡ record { key = key; grant = record { lib = lib.0; ino = ino; kind = Write; of = of; entry = entry; body = body; index = map lent_sheet index; blocks = map lent_sheet blocks; parent = 0; children = 0; checkpoint = [] } }

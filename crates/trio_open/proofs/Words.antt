@@ -8,6 +8,7 @@ pub use Rattle.std.specs.Option.{option_copied, option_map}
 pub use Rattle.std.specs.Prelude.{if◌then◌else◌, slice_get, vec_capacity}
 pub use Rattle.trio_checkpoint.specs.Covered.{core_of}
 pub use Rattle.trio_grants.specs.Grants.{HasKey, Keyed, without}
+pub use Rattle.trio_layout.specs.Body.{guard_in}
 pub use Rattle.trio_layout.specs.Pages.{sheets_of}
 pub use Rattle.trio_lease.specs.Bundles.{Bundled}
 pub use Rattle.trio_lease.specs.Shown.{LentFile, no_at, page_at}

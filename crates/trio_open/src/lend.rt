@@ -3,6 +3,7 @@
 ghost use Rattle.std.specs.Prelude.{◌≡◌, ◌++◌, ◌∷◌, ◌<◌, ◌≤◌, [], false, IfOk, IsOk, IsSome, IsTrue, OnErr, length, map, None, Some, slice_index_or, vec_capacity};
 ghost use Rattle.std.specs.Result.{ForOk};
 ghost use Rattle.trio_lists.specs.Lists.{are_new};
+ghost use Rattle.trio_layout.specs.Body.{guard_in};
 ghost use Rattle.trio_layout.specs.Pages.{covered_of, sheets_of};
 ghost use Rattle.trio_rights.specs.Sheets.{without_pages};
 ghost use Rattle.trio_checkpoint.specs.Covered.{are_there, chain_in, core_of, covered_pages};
@@ -59,7 +60,7 @@ pub fn lend(
     requires lendable { ForOk (chain_in (core_of home.old.pages range) asked.now.kind asked.now.body) (IsLendable (core_of home.old.pages range)) }
     ensures opened { IfOk result (λ loan. ForOk (chain_in (core_of home.old.pages range) asked.now.kind asked.now.body)
         (λ chain. loan.file ≡ record { key = key; grant = record (grant_on (core_of home.old.pages range) asked.now.lib.0 asked.now.ino Write asked.now.kind asked.now.entry asked.now.body chain) { checkpoint = [] } })) }
-    ensures covered { IfOk result (λ loan. covered_pages loan.checkpoint ≡ covered_of loan.file.grant.of loan.file.grant.index loan.file.grant.blocks) }
+    ensures covered { IfOk result (λ loan. covered_pages loan.checkpoint ≡ covered_of loan.file.grant.of (guard_in loan.file.grant.body) loan.file.grant.index loan.file.grant.blocks) }
     ensures covers { IfOk result (λ loan. CoversLent loan.file.grant loan.checkpoint) }
     ensures lease { IfOk result (λ loan. loan.lease ≡ lease_of loan.file.grant) }
     ensures pages { IfOk result (λ loan. ForOk (chain_in (core_of home.old.pages range) asked.now.kind asked.now.body)

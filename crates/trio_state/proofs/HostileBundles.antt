@@ -1,6 +1,6 @@
 -- Hostile bundles, evaluated: each is what a raw library wrote at which offset of what it was lent. Rules and whole
 -- image say of each what is expected from outside.
-use Rattle.trio_state.proofs.Words.{◌++◌, ◌∷◌, ◌≡◌, Body, Case, Directory, Image, List, None, Regular, Sheet, Some, Verifies, Written, [], is_accepted, listing, map, meets_edges, meets_grammar, meets_owning, meets_rights, refl, ℕ}
+use Rattle.trio_state.proofs.Words.{◌++◌, ◌∷◌, ◌≡◌, Body, Case, Directory, Image, List, None, Regular, Sheet, Some, Verifies, Written, [], false, is_accepted, listing, map, meets_edges, meets_grammar, meets_owning, meets_rights, refl, ℕ}
 use Rattle.std.specs.Prelude.{◌+◌, ◌==◌, replicate, Option, not, if◌then◌else◌}
 use Rattle.trio_page.specs.Field.{number_at, with_part, zeros}
 use Rattle.trio_rights.specs.Row.{Row}
@@ -30,7 +30,7 @@ lowest_rule c =
 -- on page 4, and that lists the file `f`, of number 3, on page 6. `f` has 5 bytes, on page 8.
 
 abbrev body_with : ℕ → ℕ → ℕ → Body
-body_with mode head size = record { mode = record { 0 = mode }; uid = 0; gid = 0; head = head; size = size }
+body_with mode head size = record { mode = record { 0 = mode }; uid = 0; gid = 0; head = head; size = size; guard = false }
 
 abbrev row_with : Kind → ℕ → ℕ → ℕ → Option Row
 row_with kind mode parent page =
@@ -186,13 +186,23 @@ hostile =
     ∷ (judged (w2 [] [] (poke 256 (4 ∷ 0 ∷ 0 ∷ 0 ∷ 4 ∷ 1 ∷ 0 ∷ 0 ∷ 104 ∷ []) ∷ []) ∷ []) [] [] (4 ∷ []))
     -- another mode of the root's: I4
     ∷ (alone (w1 (poke 0 (255 ∷ 1 ∷ []) ∷ []) [] []))
+    -- a file that is guarded from now on: accepted
+    ∷ (in_body 24 (1 ∷ []))
+    -- a guard that is neither on nor off: I1
+    ∷ (in_body 24 (2 ∷ []))
+    -- a guarded directory: I1
+    ∷ (alone (w2 (poke 24 (1 ∷ []) ∷ []) [] []))
+    -- a child that is a link from now on: I4
+    ∷ (in_block 4 (3 ∷ []))
+    -- a new link without a text: I1
+    ∷ (judged (w2 [] [] (poke 256 (4 ∷ 0 ∷ 0 ∷ 0 ∷ 3 ∷ 1 ∷ 0 ∷ 0 ∷ 104 ∷ []) ∷ mode_h ∷ []) ∷ []) [] [] (4 ∷ []))
     ∷ []
 
 -- the rule that is to refuse each; 0 where it is to be accepted
 abbrev expected : List ℕ
 expected =
     1 ∷ 1 ∷ 1 ∷ 1 ∷ 0 ∷ 1 ∷ 1 ∷ 1 ∷ 2 ∷ 2 ∷ 1 ∷ 4 ∷ 4 ∷ 4
-    ∷ 1 ∷ 1 ∷ 0 ∷ 2 ∷ 1 ∷ 3 ∷ 3 ∷ 2 ∷ 2 ∷ 0 ∷ 4 ∷ 0 ∷ 1 ∷ 4 ∷ []
+    ∷ 1 ∷ 1 ∷ 0 ∷ 2 ∷ 1 ∷ 3 ∷ 3 ∷ 2 ∷ 2 ∷ 0 ∷ 4 ∷ 0 ∷ 1 ∷ 4 ∷ 0 ∷ 1 ∷ 1 ∷ 4 ∷ 1 ∷ []
 
 hostile_bundles : map lowest_rule hostile ≡ expected
 unfolding body_of slot_of index_of entries_on file_within judged_files body_bytes entry_bytes index_bytes one_number slots_page with_part number_at zeros

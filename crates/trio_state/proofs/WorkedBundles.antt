@@ -64,7 +64,7 @@ unfolding body_of slot_of index_of entries_on file_of survey body_bytes entry_by
 an_unchanged_file = refl
 
 -- a size of two blocks with one
-a_hostile_size : is_accepted image root_user (writes (file_with (body_bytes (record { mode = record { 0 = 420 }; uid = 5; gid = 5; head = 6; size = 4097 })) 7 ∷ [])) ≡ false
+a_hostile_size : is_accepted image root_user (writes (file_with (body_bytes (record { mode = record { 0 = 420 }; uid = 5; gid = 5; head = 6; size = 4097; guard = false })) 7 ∷ [])) ≡ false
 unfolding body_of slot_of index_of entries_on file_of survey body_bytes entry_bytes index_bytes one_number slots_page number_at zeros
 a_hostile_size = refl
 
@@ -83,7 +83,7 @@ a_page_handed_in : is_accepted image root_user (record { writes = file_with (bod
 unfolding body_of slot_of index_of entries_on file_of survey body_bytes entry_bytes index_bytes one_number slots_page number_at zeros
 a_page_handed_in = refl
 
-another_uid : is_accepted image root_user (writes (file_with (body_bytes (record { mode = record { 0 = 420 }; uid = 6; gid = 5; head = 6; size = 5 })) 7 ∷ [])) ≡ false
+another_uid : is_accepted image root_user (writes (file_with (body_bytes (record { mode = record { 0 = 420 }; uid = 6; gid = 5; head = 6; size = 5; guard = false })) 7 ∷ [])) ≡ false
 unfolding body_of slot_of index_of entries_on file_of survey body_bytes entry_bytes index_bytes one_number slots_page number_at zeros
 another_uid = refl
 
@@ -114,7 +114,7 @@ a_cycle = refl
 -- a new file of number 4 with this name and uid, where the number was handed in or not
 abbrev adds : ℕ → ℕ → List ℕ → Bundle
 adds letter uid numbers = record {
-  writes = root_with (slots_page (slot_a ++ slot_b ++ entry_bytes (file_entry 4 letter) ++ body_bytes (record { mode = record { 0 = 420 }; uid = uid; gid = 5; head = 0; size = 0 })) 3328) ∷ [];
+  writes = root_with (slots_page (slot_a ++ slot_b ++ entry_bytes (file_entry 4 letter) ++ body_bytes (record { mode = record { 0 = 420 }; uid = uid; gid = 5; head = 0; size = 0; guard = false })) 3328) ∷ [];
   holds = [];
   pages = [];
   numbers = numbers;

@@ -1,5 +1,5 @@
 -- A small image, evaluated: the definitions give what a person expects of it.
-use Rattle.trio_state.proofs.Words.{◌++◌, ◌∷◌, ◌≡◌, Body, Core, Directory, Image, List, None, Regular, Some, Verifies, [], numbers, owners_table, plain, refl, rows_table, ℕ}
+use Rattle.trio_state.proofs.Words.{◌++◌, ◌∷◌, ◌≡◌, Body, Core, Directory, Image, List, None, Regular, Some, Verifies, [], false, numbers, owners_table, plain, refl, rows_table, ℕ}
 use Rattle.std.specs.Prelude.{Ok, Err}
 use Rattle.trio_page.specs.Field.{number_at, zeros}
 use Rattle.trio_layout.specs.declared.slot.EntryPart.{EntryPart}
@@ -11,14 +11,14 @@ use Rattle.trio_layout.specs.Entries.{entries_on}
 use Rattle.trio_layout.specs.Survey.{survey, file_of, root_of, owner_of}
 
 abbrev pub directory_body : ℕ → Body
-directory_body head = record { mode = record { 0 = 493 }; uid = 0; gid = 0; head = head; size = 4096 }
+directory_body head = record { mode = record { 0 = 493 }; uid = 0; gid = 0; head = head; size = 4096; guard = false }
 
 abbrev pub empty_body : ℕ → Body
-empty_body uid = record { mode = record { 0 = 420 }; uid = uid; gid = 5; head = 0; size = 0 }
+empty_body uid = record { mode = record { 0 = 420 }; uid = uid; gid = 5; head = 0; size = 0; guard = false }
 
 -- one block of this file is used
 abbrev pub short_body : ℕ → Body
-short_body head = record { mode = record { 0 = 420 }; uid = 5; gid = 5; head = head; size = 5 }
+short_body head = record { mode = record { 0 = 420 }; uid = 5; gid = 5; head = head; size = 5; guard = false }
 
 abbrev pub file_entry : ℕ → ℕ → EntryPart
 file_entry ino letter = record { ino = ino; kind = Regular; name = letter ∷ [] }

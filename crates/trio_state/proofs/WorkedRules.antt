@@ -26,7 +26,7 @@ unfolding body_of slot_of index_of entries_on file_of survey file_within judged_
 an_unchanged_file = refl
 
 -- a size of two blocks with one: I1
-a_hostile_size : meets_grammar (by_root (writes (file_with (body_bytes (record { mode = record { 0 = 420 }; uid = 5; gid = 5; head = 6; size = 4097 })) 7 ∷ []))) ≡ false
+a_hostile_size : meets_grammar (by_root (writes (file_with (body_bytes (record { mode = record { 0 = 420 }; uid = 5; gid = 5; head = 6; size = 4097; guard = false })) 7 ∷ []))) ≡ false
 unfolding body_of slot_of index_of entries_on file_of survey file_within judged_files body_bytes entry_bytes index_bytes one_number slots_page number_at zeros
 a_hostile_size = refl
 
@@ -44,7 +44,7 @@ a_foreign_page = refl
 
 -- another uid: I4, and none before it
 abbrev other_uid : Case
-other_uid = by_root (writes (file_with (body_bytes (record { mode = record { 0 = 420 }; uid = 6; gid = 5; head = 6; size = 5 })) 7 ∷ []))
+other_uid = by_root (writes (file_with (body_bytes (record { mode = record { 0 = 420 }; uid = 6; gid = 5; head = 6; size = 5; guard = false })) 7 ∷ []))
 
 another_uid_is_grammar : meets_grammar other_uid ≡ true
 unfolding body_of slot_of index_of entries_on file_of survey file_within judged_files body_bytes entry_bytes index_bytes one_number slots_page number_at zeros
@@ -110,7 +110,7 @@ a_moved_file : meets_rules (moved_file (body_bytes (short_body 6))) ≡ true
 unfolding body_of slot_of index_of entries_on file_of survey file_within judged_files body_bytes entry_bytes index_bytes one_number slots_page number_at zeros
 a_moved_file = refl
 
-a_moved_file_of_another_body : meets_rights (moved_file (body_bytes (record { mode = record { 0 = 511 }; uid = 5; gid = 5; head = 6; size = 5 }))) ≡ false
+a_moved_file_of_another_body : meets_rights (moved_file (body_bytes (record { mode = record { 0 = 511 }; uid = 5; gid = 5; head = 6; size = 5; guard = false }))) ≡ false
 unfolding body_of slot_of index_of entries_on file_of survey file_within judged_files body_bytes entry_bytes index_bytes one_number slots_page number_at zeros
 a_moved_file_of_another_body = refl
 
@@ -122,7 +122,7 @@ a_number_twice = refl
 -- a new file of number 4 with this name and uid, where the number was handed in or not
 abbrev adds : ℕ → ℕ → List ℕ → Case
 adds letter uid numbers = case_of image user (record {
-  writes = root_with (slots_page (slot_a ++ slot_b ++ entry_bytes (file_entry 4 letter) ++ body_bytes (record { mode = record { 0 = 420 }; uid = uid; gid = 5; head = 0; size = 0 })) 3328) ∷ [];
+  writes = root_with (slots_page (slot_a ++ slot_b ++ entry_bytes (file_entry 4 letter) ++ body_bytes (record { mode = record { 0 = 420 }; uid = uid; gid = 5; head = 0; size = 0; guard = false })) 3328) ∷ [];
   holds = [];
   pages = [];
   numbers = numbers;
@@ -156,7 +156,7 @@ a_number_not_handed_in = refl
 -- ---- directories: the root lists `d` of number 2, which lists `e` of number 3, which is empty
 
 abbrev empty_directory : Body
-empty_directory = record { mode = record { 0 = 493 }; uid = 0; gid = 0; head = 0; size = 0 }
+empty_directory = record { mode = record { 0 = 493 }; uid = 0; gid = 0; head = 0; size = 0; guard = false }
 
 abbrev slot_d : List ℕ
 slot_d = entry_bytes (directory_entry 2 100) ++ body_bytes (directory_body 6)

@@ -6,7 +6,8 @@ use Rattle.trio_rights.specs.ByKind.{covers_blocks}
 use Rattle.trio_rights.specs.Row.{Row}
 use Rattle.trio_lists.specs.Lists.{In, is_among}
 use Rattle.trio_rights.specs.Sheets.{Sheet, sheet_numbers, with_pages}
-use Rattle.trio_layout.specs.Image.{Image, row_at, with_core_pages}
+use Rattle.trio_layout.specs.Body.{guard_in}
+use Rattle.trio_layout.specs.Image.{Image, row_at, settled_body, with_core_pages}
 use Rattle.trio_state.specs.State.{OpenGrant, State, settled}
 use Rattle.trio_nodes.specs.GrantKinds.{is_write, is_read, is_hold}
 use Rattle.trio_rights.specs.Bundle.{Bundle, bundle_pages, is_written}
@@ -50,18 +51,18 @@ is_in_bundle lib b g =
 abbrev pub grants_after : State → ℕ → Bundle → List OpenGrant
 grants_after s lib b = filter (λ g. not (is_in_bundle lib b g)) s.open_grants
 
--- the blocks of a file of this kind, unless its checkpoint covers them
-abbrev pub uncovered_of : Kind → List Sheet → List Sheet
-uncovered_of kind blocks = if covers_blocks kind then [] else blocks
+-- the blocks of a file of this kind that is guarded or isn't, unless its checkpoint covers them
+abbrev pub uncovered_of : Kind → Bool → List Sheet → List Sheet
+uncovered_of kind guarded blocks = if covers_blocks kind guarded then [] else blocks
 
--- the same of a live file, by its row
-abbrev pub uncovered_by : Option Row → List Sheet → List Sheet
-uncovered_by None blocks = []
-uncovered_by (Some r) blocks = uncovered_of r.kind blocks
+-- the same of a live number, by its row and by the guard of its settled body, whatever its writer's body says
+abbrev pub uncovered_by : Image → ℕ → Option Row → List Sheet → List Sheet
+uncovered_by image n None blocks = []
+uncovered_by image n (Some r) blocks = uncovered_of r.kind (guard_in (settled_body image n)) blocks
 
 -- the blocks of the written files that no checkpoint covers, by what is settled
 abbrev pub uncovered : Image → Bundle → List Sheet
-uncovered image b = flat_map (λ w. uncovered_by (row_at image w.ino) w.blocks) b.writes
+uncovered image b = flat_map (λ w. uncovered_by image w.ino (row_at image w.ino) w.blocks) b.writes
 
 -- What is settled after a refusal: as before, but lent blocks that aren't covered and allotted pages stand at their
 -- numbers as they were handed in.

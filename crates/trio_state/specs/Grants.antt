@@ -12,6 +12,7 @@ use Rattle.trio_nodes.specs.declared.grant.Holder.{Holder}
 use Rattle.trio_nodes.specs.declared.answers.GrantFault.{GrantFault}
 use Rattle.trio_nodes.specs.declared.answers.GrantFault.TheVariants.{NotLive, Denied, NoParent, Busy}
 use Rattle.trio_rights.specs.Sheets.{Sheet, without_pages, sheet_numbers}
+use Rattle.trio_layout.specs.Body.{guard_in}
 use Rattle.trio_layout.specs.Chain.{Chain}
 use Rattle.trio_layout.specs.Core.{Core, Location}
 use Rattle.trio_layout.specs.Pages.{settled_chain, index_sheets, block_sheets}
@@ -97,7 +98,7 @@ grant_of core lib ino kind of entry body chain =
       blocks = blocks;
       parent = 0;
       children = 0;
-      checkpoint = covered kind of index blocks;
+      checkpoint = covered kind of (guard_in body) index blocks;
     }
 
 -- the grant that is opened on a live file of this row, by the settled image, with what a hold tells

@@ -1,15 +1,15 @@
--- The nodes of an image: the tree that its rows tell, with the bytes of regular files; and the notes of its live files.
+-- The nodes of an image: the tree that its rows tell, with the guards and the bytes of its files; and the notes of its live files.
 use Rattle.std.specs.Prelude.{ℕ, ◌==◌, List, [], ◌∷◌, take, length, Option, None, Some, Result, Ok, Err, if◌then◌else◌, unwrap_or}
 use Rattle.std.specs.List.{flat_map}
 use Rattle.std.specs.Option.{option_map, option_map_or}
 use Rattle.trio_lists.specs.Lists.{tabulated}
 use Rattle.trio_rights.specs.declared.kind.Kind.{Kind}
-use Rattle.trio_rights.specs.declared.kind.Kind.TheVariants.{Regular, Directory}
+use Rattle.trio_rights.specs.ByKind.{is_directory}
 use Rattle.trio_rights.specs.Row.{Row, row_in}
 use Rattle.trio_layout.specs.declared.body.Body.{Body}
 use Rattle.trio_layout.specs.declared.slot.SlotRead.{SlotRead}
 use Rattle.trio_layout.specs.declared.slot.SlotRead.TheVariants.{Empty, Entry, Bad}
-use Rattle.trio_layout.specs.Body.{body_at, body_of}
+use Rattle.trio_layout.specs.Body.{body_at, body_of, guard_in}
 use Rattle.trio_layout.specs.Chain.{Chain, chain_of}
 use Rattle.trio_layout.specs.Core.{Core, Location, page_of}
 use Rattle.trio_layout.specs.Entries.{slot_bytes}
@@ -51,10 +51,9 @@ abbrev pub body_content : Core → Option Body → List ℕ
 body_content core None = []
 body_content core (Some b) = take b.size (chain_bytes core (chain_of core b))
 
--- the bytes of a file with this body; a directory has none
+-- the bytes of a file of this kind with this body; a directory has none
 abbrev pub content_of : Core → Kind → List ℕ → List ℕ
-content_of core Regular body = body_content core (body_of Regular core.range body)
-content_of core Directory body = []
+content_of core kind body = if is_directory kind then [] else body_content core (body_of kind core.range body)
 
 -- the node of a live number, by its row
 abbrev pub node_by_row : Core → ℕ → Row → Node
@@ -65,6 +64,7 @@ node_by_row core n r = record {
   mode = r.mode;
   uid = r.uid;
   gid = r.gid;
+  guard = guard_in (body_of_row core n r);
   bytes = content_of core r.kind (body_of_row core n r);
 }
 
@@ -76,9 +76,13 @@ nodes_by_rows core rows = tabulated (λ n. option_map (node_by_row core n) (row_
 abbrev pub nodes_of : Image → Nodes
 nodes_of image = nodes_by_rows image.core image.rows
 
--- what is noted of a live number, by its row: its name, and the size that its body says
+-- what is noted of a live number, by its row: its name, and the size and the guard that its body says
 abbrev pub note_by_row : Core → ℕ → Row → Note
-note_by_row core n r = record { name = name_by_row core r; size = (body_at (body_of_row core n r)).size }
+note_by_row core n r = record {
+  name = name_by_row core r;
+  size = (body_at (body_of_row core n r)).size;
+  guard = guard_in (body_of_row core n r);
+}
 
 -- the same of each number of the table, from 0 on
 abbrev pub notes_by_rows : Core → List (Option Row) → List (Option Note)

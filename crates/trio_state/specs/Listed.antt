@@ -1,17 +1,16 @@
 -- What a release tells of its files and blocks, by the bundle and its listing alone: no page is looked at but the bundle's. What is told
--- of a file that the release leaves as it was comes from what is noted of each live file, its name and its size.
+-- of a file that the release leaves as it was comes from what is noted of each live file: its name, its size and its guard.
 use Rattle.std.specs.Prelude.{ℕ, ◌+◌, ◌*◌, ◌==◌, nat_lt, min, Bool, true, false, not, ◌&&◌, ◌||◌, List, [], ◌∷◌, ◌++◌, map, Option, None, Some, if◌then◌else◌, drop, slice_get, slice_index_or, slice_set, unwrap_or}
 use Rattle.std.specs.List.{filter_map, find, flat_map, list_any}
 use Rattle.std.specs.Option.{option_map, option_map_or}
 use Rattle.std.specs.Str.{bytes_eq}
 use Rattle.trio_lists.specs.Lists.{is_among}
 use Rattle.trio_lists.specs.Sorting.{sorted_by}
-use Rattle.trio_rights.specs.declared.kind.Kind.{Kind}
-use Rattle.trio_rights.specs.declared.kind.Kind.TheVariants.{Regular, Directory}
+use Rattle.trio_rights.specs.ByKind.{is_directory, covers_blocks}
 use Rattle.trio_rights.specs.Row.{Row, row_in}
 use Rattle.trio_rights.specs.Bundle.{Bundle, Written, is_written}
 use Rattle.trio_rights.specs.Sheets.{sheet_numbers}
-use Rattle.trio_layout.specs.Body.{body_at}
+use Rattle.trio_layout.specs.Body.{body_at, guard_in}
 use Rattle.trio_layout.specs.Slot.{entry_at}
 use Rattle.trio_layout.specs.Core.{page_of}
 use Rattle.trio_layout.specs.Entries.{slot_bytes}
@@ -28,12 +27,15 @@ use Rattle.trio_nodes.specs.declared.entry.RawFile.{RawFile}
 abbrev pub Notes : Type 0
 Notes = List (Option Note)
 
--- the name that is noted of a number, and the size; nothing and 0 of a number that isn't live
+-- the name that is noted of a number, the size and the guard; nothing, 0 and none of a number that isn't live
 abbrev pub noted_name : Notes → ℕ → List ℕ
 noted_name notes n = option_map_or (λ x. x.name) (slice_index_or notes n None) []
 
 abbrev pub noted_size : Notes → ℕ → ℕ
 noted_size notes n = option_map_or (λ x. x.size) (slice_index_or notes n None) 0
+
+abbrev pub noted_guard : Notes → ℕ → Bool
+noted_guard notes n = option_map_or (λ x. x.guard) (slice_index_or notes n None) false
 
 -- ---- files
 
@@ -45,9 +47,9 @@ is_handed b n = is_written b n || is_among n b.holds
 abbrev pub size_in : List ℕ → ℕ
 size_in body = (body_at body).size
 
--- a file as it is told: by its row, with a name and a size
-abbrev pub told_row : Bundle → ℕ → Bool → List ℕ → ℕ → Row → RawFile
-told_row b n gone name size r = record {
+-- a file as it is told: by its row, with a name, a size and a guard
+abbrev pub told_row : Bundle → ℕ → Bool → List ℕ → ℕ → Bool → Row → RawFile
+told_row b n gone name size guarded r = record {
   ino = n;
   given = is_handed b n;
   gone = gone;
@@ -58,6 +60,7 @@ told_row b n gone name size r = record {
   uid = r.uid;
   gid = r.gid;
   size = size;
+  guard = guarded;
 }
 
 -- the bytes of the slot in which an entry stands, on the bundle's page
@@ -72,11 +75,21 @@ entry_name c e = (entry_at (entry_slot c e)).name
 abbrev pub written_size : Bundle → ℕ → Option ℕ
 written_size b n = option_map (λ w. size_in w.body) (find (λ w. w.ino == n) b.writes)
 
+-- the guard that the lease of a written file says
+abbrev pub written_guard : Bundle → ℕ → Option Bool
+written_guard b n = option_map (λ w. guard_in w.body) (find (λ w. w.ino == n) b.writes)
+
 -- the size of the file of an entry: as its lease says, where it is new as the slot says, else as it was
 abbrev pub entry_size : Case → Notes → ListedEntry → ℕ
 entry_size c notes e =
     unwrap_or (written_size c.bundle e.ino)
     (if is_among e.ino c.bundle.numbers then size_in (drop 192 (entry_slot c e)) else noted_size notes e.ino)
+
+-- the guard of the file of an entry, found likewise
+abbrev pub entry_guard : Case → Notes → ListedEntry → Bool
+entry_guard c notes e =
+    unwrap_or (written_guard c.bundle e.ino)
+    (if is_among e.ino c.bundle.numbers then guard_in (drop 192 (entry_slot c e)) else noted_guard notes e.ino)
 
 -- the entry is of a kept child that is neither written nor held, and has its name still
 abbrev pub is_untold : Case → Notes → ListedEntry → Bool
@@ -86,19 +99,19 @@ is_untold c notes e = e.kept && not (is_handed c.bundle e.ino) && bytes_eq (note
 abbrev pub told_entry : Case → Listing → Notes → ListedEntry → Option RawFile
 told_entry c l notes e =
     if is_untold c notes e then None
-    else option_map (told_row c.bundle e.ino false (entry_name c e) (entry_size c notes e)) (row_after l c.rows e.ino)
+    else option_map (told_row c.bundle e.ino false (entry_name c e) (entry_size c notes e) (entry_guard c notes e)) (row_after l c.rows e.ino)
 
 -- what a written file tells that no judged directory lists: it has its name still
 abbrev pub told_written : Case → Listing → Notes → Written → Option RawFile
 told_written c l notes w =
     if is_listed l w.ino then None
-    else option_map (told_row c.bundle w.ino false (noted_name notes w.ino) (size_in w.body)) (row_after l c.rows w.ino)
+    else option_map (told_row c.bundle w.ino false (noted_name notes w.ino) (size_in w.body) (guard_in w.body)) (row_after l c.rows w.ino)
 
 -- what a held file tells that is listed nowhere: it is gone
 abbrev pub told_gone : Case → Listing → Notes → ℕ → Option RawFile
 told_gone c l notes n =
     if is_listed l n then None
-    else option_map (told_row c.bundle n true (noted_name notes n) (noted_size notes n)) (row_in c.rows n)
+    else option_map (told_row c.bundle n true (noted_name notes n) (noted_size notes n) (noted_guard notes n)) (row_in c.rows n)
 
 -- The files of a release that is accepted, in the order of their numbers.
 abbrev pub accepted_files : Case → Listing → Notes → List RawFile
@@ -110,7 +123,8 @@ accepted_files c l notes =
 
 -- what a file of a refused release tells: that it stands as before
 abbrev pub told_same : Case → Notes → ℕ → Option RawFile
-told_same c notes n = option_map (told_row c.bundle n false (noted_name notes n) (noted_size notes n)) (row_in c.rows n)
+told_same c notes n =
+    option_map (told_row c.bundle n false (noted_name notes n) (noted_size notes n) (noted_guard notes n)) (row_in c.rows n)
 
 -- The files of a release that is refused, in the order of their numbers: the written and the held ones.
 abbrev pub refused_files : Case → Notes → List RawFile
@@ -145,28 +159,28 @@ changed_blocks c notes h f at (page ∷ pages) =
     let rest = changed_blocks c notes h f (at + 1) pages in
     if is_block_changed c notes h f at page then block_told c f.ino at page ∷ rest else rest
 
--- those of a judged regular file, whose blocks are these; any other file has none that changed
-abbrev pub blocks_of_kind : Case → Notes → Handed → RawFile → Kind → List ℕ → List ToldBlock
-blocks_of_kind c notes h f Regular pages = changed_blocks c notes h f 0 pages
-blocks_of_kind c notes h f Directory pages = []
+-- those of a file whose blocks are these, where blocks of such a file are told at all
+abbrev pub blocks_of_kind : Case → Notes → Handed → RawFile → Bool → List ℕ → List ToldBlock
+blocks_of_kind c notes h f told pages = if told then changed_blocks c notes h f 0 pages else []
 
 -- the blocks of a judged file, as the listing has them
 abbrev pub blocks_listed_of : Listing → ℕ → List ℕ
 blocks_listed_of l n = option_map_or (λ f. f.blocks) (find (λ f. f.ino == n) l.files) []
 
--- The blocks of a release that is accepted.
+-- The blocks of a release that is accepted; of a directory none is told.
 abbrev pub accepted_blocks : Case → Listing → Notes → Handed → List RawFile → List ToldBlock
-accepted_blocks c l notes h files = flat_map (λ f. blocks_of_kind c notes h f f.kind (blocks_listed_of l f.ino)) files
+accepted_blocks c l notes h files = flat_map (λ f. blocks_of_kind c notes h f (not (is_directory f.kind)) (blocks_listed_of l f.ino)) files
 
--- The blocks of a release that is refused: those of written regular files that are marked as touched.
+-- The blocks of a release that is refused: those of written files that are marked as touched. Of a directory and of a guarded file
+-- none is told, since their blocks return.
 abbrev pub refused_blocks : Case → Notes → Handed → List RawFile → List ToldBlock
-refused_blocks c notes h files = flat_map (λ f. blocks_of_kind c notes h f f.kind (lent_blocks c.bundle f.ino)) files
+refused_blocks c notes h files = flat_map (λ f. blocks_of_kind c notes h f (not (covers_blocks f.kind f.guard)) (lent_blocks c.bundle f.ino)) files
 
 -- ---- notes
 
 -- what is noted of a file once it is told
 abbrev pub note_told : RawFile → Option Note
-note_told f = if f.gone then None else Some (record { name = f.name; size = f.size })
+note_told f = if f.gone then None else Some (record { name = f.name; size = f.size; guard = f.guard })
 
 -- the notes after the files of a release
 abbrev pub notes_after : List RawFile → Notes → Notes

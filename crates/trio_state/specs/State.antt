@@ -1,5 +1,5 @@
 -- The state of the controller, and the image that is settled in it.
-use Rattle.std.specs.Prelude.{ℕ, ◌+◌, List, [], Option}
+use Rattle.std.specs.Prelude.{ℕ, ◌+◌, Bool, List, [], Option}
 use Rattle.std.specs.List.{flat_map}
 use Rattle.trio_rights.specs.declared.kind.Kind.{Kind}
 use Rattle.trio_rights.specs.declared.rights.Creds.{Creds}
@@ -39,11 +39,11 @@ pub record State : Type 0 where
   pub creds : List Creds
   pub entries : ℕ
 
--- what the checkpoint of a grant covers
-abbrev pub covered : GrantKind → Kind → List Sheet → List Sheet → List Sheet
-covered Write of index blocks = covered_of of index blocks
-covered Read of index blocks = []
-covered Hold of index blocks = []
+-- what the checkpoint of a grant covers, on a file of this kind that is guarded or isn't
+abbrev pub covered : GrantKind → Kind → Bool → List Sheet → List Sheet → List Sheet
+covered Write of guarded index blocks = covered_of of guarded index blocks
+covered Read of guarded index blocks = []
+covered Hold of guarded index blocks = []
 
 -- home with the checkpoint of each open write grant in place
 abbrev pub settled : State → Image

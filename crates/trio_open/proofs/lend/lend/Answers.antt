@@ -1,9 +1,9 @@
-use Rattle.trio_open.proofs.Words.{core_of, refl, sym}
+use Rattle.trio_open.proofs.Words.{core_of, guard_in, refl, sym}
 use Rattle.trio_open.proofs.LendLemmas.{index_there, covered_there, index_once, blocks_once, blocks_there, blocks_same, both_gone, opened_is, checkpoint_is, checkpoint_covers, lease_is, same_chain}
 use Rattle.trio_open.proofs.lend.lend.Goals as goal
 
 pub taken-requires-clause-blocks : goal.taken-requires-clause-blocks
-taken-requires-clause-blocks c = λ x e. covered_there (core_of c.args.home.now.pages c.args.range) c.args.asked.now.kind x (c.requires.lendable x e)
+taken-requires-clause-blocks c = λ x e. covered_there (core_of c.args.home.now.pages c.args.range) c.args.asked.now.kind (guard_in c.args.asked.now.body) x (c.requires.lendable x e)
 
 pub take_pages-requires-clause-there : goal.take_pages-requires-clause-there
 take_pages-requires-clause-there c =
@@ -70,7 +70,7 @@ returns-clause-covers c =
     let second = rw (c.block_numbers-2.ensures, blocks_same c.args.home.now.pages c.take_pages.new.home.pages c.args.range chain gone fit) at c.take_pages-2.ensures.lent in
     let made = rw c.of.ensures at c.of-file.ensures in
     let made' = opened_is c.of-file.result c.args.key asked.lib.0 asked.ino asked.entry asked.kind asked.body _ _ core chain chain made first second refl in
-    checkpoint_covers c.of-file.result c.args.key asked.lib.0 asked.ino asked.entry asked.kind asked.body core c.in_ok-checkpoint.checkpoint made' told.index told.blocks fit
+    checkpoint_covers c.of-file.result c.args.key asked.lib.0 asked.ino asked.entry asked.kind asked.body core c.in_ok-checkpoint.checkpoint made' told.body told.index told.blocks fit
 
 pub returns-clause-lease : goal.returns-clause-lease
 returns-clause-lease c =

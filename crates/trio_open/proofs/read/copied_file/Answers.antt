@@ -1,9 +1,9 @@
-use Rattle.trio_open.proofs.Words.{core_of, sym}
+use Rattle.trio_open.proofs.Words.{core_of, guard_in, sym}
 use Rattle.trio_open.proofs.LendLemmas.{blocks_at_home, covered_there, index_there, read_is, same_chain, shown_is}
 use Rattle.trio_open.proofs.read.copied_file.Goals as goal
 
 pub taken-requires-clause-blocks : goal.taken-requires-clause-blocks
-taken-requires-clause-blocks c = λ x e. covered_there (core_of c.args.home.now.pages c.args.range) c.args.asked.now.kind x (c.requires.lendable x e)
+taken-requires-clause-blocks c = λ x e. covered_there (core_of c.args.home.now.pages c.args.range) c.args.asked.now.kind (guard_in c.args.asked.now.body) x (c.requires.lendable x e)
 
 pub copies-requires : goal.copies-requires
 copies-requires c =
