@@ -1,11 +1,11 @@
 -- When nodes have all that leases show as they were lent.
-use Rattle.std.specs.Prelude.{◌≡◌, ℕ, ◌==◌, List, Option, Some, IsTrue}
+use Rattle.std.specs.Prelude.{◌≡◌, ℕ, ◌==◌, Bool, true, false, List, Option, Some, IsTrue}
 use Rattle.std.specs.List.{find}
 use Rattle.std.specs.Option.{option_map}
 use Rattle.trio_rights.specs.Row.{Row, row_in}
-use Rattle.trio_rights.specs.declared.kind.Kind.{Kind}
-use Rattle.trio_rights.specs.declared.kind.Kind.TheVariants.{Regular, Directory}
+use Rattle.trio_rights.specs.ByKind.{is_directory}
 use Rattle.trio_lists.specs.Lists.{In}
+use Rattle.trio_layout.specs.Body.{guard_in}
 use Rattle.trio_layout.specs.Entries.{Listed}
 use Rattle.trio_layout.specs.Proposed.{is_place_of}
 use Rattle.trio_lease.specs.Shown.{Shown}
@@ -24,16 +24,17 @@ pub record Leases : Type 0 where
 abbrev pub HasRights : Rights → Option Node → Type 0
 HasRights rights x = option_map rights_of x ≡ Some rights
 
--- A directory has just the entries that its lease shows, said number by number; a regular file has the bytes.
-abbrev pub HasContent : Sizes → Nodes → Shown → Kind → Type 0
-HasContent sizes nodes f Directory =
+-- A directory has just the entries that its lease shows, said number by number; any other file has the bytes.
+abbrev pub HasContent : Sizes → Nodes → Shown → Bool → Type 0
+HasContent sizes nodes f true =
     (n : ℕ) → entry_of_node f.ino (node_at nodes n) ≡ option_map entry_of_listed (find (λ l. l.entry.ino == n) (entries_shown sizes f))
-HasContent sizes nodes f Regular = option_map (λ x. x.bytes) (node_at nodes f.ino) ≡ Some (bytes_shown f)
+HasContent sizes nodes f false = option_map (λ x. x.bytes) (node_at nodes f.ino) ≡ Some (bytes_shown f)
 
--- a lease shows the file's rights and its content
+-- a lease shows the file's rights, its guard and its content
 pub record HasFile (sizes : Sizes) (nodes : Nodes) (f : Shown) : Type 0 where
   pub rights : HasRights (rights_in f.kind f.body) (node_at nodes f.ino)
-  pub content : HasContent sizes nodes f f.kind
+  pub guard : option_map (λ x. x.guard) (node_at nodes f.ino) ≡ Some (guard_in f.body)
+  pub content : HasContent sizes nodes f (is_directory f.kind)
 
 -- a hold shows the file's rights and the number of its children
 pub record HasHeld (nodes : Nodes) (h : HoldParts) : Type 0 where

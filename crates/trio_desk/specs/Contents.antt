@@ -1,8 +1,8 @@
--- What a lease shows of its file: rights, and the entries of a directory or the bytes of a regular file.
+-- What a lease shows of its file: rights, and the entries of a directory or the bytes of any other file.
 use Rattle.std.specs.Prelude.{ℕ, ◌≤◌, ◌==◌, List, [], take, Option, None, Some, if◌then◌else◌, Result, Ok, Err}
 use Rattle.std.specs.List.{flat_map}
 use Rattle.trio_rights.specs.declared.kind.Kind.{Kind}
-use Rattle.trio_rights.specs.declared.kind.Kind.TheVariants.{Regular, Directory}
+use Rattle.trio_rights.specs.ByKind.{is_directory}
 use Rattle.trio_rights.specs.declared.rights.Mode.{Mode}
 use Rattle.trio_lists.specs.Lists.{gathered}
 use Rattle.trio_layout.specs.declared.range.CoreRange.{CoreRange}
@@ -45,10 +45,10 @@ abbrev pub entries_or_none : Result (List Listed) Location → List Listed
 entries_or_none (Ok entries) = entries
 entries_or_none (Err place) = []
 
--- the entries on the lent pages of a directory, each at its place; a regular file has none
+-- the entries on the lent pages of a directory, each at its place; what is no directory has none
 abbrev pub entries_lent : ℕ → Kind → List LentPage → List Listed
-entries_lent inodes Regular blocks = []
-entries_lent inodes Directory blocks = entries_or_none (gathered (λ p. entries_on inodes p.no.0 p.page) blocks)
+entries_lent inodes kind blocks =
+    if is_directory kind then entries_or_none (gathered (λ p. entries_on inodes p.no.0 p.page) blocks) else []
 
 -- the entries that the lease of a directory shows
 abbrev pub entries_shown : Sizes → Shown → List Listed
@@ -68,7 +68,7 @@ abbrev pub entry_of_node : ℕ → Option Node → Option ShownEntry
 entry_of_node directory None = None
 entry_of_node directory (Some x) = if x.parent == directory then Some (record { name = x.name; rights = rights_of x }) else None
 
--- ---- regular files
+-- ---- other files
 
 -- the bytes of its blocks, up to its size
 abbrev pub bytes_shown : Shown → List ℕ

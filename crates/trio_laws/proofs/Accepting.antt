@@ -1,11 +1,12 @@
 -- The end of an accepted bundle keeps what holds of a state.
-use Rattle.trio_laws.proofs.Words.{◌++◌, ◌+◌, ◌∙◌, ◌≡◌, ◌⊎◌, Bundle, Chain, Core, Creds, Ends, GivenTo, Hold, HoldStands, Image, In, In-flat, In-left, In-map, In-right, IsFit, Kept, LentIsListed, List, Met, None, OpenGrant, Option, Pick, Row, Sheet, Some, State, Verifies, Write, Written, accepted_verifies, all_listed, ap, arith, bodies_are, bundle_pages, bundle_sheets, cases_Bool, false, file_put, fit_put, flat_map, has_parent_grant, inl, inr, is_accepted, is_core, is_in_bundle, is_out, is_some, is_sound, listed_no_root, map, map-In, next, option_map, picked_entry, plain, proposed, proposed_pick, put_on, refl, row_at, row_at_is, row_by, row_met, row_of, settled, settled_body, settled_body_met, sheet_numbers, slice_get, slice_index, some_of, subst, survey, survey_put, sym, true, with_bodies-get, with_pages_absent, ℕ}
+use Rattle.trio_laws.proofs.Words.{Bundle, Chain, Core, Creds, Ends, FileRead, GivenTo, HasLentBlocks, Hold, HoldStands, Image, In, In-flat, In-left, In-map, In-right, IsFit, Kept, LentIsListed, List, Met, None, Ok-one, OpenGrant, Option, Pick, Row, Sheet, Some, State, Verifies, Write, Written, accepted_verifies, all_listed, ap, arith, bodies_are, bundle_pages, bundle_sheets, cases_Bool, false, file_of, file_put, fit_put, flat_map, guard_in, has_parent_grant, inl, inr, is_accepted, is_core, is_directory, is_in_bundle, is_out, is_some, is_sound, listed_no_root, map, map-In, next, one_met, option_map, page_of, picked_entry, plain, proposed, proposed_pick, put_on, refl, row_at, row_at_is, row_by, row_met, row_of, settled, settled_body, settled_body_met, sheet_numbers, slice_get, slice_index, some_of, subst, survey, survey_put, sym, true, with_bodies-get, with_pages_absent, ℕ, ◌++◌, ◌+◌, ◌∙◌, ◌≡◌, ◌⊎◌}
 use Rattle.trio_surveys.specs.Reading.{with_picked_bodies}
-use Rattle.trio_laws.proofs.Bundles.{Closed, outside_unheld, outside_unwritten, kept_chain, written_same}
+use Rattle.trio_laws.proofs.Bundles.{Closed, outside_unheld, outside_unwritten, kept_chain, written_same, in_numbers}
 use Rattle.trio_laws.proofs.Ended.{bundle_write, grant_before, apart_then, checkpoints_then, parent_then, outs_then, numbers_then, pages_placed_then, numbers_placed_then, absent_then}
 use Rattle.trio_surveys.proofs.Images.{unlisted_free, free_is_low}
 use Rattle.trio_laws.proofs.StateFacts.{lent_by, tables}
 use Rattle.trio_laws.proofs.Survivors.{Stays, fit_now, sound_now, stays, out_unlisted, number_free}
+use Rattle.trio_laws.proofs.Isolated.{plain_block, untouched}
 
 -- a page that is absent with some bytes changed was absent
 pub absent_map : (f : List ℕ → List ℕ) (o : Option (Option (List ℕ))) → option_map (option_map f) o ≡ Some None → o ≡ Some None
@@ -78,6 +79,21 @@ module _ (s s' : State) (k : Kept s) (lib : ℕ) (creds : Creds) (b : Bundle) (g
       let st = stays_then h.0 h.1 h.2 r.0 r.1 in
       ap (λ (x : OpenGrant). is_some (row_at s'.home x.ino)) h.3 ∙ ap is_some (row_then h.0.ino r.0 st)
 
+  -- the body that a grant lent which stays is settled still
+  body_then : (g : OpenGrant) → In g s'.open_grants → g.body ≡ settled_body (settled s') g.ino
+  body_then g i =
+      let x = grant_before s s' k lib b given after e g i in
+      let h : OpenGrant = x.0 in
+      let r = some_of (row_at s.home h.ino) (k.live h x.1) in
+      let st = stays_then h x.1 x.2 r.0 r.1 in
+      ap (λ (y : OpenGrant). y.body) x.3
+      ∙ k.bodies h x.1
+      ∙ sym st.body
+      ∙ sym (body_after st.met st.stands)
+      ∙ ap (settled_body after) st.number
+      ∙ ap (λ (y : OpenGrant). settled_body after y.ino) (sym x.3)
+      ∙ ap (λ (i : Image). settled_body i g.ino) (sym e.settles)
+
   held_then : (g : OpenGrant) → In g s'.open_grants → g.kind ≡ Hold → HoldStands s' g
   held_then g i kind =
       let x = grant_before s s' k lib b given after e g i in
@@ -86,13 +102,11 @@ module _ (s s' : State) (k : Kept s) (lib : ℕ) (creds : Creds) (b : Bundle) (g
       let r = some_of (row_at s.home h.ino) (k.live h x.1) in
       let st = stays_then h x.1 x.2 r.0 r.1 in
       let was = k.held h x.1 hk in
-      let has : has_parent_grant s h.lib (Some r.0) ≡ true = ap (has_parent_grant s h.lib) (sym r.1) ∙ was.0 in
+      let has : has_parent_grant s h.lib (Some r.0) ≡ true = ap (has_parent_grant s h.lib) (sym r.1) ∙ was in
       let q : Row = row_by st.met st.file.body in
       let p = parent_then s s' k lib b given after e closed h g r.0 q x.1 hk x.2 r.1 (outside_unheld s k lib b given h x.1 x.2) x.3 (ap (λ (x : Row). x.parent) st.row) has in
-      let row : row_at s'.home g.ino ≡ Some q = ap (λ (y : OpenGrant). row_at s'.home y.ino) x.3 ∙ row_then h.ino r.0 st in (
-        ap (has_parent_grant s' g.lib) row ∙ p,
-        ap (λ (y : OpenGrant). y.body) x.3 ∙ was.1 ∙ sym st.body ∙ sym (body_after st.met st.stands) ∙ ap (settled_body after) st.number ∙ ap (λ (y : OpenGrant). settled_body after y.ino) (sym x.3) ∙ ap (λ (i : Image). settled_body i g.ino) (sym e.settles),
-      )
+      let row : row_at s'.home g.ino ≡ Some q = ap (λ (y : OpenGrant). row_at s'.home y.ino) x.3 ∙ row_then h.ino r.0 st in
+      ap (has_parent_grant s' g.lib) row ∙ p
 
   lent_listed : (g : OpenGrant) → In g s'.open_grants → g.kind ≡ Write → LentIsListed after g
   lent_listed g i kind =
@@ -117,6 +131,27 @@ module _ (s s' : State) (k : Kept s) (lib : ℕ) (creds : Creds) (b : Bundle) (g
         index = ap (λ (y : OpenGrant). sheet_numbers y.index) x.3 ∙ l.index ∙ ap (λ (c : Chain). c.index) (sym chain);
         blocks = ap (λ (y : OpenGrant). sheet_numbers y.blocks) x.3 ∙ l.blocks ∙ ap (λ (c : Chain). c.blocks) (sym chain);
       }
+
+  -- the blocks of a guarded file that stays out are settled as they were lent
+  guarded_then : (g : OpenGrant) → In g s'.open_grants → g.kind ≡ Write → is_directory g.of ≡ false → guard_in g.body ≡ true → HasLentBlocks (settled s') g
+  guarded_then g i w d t x a =
+      let y = grant_before s s' k lib b given after e g i in
+      let h : OpenGrant = y.0 in
+      let hk : h.kind ≡ Write = ap (λ (z : OpenGrant). z.kind) (sym y.3) ∙ w in
+      let l = k.lent h y.1 hk in
+      let r = some_of (row_at s.home h.ino) (k.live h y.1) in
+      let out : In h.ino b.holds → ⊥ = outside_unheld s k lib b given h y.1 y.2 in
+      let u = untouched s lib creds b h.ino r.0 k given accepted r.1 out (outside_unwritten s k lib b given h y.1 y.2) in
+      let met : u.met ≡ l.met = one_met (settled s).core plain k.fit k.verifies.sound u.met l.met u.stood l.stands (u.number ∙ sym l.number) in
+      let file : u.file_was ≡ l.file = Ok-one (file_of (settled s).core l.met) u.file_was l.file (ap (file_of (settled s).core) (sym met) ∙ u.read_was) l.read in
+      let a' : In x h.blocks = subst (λ bs. In x bs) (ap (λ (z : OpenGrant). z.blocks) y.3) a in
+      let block : In x.page u.file_was.chain.blocks =
+      subst (λ (f : FileRead). In x.page f.chain.blocks) (sym file) (subst (λ ns. In x.page ns) l.blocks (in_numbers h.blocks x x.page a' refl)) in
+      let of : is_directory h.of ≡ false = ap (λ (z : OpenGrant). is_directory z.of) (sym y.3) ∙ d in
+      let bare : is_directory u.met.kind ≡ false = ap (λ (m : Met). is_directory m.kind) met ∙ ap is_directory l.of ∙ of in
+      ap (λ (im : Image). page_of im.core x.page) e.settles
+      ∙ u.pages x.page (plain_block u.met.kind u.file_was x.page bare block)
+      ∙ k.guarded h y.1 hk of (ap (λ (z : OpenGrant). guard_in z.body) (sym y.3) ∙ t) x a'
 
   -- a page that is absent from what is settled then was lent or is out
   absent_after : (p : ℕ) → is_core (settled s).core.range p ≡ true → slice_get after.core.pages p ≡ Some None → ((g : OpenGrant) × In g s.open_grants × (is_in_bundle lib b g ≡ false) × (g.kind ≡ Write) × In p (sheet_numbers (g.index ++ g.blocks))) ⊎ ((is_out s.pages_out p ≡ true) × (In p (sheet_numbers b.pages) → ⊥))
@@ -156,9 +191,11 @@ module _ (s s' : State) (k : Kept s) (lib : ℕ) (creds : Creds) (b : Bundle) (g
     verifies = (let P : Image → Type 0 = λ i. Verifies i in subst P (sym e.settles) verifies');
     live = live_then;
     apart = apart_then s s' k lib b given after e;
+    bodies = body_then;
     held = held_then;
     lent = λ g i w. (let P : Image → Type 0 = λ x. LentIsListed x g in subst P (sym e.settles) (lent_listed g i w));
     checkpoints = checkpoints_then s s' k lib b given after e;
+    guarded = guarded_then;
     absent = λ p gone c.
         let c' : is_core (settled s).core.range p ≡ true = ap (λ (i : Image). is_core i.core.range p) (sym e.settles) ∙ c in
         absent_then s s' k lib b given after e p gone (absent_after p c');

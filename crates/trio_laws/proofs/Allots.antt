@@ -1,6 +1,7 @@
 -- An allotment keeps what holds of a state.
-use Rattle.trio_laws.proofs.Words.{◌<◌, ◌∙◌, ◌∷◌, ◌≡◌, ◌⊎◌, AgreeOn, Allot, Core, CtlAnswer, In, In-is_among, IsFit, Kept, LibNo, List, None, Option, Pages, Row, Some, State, Step, WasAllotted, [], allots, among_cases, and_parts, ap, arith, both_ways, eqb-true, false, false_from_ne_true, false≢true, filter-In, flat_map, free_numbers, free_pages, free_unlisted, has_parent_grant, inl, inr, is_among, is_among-In, is_core, is_out, is_out-given, is_some, length, length-with_all, length-with_pages, length-without, lib_at-others, lib_at-set, ltb-true, not-true, out_with, page_same, page_there, pages_are, place_there, place_within, plain, refl, row_at, settled, sheet_numbers, slice_get, slice_index, some_of, subst, suc, survey, sym, take, true, with_other, with_pages, with_pages_apart, with_pages_cong, without_absent, without_apart, without_pages, without_there, zero, ℕ}
+use Rattle.trio_laws.proofs.Words.{AgreeOn, Allot, Core, CtlAnswer, In, In-is_among, In-right, IsFit, Kept, LibNo, List, None, Option, Pages, Row, Some, State, Step, WasAllotted, [], allots, among_cases, and_parts, ap, arith, both_ways, eqb-true, false, false_from_ne_true, false≢true, filter-In, flat_map, free_numbers, free_pages, free_unlisted, has_parent_grant, inl, inr, is_among, is_among-In, is_core, is_out, is_out-given, is_some, length, length-with_all, length-with_pages, length-without, lib_at-others, lib_at-set, ltb-true, not-true, out_with, page_same, page_there, pages_are, place_there, place_within, plain, refl, row_at, settled, sheet_numbers, slice_get, slice_index, some_of, subst, suc, survey, sym, take, true, with_other, with_pages, with_pages_apart, with_pages_cong, without_absent, without_apart, without_pages, without_there, zero, ℕ, ◌<◌, ◌∙◌, ◌∷◌, ◌≡◌, ◌⊎◌, ◌++◌}
 use Rattle.trio_laws.proofs.Agreeing.{verifies_still, lent_still, body_still}
+use Rattle.trio_laws.proofs.Bundles.{in_numbers}
 use Rattle.trio_laws.proofs.Cases.{after_allot}
 use Rattle.trio_laws.proofs.Grants.{logged_kept}
 use Rattle.trio_laws.proofs.Refusing.{read_listed}
@@ -112,12 +113,18 @@ module _ (s : State) (lib count many : ℕ) where
       verifies = verifies_still (settled s) pages k.fit fit' k.verifies agree;
       live = k.live;
       apart = k.apart;
-      held = λ g i w.
-          let h = k.held g i w in
+      bodies = λ g i.
           let r = some_of (row_at s.home g.ino) (k.live g i) in
-          (parent_same g.lib (row_at s.home g.ino) h.0, h.1 ∙ sym (body_still (settled s) pages k.fit fit' k.verifies agree g.ino r.0 r.1));
+          k.bodies g i ∙ sym (body_still (settled s) pages k.fit fit' k.verifies agree g.ino r.0 r.1);
+      held = λ g i w. parent_same g.lib (row_at s.home g.ino) (k.held g i w);
       lent = λ g i w. lent_still (settled s) pages k.fit fit' k.verifies agree g (k.lent g i w);
       checkpoints = k.checkpoints;
+      guarded = λ g i w d t x a. elim (pages_now x.page) [
+        | inl same ↦ page_same core pages x.page same ∙ k.guarded g i w d t x a
+        | inr gone ↦
+            let lent : In x.page (sheet_numbers (g.index ++ g.blocks)) = in_numbers (g.index ++ g.blocks) x x.page (In-right x g.index g.blocks a) refl in
+            absurd (free_unlisted core plain k.fit k.verifies.sound (settled s) (tables s k) x.page (page_free x.page gone.0).0 (k.lent g i w).met (k.lent g i w).stands (lent_met s k g i w x.page lent))
+      ];
       absent = search (arith, without_absent, lib_at-set, within, In-is_among, out_stays);
       pages_placed = length-with_all (Some library) ps s.pages_out ∙ k.pages_placed;
       out_free = search (arith, is_out-given, page_free, is_among-In);

@@ -1,5 +1,5 @@
 -- Giving a read lease back keeps what holds of a state.
-use Rattle.trio_laws.proofs.Words.{◌&&◌, ◌++◌, ◌∙◌, ◌∷◌, ◌≡◌, AllPairs-filter, Back, Bool, CtlAnswer, GrantKind, Image, In, In-filter, In-list_any, IsFit, Kept, LentIsListed, List, MayBothStand, None, OpenGrant, Option, Row, Sheet, Some, State, Step, Verifies, [], and_parts, and_right, ap, arith, cond, covered, eqb, false, false≢true, filter, filter-In, flat_map, given_back, has_parent_grant, inl, inr, is_among, is_read, is_write, list_any, list_any-In, not, not-false, not_from_false, refl, settled, sheet_numbers, subst, sym, true, ℕ}
+use Rattle.trio_laws.proofs.Words.{AllPairs-filter, Back, Bool, CtlAnswer, GrantKind, HasLentBlocks, Image, In, In-filter, In-list_any, IsFit, Kept, LentIsListed, List, MayBothStand, None, OpenGrant, Option, Row, Sheet, Some, State, Step, Verifies, [], and_parts, and_right, ap, arith, cond, covered, eqb, false, false≢true, filter, filter-In, flat_map, given_back, guard_in, has_parent_grant, inl, inr, is_among, is_read, is_write, list_any, list_any-In, not, not-false, not_from_false, refl, row_at, settled, settled_body, sheet_numbers, subst, sym, true, ℕ, ◌&&◌, ◌++◌, ◌∙◌, ◌∷◌, ◌≡◌}
 
 flat_filter_step : {X Y : Type 0} (f : X → List Y) (p : X → Bool) (x : X) (xs : List X) (b : Bool) → (b ≡ false → f x ≡ []) → flat_map f (filter p xs) ≡ flat_map f xs → flat_map f (cond b (x ∷ filter p xs) (filter p xs)) ≡ f x ++ flat_map f xs
 flat_filter_step f p x xs true h ih = ap (λ l. f x ++ l) ih
@@ -13,7 +13,7 @@ no_sheets : (xs : List Sheet) → sheet_numbers xs ≡ [] → xs ≡ []
 no_sheets [] e = refl
 no_sheets (x ∷ xs) e = absurd cc
 
-read_bare : (g : OpenGrant) → is_read g.kind ≡ true → sheet_numbers g.checkpoint ≡ sheet_numbers (covered g.kind g.of g.index g.blocks) → g.checkpoint ≡ []
+read_bare : (g : OpenGrant) → is_read g.kind ≡ true → sheet_numbers g.checkpoint ≡ sheet_numbers (covered g.kind g.of (guard_in g.body) g.index g.blocks) → g.checkpoint ≡ []
 read_bare g r e = search (arith, no_sheets, false≢true)
 
 write_unread : (t : GrantKind) → is_write t ≡ true → is_read t ≡ false
@@ -44,9 +44,11 @@ module _ (s : State) (k : Kept s) (lib ino : ℕ) where
     verifies = (let P : Image → Type 0 = λ x. Verifies x in subst P (sym settled_back) k.verifies);
     live = λ g i. k.live g (filter-In stays g s.open_grants i).0;
     apart = AllPairs-filter MayBothStand stays s.open_grants k.apart;
-    held = search (arith, filter-In, parent_back, settled_back);
+    bodies = λ g i. k.bodies g (filter-In stays g s.open_grants i).0 ∙ ap (λ x. settled_body x g.ino) (sym settled_back);
+    held = λ g i w. parent_back g.lib (row_at s.home g.ino) (k.held g (filter-In stays g s.open_grants i).0 w);
     lent = λ g i w. (let P : Image → Type 0 = λ x. LentIsListed x g in subst P (sym settled_back) (k.lent g (filter-In stays g s.open_grants i).0 w));
     checkpoints = λ g i. k.checkpoints g (filter-In stays g s.open_grants i).0;
+    guarded = λ g i w d t. (let P : Image → Type 0 = λ x. HasLentBlocks x g in subst P (sym settled_back) (k.guarded g (filter-In stays g s.open_grants i).0 w d t));
     absent = λ p gone c. elim (k.absent p gone c) [
       | inl lent ↦
           inl (any_writes (λ (g : OpenGrant). is_write g.kind && is_among p (sheet_numbers (g.index ++ g.blocks))) (λ g t. (and_parts (is_write g.kind) (is_among p (sheet_numbers (g.index ++ g.blocks))) t).0) lent)

@@ -86,7 +86,7 @@ unparted_all s k lib b all =
     let held : is_among g.ino b.holds ≡ true = hold_in_bundle g.kind (eqb g.lib lib) (is_written b g.ino) (is_among g.ino b.holds) kind (own_in_all s lib b g all i mine (hold_reads g.kind kind)) in
     let no : not (is_parent_written b (row_at s.home g.ino)) ≡ true = ap (λ c. cond c (not (is_parent_written b (row_at s.home g.ino))) (is_parent_written b (row_at s.home g.ino))) (sym held) ∙ p.1 in
     both_ways (is_parent_written b (row_at s.home g.ino)) (not-true (is_parent_written b (row_at s.home g.ino)) no)
-    (parent_in_all (row_at s.home g.ino) (subst (λ l. has_parent_grant s l (row_at s.home g.ino) ≡ true) mine (k.held g i kind).0))))
+    (parent_in_all (row_at s.home g.ino) (subst (λ l. has_parent_grant s l (row_at s.home g.ino) ≡ true) mine (k.held g i kind)))))
   where
     hold_is : (t : GrantKind) → is_hold t ≡ true → t ≡ Hold
     hold_is t e = search (arith, false≢true)

@@ -1,8 +1,8 @@
 -- Sheets that go by no order, and the checkpoints of a state that is kept.
-use Rattle.trio_laws.proofs.Words.{◌++◌, ◌<◌, ◌∙◌, ◌∷◌, ◌≡◌, Core, In, In-right, Kept, Kind, List, None, OpenGrant, Option, Pages, Sheet, Some, State, Write, [], among_cases, and_parts, ap, are_new, are_new-append, are_new-before, arith, cases_eq, checkpoints_of, covered, flat_map-In, inl, inr, is_among, is_core, leb, length, length-with_pages, listed_is_core, ltb, ltb-true, map-In, map-append, ne_eqb, not, page_from, page_of, pages_are, pages_new, pages_of, place_there, plain, refl, settled, sheet_numbers, slice_get, slice_set, sound_parts, subst, survey, sym, true, with_pages, with_pages_apart, with_pages_known, ℕ}
+use Rattle.trio_laws.proofs.Words.{Bool, Core, In, In-flat, In-right, Kept, Kind, List, None, OpenGrant, Option, Pages, Sheet, Some, State, Write, [], among_cases, and_parts, ap, are_new, are_new-append, are_new-before, arith, cases_eq, checkpoints_of, covered, flat_map-In, guard_in, inl, inr, is_among, is_core, leb, length, length-with_pages, listed_is_core, ltb, ltb-true, map-In, map-append, ne_eqb, not, page_from, page_of, pages_are, pages_new, pages_of, place_there, plain, refl, settled, sheet_numbers, slice_get, slice_set, sound_parts, subst, survey, sym, true, with_pages, with_pages_apart, with_pages_known, ℕ, ◌++◌, ◌<◌, ◌∙◌, ◌∷◌, ◌≡◌}
 use Rattle.trio_laws.proofs.Bundles.{in_numbers}
 use Rattle.trio_surveys.proofs.SheetLaws.{get-set_same, get-set_other}
-use Rattle.trio_laws.proofs.StateFacts.{covered_write, write_alone, lent_met, lent_file}
+use Rattle.trio_laws.proofs.StateFacts.{covered_block, covered_write, write_alone, lent_met, lent_file}
 
 set_past : (pages : Pages) (k n : ℕ) (x : Option (List ℕ)) → slice_get pages n ≡ None → slice_get (slice_set pages k x) n ≡ None
 set_past pages k n x e = search (arith, cases_eq, get-set_same, get-set_other, ne_eqb)
@@ -54,8 +54,8 @@ one_sheet seen (z ∷ zs) x y new i j e =
           ]
     ]
 
-covered_new : (of : Kind) (index blocks : List Sheet) → are_new [] (sheet_numbers (index ++ blocks)) ≡ true → are_new [] (sheet_numbers (covered Write of index blocks)) ≡ true
-covered_new of index blocks h = search (arith, and_parts, are_new-append, map-append)
+covered_new : (of : Kind) (guarded : Bool) (index blocks : List Sheet) → are_new [] (sheet_numbers (index ++ blocks)) ≡ true → are_new [] (sheet_numbers (covered Write of guarded index blocks)) ≡ true
+covered_new of guarded index blocks h = search (arith, and_parts, are_new-append, map-append)
 
 module _ (s : State) (k : Kept s) where
   -- a sheet of a checkpoint, with its grant
@@ -64,7 +64,7 @@ module _ (s : State) (k : Kept s) where
       let r = flat_map-In (λ (g : OpenGrant). g.checkpoint) x s.open_grants i in
       let g : OpenGrant = r.0 in
       let a : In x.page (sheet_numbers g.checkpoint) = in_numbers g.checkpoint x x.page r.2 refl in
-      let c = covered_write g.kind g.of g.index g.blocks x.page (subst (λ l. In x.page l) (k.checkpoints g r.1) a) in
+      let c = covered_write g.kind g.of (guard_in g.body) g.index g.blocks x.page (subst (λ l. In x.page l) (k.checkpoints g r.1) a) in
       (g, r.1, r.2, c.0, c.1)
 
   -- a page that two open write grants lent is lent by one grant
@@ -81,8 +81,18 @@ module _ (s : State) (k : Kept s) where
       let pages : sheet_numbers (g.index ++ g.blocks) ≡ pages_of core l.met =
       map-append (λ (x : Sheet). x.page) g.index g.blocks ∙ ap (λ x. x ++ sheet_numbers g.blocks) l.index ∙ ap (λ x. l.file.chain.index ++ x) l.blocks ∙ sym (pages_are core l.met l.file l.read) in
       let new : are_new [] (pages_of core l.met) ≡ true = pages_new core (survey core plain) l.met (sound_parts core plain k.verifies.sound).paged l.stands in
-      ap (are_new []) (k.checkpoints g i ∙ ap (λ t. sheet_numbers (covered t g.of g.index g.blocks)) w)
-      ∙ covered_new g.of g.index g.blocks (ap (are_new []) pages ∙ new)
+      ap (are_new []) (k.checkpoints g i ∙ ap (λ t. sheet_numbers (covered t g.of (guard_in g.body) g.index g.blocks)) w)
+      ∙ covered_new g.of (guard_in g.body) g.index g.blocks (ap (are_new []) pages ∙ new)
+
+  -- a block of a guarded file is covered
+  pub guarded_covered : (g : OpenGrant) (x : Sheet) → In g s.open_grants → g.kind ≡ Write → guard_in g.body ≡ true → In x g.blocks → In x.page (sheet_numbers (checkpoints_of s.open_grants))
+  guarded_covered g x i w t a =
+      let numbers : sheet_numbers g.checkpoint ≡ sheet_numbers (covered Write g.of (guard_in g.body) g.index g.blocks) =
+      k.checkpoints g i ∙ ap (λ z. sheet_numbers (covered z g.of (guard_in g.body) g.index g.blocks)) w in
+      let inside : In x.page (sheet_numbers g.checkpoint) =
+      subst (λ ns. In x.page ns) (sym numbers) (covered_block g.of (guard_in g.body) g.index g.blocks x.page t (in_numbers g.blocks x x.page a refl)) in
+      let z = map-In (λ (v : Sheet). v.page) x.page g.checkpoint inside in
+      in_numbers (checkpoints_of s.open_grants) z.0 x.page (In-flat (λ (g : OpenGrant). g.checkpoint) g z.0 s.open_grants i z.1) z.2
 
   -- no page stands in the checkpoints with different bytes
   pub checkpoints_one : OneEach (checkpoints_of s.open_grants)

@@ -1,5 +1,5 @@
 -- What the end of a bundle leaves of grants and of what is out, whatever the verdict.
-use Rattle.trio_laws.proofs.Words.{◌&&◌, ◌++◌, ◌+◌, ◌<◌, ◌||◌, ◌∙◌, ◌∷◌, ◌≡◌, ◌⊎◌, AllPairs, AllPairs-filter, Bundle, Ends, GivenTo, Hold, Image, In, In-filter, In-is_among, In-list_any, In-map, Kept, List, MayBothStand, None, OpenGrant, Option, Row, Sheet, Some, State, Write, Written, [], among_cases, and_from, and_parts, ap, arith, blank, both_ways, covered, eq-eqb, eqb, eqb-true, false, false_from_ne_true, false≢true, filter-In, find, find-In, flat_map, get_or, grants_after, has_parent_grant, inl, inr, is_among, is_among-In, is_hold, is_in_bundle, is_lent, is_out, is_some, is_write, is_written, length, length-map, length-with_all, lent_part, lib_at-others, list_any-In, map, map-In, not, not-true, not_from_false, or_cases, refl, row_at, sheet_numbers, slice_get, subst, sym, true, with_pages_apart, ℕ}
+use Rattle.trio_laws.proofs.Words.{AllPairs, AllPairs-filter, Bundle, Ends, GivenTo, Hold, Image, In, In-filter, In-is_among, In-list_any, In-map, Kept, List, MayBothStand, None, OpenGrant, Option, Row, Sheet, Some, State, Write, Written, [], among_cases, and_from, and_parts, ap, arith, blank, both_ways, covered, eq-eqb, eqb, eqb-true, false, false_from_ne_true, false≢true, filter-In, find, find-In, flat_map, get_or, grants_after, guard_in, has_parent_grant, inl, inr, is_among, is_among-In, is_hold, is_in_bundle, is_lent, is_out, is_some, is_write, is_written, length, length-map, length-with_all, lent_part, lib_at-others, list_any-In, map, map-In, not, not-true, not_from_false, or_cases, refl, row_at, sheet_numbers, slice_get, subst, sym, true, with_pages_apart, ℕ, ◌&&◌, ◌++◌, ◌+◌, ◌<◌, ◌||◌, ◌∙◌, ◌∷◌, ◌≡◌, ◌⊎◌}
 use Rattle.std.proofs.lemmas.List.{get_or-map}
 use Rattle.trio_tables.proofs.OutLemmas.{is_out-back}
 use Rattle.trio_laws.proofs.Bundles.{Closed}
@@ -59,7 +59,7 @@ module _ (s s' : State) (k : Kept s) (lib : ℕ) (b : Bundle) (given : GivenTo s
   pub apart_then : AllPairs MayBothStand s'.open_grants
   apart_then = pairs_like MayBothStand (λ x y h. h) (λ x y h. h) s'.open_grants (grants_after s lib b) e.grants (AllPairs-filter MayBothStand (λ g. not (is_in_bundle lib b g)) s.open_grants k.apart)
 
-  pub checkpoints_then : (g : OpenGrant) → In g s'.open_grants → sheet_numbers g.checkpoint ≡ sheet_numbers (covered g.kind g.of g.index g.blocks)
+  pub checkpoints_then : (g : OpenGrant) → In g s'.open_grants → sheet_numbers g.checkpoint ≡ sheet_numbers (covered g.kind g.of (guard_in g.body) g.index g.blocks)
   checkpoints_then g i = search (arith, grant_before, blank_numbers)
 
   -- a write grant of the bundle is that of one of its written files
@@ -103,7 +103,7 @@ module _ (s s' : State) (k : Kept s) (lib : ℕ) (b : Bundle) (given : GivenTo s
       elim (among_cases p (sheet_numbers (flat_map (λ g. g.checkpoint) s'.open_grants))) [
         | inl covered' ↦
             let r = numbers_flat s'.open_grants p covered' in
-            let c = covered_write r.0.kind r.0.of r.0.index r.0.blocks p (subst (λ l. In p l) (checkpoints_then r.0 r.1) r.2) in
+            let c = covered_write r.0.kind r.0.of (guard_in r.0.body) r.0.index r.0.blocks p (subst (λ l. In p l) (checkpoints_then r.0 r.1) r.2) in
             inl (by_lent s'.open_grants r.0 p r.1 c.0 c.1)
         | inr none ↦ search (arith, with_pages_apart, grant_after, by_lent, false_from_ne_true, is_among-In, lib_at-others)
       ]

@@ -1,5 +1,5 @@
 -- Every grant keeps what holds of a state.
-use Rattle.trio_laws.proofs.Words.{◌&&◌, ◌++◌, ◌∙◌, ◌∷◌, ◌≡◌, ◌⊎◌, Bool, CtlAnswer, Grant, GrantFault, GrantKind, Hold, Image, In, In-cases, IsFit, Kept, LentIsListed, List, MayBothStand, NoParent, None, OpenGrant, Option, Read, Row, Some, State, Step, Verifies, Write, [], all_pairs_push, and_from, ap, append-nil, arith, both_ways, cond, covered, denied_by, denied_or, eq-eqb, eqb, eqb-false, excludes_kind, excluding, false, false≢true, filter, flat_map-append, get_or, get_or-In, grant_fault, granted_to, has_parent_grant, holder_of, inl, inr, is_read, is_some, is_write, lacks_parent, lent_pages, list_any, list_any-append, logged, not, not-false, opened, opens, option_map, or_left, refl, row_at, row_by, settled, settled_body, sheet_numbers, slice_get, subst, sym, true, ℕ}
+use Rattle.trio_laws.proofs.Words.{Bool, CtlAnswer, Grant, GrantFault, GrantKind, HasLentBlocks, Hold, Image, In, In-cases, IsFit, Kept, LentIsListed, List, MayBothStand, NoParent, None, OpenGrant, Option, Read, Row, Some, State, Step, Verifies, Write, [], all_pairs_push, and_from, ap, append-nil, arith, both_ways, cond, covered, denied_by, denied_or, eq-eqb, eqb, eqb-false, excludes_kind, excluding, false, false≢true, filter, flat_map-append, get_or, get_or-In, grant_fault, granted_to, guard_in, has_parent_grant, holder_of, inl, inr, is_read, is_some, is_write, lacks_parent, lent_pages, list_any, list_any-append, logged, not, not-false, opened, opens, option_map, or_left, refl, row_at, row_by, settled, settled_body, sheet_numbers, slice_get, subst, sym, true, ℕ, ◌&&◌, ◌++◌, ◌∙◌, ◌∷◌, ◌≡◌, ◌⊎◌}
 use Rattle.std.proofs.lemmas.Bool.{and_cases}
 use Rattle.trio_nodes.specs.declared.answers.GrantFault.TheVariants.{NotLive, Busy}
 use Rattle.trio_laws.proofs.Cases.{after_no_grant}
@@ -53,8 +53,8 @@ module _ (s : State) (k : Kept s) (g : OpenGrant) (none : lent_pages g ≡ []) (
   parent_more l None h = h
   parent_more l (Some r) h = any_more (λ (x : OpenGrant). eqb x.lib l && eqb x.ino r.parent && is_write x.kind) h
 
-  pub light_grant_kept : is_some (row_at s.home g.ino) ≡ true → ((h : OpenGrant) → In h s.open_grants → MayBothStand h g) → (g.kind ≡ Hold → (has_parent_grant s g.lib (row_at s.home g.ino) ≡ true) × (g.body ≡ settled_body (settled s) g.ino)) → sheet_numbers g.checkpoint ≡ sheet_numbers (covered g.kind g.of g.index g.blocks) → Kept (opens s g)
-  light_grant_kept live apart held covers = record {
+  pub light_grant_kept : is_some (row_at s.home g.ino) ≡ true → ((h : OpenGrant) → In h s.open_grants → MayBothStand h g) → g.body ≡ settled_body (settled s) g.ino → (g.kind ≡ Hold → has_parent_grant s g.lib (row_at s.home g.ino) ≡ true) → sheet_numbers g.checkpoint ≡ sheet_numbers (covered g.kind g.of (guard_in g.body) g.index g.blocks) → Kept (opens s g)
+  light_grant_kept live apart body held covers = record {
     fit = (let P : Image → Type 0 = λ x. IsFit x.core in subst P (sym settled_same) k.fit);
     verifies = (let P : Image → Type 0 = λ x. Verifies x in subst P (sym settled_same) k.verifies);
     live = λ h j. elim (old_or_new h j) [
@@ -62,9 +62,17 @@ module _ (s : State) (k : Kept s) (g : OpenGrant) (none : lent_pages g ≡ []) (
       | inr new ↦ ap (λ (x : OpenGrant). is_some (row_at s.home x.ino)) new ∙ live
     ];
     apart = all_pairs_push MayBothStand s.open_grants g k.apart (λ n d l. apart (get_or s.open_grants n d) (get_or-In s.open_grants n d l));
+    bodies = λ h j. elim (old_or_new h j) [
+      | inl old ↦ k.bodies h old ∙ ap (λ x. settled_body x h.ino) (sym settled_same)
+      | inr new ↦
+          let B : OpenGrant → Type 0 = λ x. x.body ≡ settled_body (settled (opens s g)) x.ino in
+          subst B (sym new) (body ∙ ap (λ x. settled_body x g.ino) (sym settled_same))
+    ];
     held = λ h j w. elim (old_or_new h j) [
-      | inl old ↦ let was = k.held h old w in (parent_more h.lib (row_at s.home h.ino) was.0, was.1 ∙ ap (λ x. settled_body x h.ino) (sym settled_same))
-      | inr new ↦ search (arith, parent_more, settled_same)
+      | inl old ↦ parent_more h.lib (row_at s.home h.ino) (k.held h old w)
+      | inr new ↦
+          let H : OpenGrant → Type 0 = λ x. has_parent_grant (opens s g) x.lib (row_at s.home x.ino) ≡ true in
+          subst H (sym new) (parent_more g.lib (row_at s.home g.ino) (held (sym (ap (λ (x : OpenGrant). x.kind) new) ∙ w)))
     ];
     lent = λ h j w. elim (old_or_new h j) [
       | inl old ↦ let P : Image → Type 0 = λ x. LentIsListed x h in subst P (sym settled_same) (k.lent h old w)
@@ -73,6 +81,10 @@ module _ (s : State) (k : Kept s) (g : OpenGrant) (none : lent_pages g ≡ []) (
     checkpoints = λ h j. elim (old_or_new h j) [
       | inl old ↦ k.checkpoints h old
       | inr new ↦ search arith
+    ];
+    guarded = λ h j w d t. elim (old_or_new h j) [
+      | inl old ↦ let P : Image → Type 0 = λ x. HasLentBlocks x h in subst P (sym settled_same) (k.guarded h old w d t)
+      | inr new ↦ absurd (read (sym (ap (λ (x : OpenGrant). x.kind) new) ∙ w))
     ];
     absent = search (arith, any_more);
     pages_placed = k.pages_placed;
@@ -91,7 +103,7 @@ read_grant s lib ino r k e row =
     (λ h i same.
     let x = reads_both h.kind (eqb h.lib lib) (excluded_none s lib ino Read e h i same) in
     (and_from (is_read h.kind) true x.0 refl, eqb-false h.lib lib x.1))
-    (λ w. absurd (cc w)) refl
+    refl (λ w. absurd (cc w)) refl
 
 hold_grant : (s : State) (lib ino : ℕ) (r : Row) → Kept s → grant_fault s lib ino Hold ≡ None → row_at s.home ino ≡ Some r → Kept (opens s (opened s lib ino Hold r))
 hold_grant s lib ino r k e row =
@@ -100,7 +112,7 @@ hold_grant s lib ino r k e row =
     let parent : has_parent_grant s lib (row_at s.home ino) ≡ true = not-false (has_parent_grant s lib (row_at s.home ino)) q.0 in
     light_grant_kept s k g refl refl (λ w. cc w) (ap is_some row)
     (λ h i same. absurd (false≢true (sym (excluded_none s lib ino Hold e h i same))))
-    (λ w. (parent, refl)) refl
+    refl (λ w. parent) refl
 
 granted : (s : State) (lib ino : ℕ) (kind : GrantKind) (r : Row) → Kept s → grant_fault s lib ino kind ≡ None → row_at s.home ino ≡ Some r → Kept (opens s (opened s lib ino kind r))
 granted s lib ino Read r k e row = read_grant s lib ino r k e row

@@ -1,5 +1,5 @@
 -- What an accepted bundle leaves of the files of others.
-use Rattle.trio_laws.proofs.Words.{◌++◌, ◌∙◌, ◌∷◌, ◌≡◌, ◌⊎◌, Bundle, Core, Creds, Directory, FileRead, GivenTo, Image, In, In-cases, In-is_among, In-left, In-right, IsFit, Kept, Kind, List, Listed, Met, MetAt, None, Ok, Option, Pick, Regular, Result, Row, Some, State, [], accepted_verifies, all_listed, ap, arith, block_count, body_of, both, both_ways, chain_follows, child_from, child_placed, children, entries_of_kind, file_of, file_put, fit_put, flat_map-In, gathered, index_apart, index_count, inl, inr, is_accepted, is_among, is_sound, map, next, option_map, page_of, page_owner, page_put_is, pages_are, pages_of, picked_entry, plain, plain_pages, proposed, proposed_pick, put_on, reads_from, reads_to, refl, row_at, row_at_is, row_met, row_of, settled, settled_body, settled_body_met, sound_parts, subst, survey, survey_put, sym, true, ℕ}
+use Rattle.trio_laws.proofs.Words.{Bool, Bundle, Core, Creds, FileRead, GivenTo, Image, In, In-cases, In-is_among, In-left, In-right, IsFit, Kept, Kind, List, Listed, Met, MetAt, None, Ok, Option, Pick, Result, Row, Some, State, [], accepted_verifies, all_listed, ap, arith, block_count, body_of, both, both_ways, chain_follows, child_from, child_placed, children, cond, entries_of, entries_of_kind, false, file_of, file_put, fit_put, flat_map-In, gathered, index_apart, index_count, inl, inr, is_accepted, is_among, is_directory, is_sound, map, next, option_map, page_of, page_owner, page_put_is, pages_are, pages_of, picked_entry, plain, plain_pages, proposed, proposed_pick, put_on, reads_from, reads_to, refl, row_at, row_at_is, row_met, row_of, settled, settled_body, settled_body_met, sound_parts, subst, survey, survey_put, sym, true, ℕ, ◌++◌, ◌∙◌, ◌∷◌, ◌≡◌, ◌⊎◌}
 use Rattle.trio_laws.specs.Laws.{entry_only, IsUntouched, OthersUntouched}
 use Rattle.trio_surveys.proofs.Putting.{put_on-none}
 use Rattle.trio_laws.proofs.StateFacts.{tables, live_met}
@@ -30,18 +30,27 @@ pub picked_only : (pick : Pick) (d : ℕ) (ls : List Listed) → map entry_only 
 picked_only pick d [] = refl
 picked_only pick d (l ∷ ls) = ap (λ es. entry_only l ∷ es) (picked_only pick d ls)
 
-plain_cases : (kind : Kind) (f : FileRead) (p : ℕ) → In p (plain_pages kind f) → In p f.chain.index ⊎ (In p f.chain.blocks × (kind ≡ Regular))
-plain_cases Directory f p i = inl i
-plain_cases Regular f p i = elim (In-cases p f.chain.index f.chain.blocks i) [ inl a ↦ inl a | inr b ↦ inr (b, refl) ]
+plain_cases : (kind : Kind) (f : FileRead) (p : ℕ) → In p (plain_pages kind f) → In p f.chain.index ⊎ (In p f.chain.blocks × (is_directory kind ≡ false))
+plain_cases kind f p i = by (is_directory kind) refl i
+  where
+    by : (t : Bool) → is_directory kind ≡ t → In p (cond t f.chain.index (f.chain.index ++ f.chain.blocks)) → In p f.chain.index ⊎ (In p f.chain.blocks × (is_directory kind ≡ false))
+    by true e i = inl i
+    by false e i = elim (In-cases p f.chain.index f.chain.blocks i) [ inl a ↦ inl a | inr b ↦ inr (b, e) ]
 
 pub plain_listed : (kind : Kind) (f : FileRead) (p : ℕ) → In p (plain_pages kind f) → In p (f.chain.index ++ f.chain.blocks)
-plain_listed Directory f p i = In-left p f.chain.index f.chain.blocks i
-plain_listed Regular f p i = i
+plain_listed kind f p i = elim (plain_cases kind f p i) [ inl a ↦ In-left p f.chain.index f.chain.blocks a | inr b ↦ In-right p f.chain.index f.chain.blocks b.0 ]
+
+-- a block of what is no directory has no slots
+pub plain_block : (kind : Kind) (f : FileRead) (p : ℕ) → is_directory kind ≡ false → In p f.chain.blocks → In p (plain_pages kind f)
+plain_block kind f p e i =
+    subst (λ t. In p (cond t f.chain.index (f.chain.index ++ f.chain.blocks))) (sym e) (In-right p f.chain.index f.chain.blocks i)
 
 -- a file that lists entries is a directory
-pub regular_empty : (core : Core) (kind : Kind) (blocks : List ℕ) (es : List Listed) (l : Listed) → kind ≡ Regular → entries_of_kind core kind blocks ≡ Ok es → In l es → ⊥
-regular_empty core Regular blocks es l e read i = (let none : [] ≡ es = cc read in subst (λ x. In l x) (sym none) i)
-regular_empty core Directory blocks es l e read i = absurd cc
+pub plain_empty : (core : Core) (kind : Kind) (blocks : List ℕ) (es : List Listed) (l : Listed) → is_directory kind ≡ false → entries_of_kind core kind blocks ≡ Ok es → In l es → ⊥
+plain_empty core kind blocks es l e read i =
+    let empty : Ok [] ≡ Ok es = sym (ap (λ t. cond t (entries_of core blocks) (Ok [])) e) ∙ read in
+    let none : [] ≡ es = cc empty in
+    subst (λ x. In l x) (sym none) i
 
 -- no body stands on a page without slots
 pub bare_page : (core : Core) (pick : Pick) → is_sound core pick ≡ true → (m : Met) (f : FileRead) (p : ℕ) → In m (survey core pick) → file_of core m ≡ Ok f → In p (plain_pages m.kind f) → (x : Met) → In x (all_listed core pick) → x.page ≡ p → ⊥
@@ -58,7 +67,7 @@ bare_page core pick sound m f p i read bare x j on =
           let mine : In p (pages_of core m) = subst (λ l. In p l) (sym (pages_are core m f read)) (In-right p f.chain.index f.chain.blocks own.0) in
           let theirs : In p (pages_of core r.0) = subst (λ l. In p l) (sym (pages_are core r.0 k.file k.read)) (In-right p k.file.chain.index k.file.chain.blocks block) in
           let same : r.0 ≡ m = page_owner core (survey core pick) r.0 m p parts.paged r.1 i theirs mine in
-          regular_empty core r.0.kind k.file.chain.blocks k.file.entries k.entry (ap (λ (w : Met). w.kind) same ∙ own.1) (reads_from core r.0 k.file k.read).entries k.listed
+          plain_empty core r.0.kind k.file.chain.blocks k.file.entries k.entry (ap (λ (w : Met). is_directory w.kind) same ∙ own.1) (reads_from core r.0 k.file k.read).entries k.listed
     ]
 
 pub put_none : (p : ℕ) (ms : List Met) (o : Option (List ℕ)) → ((x : Met) → In x ms → x.page ≡ p → ⊥) → option_map (put_on p ms) o ≡ o

@@ -10,11 +10,11 @@ use Rattle.trio_laws.specs.Known.{plain_state, ended, released, known_done, is_n
 use Rattle.trio_laws.proofs.StateFacts.{live_met, checkpoint_lent, lent_file}
 use Rattle.trio_laws.proofs.WriteGrant.{lent_numbers}
 use Rattle.trio_laws.proofs.Grants.{excluded_none}
-use Rattle.trio_laws.proofs.Allots.{uncovered'}
 use Rattle.trio_laws.proofs.Backs.{settled_back}
 use Rattle.trio_laws.proofs.Modes.{with_pages_set, may_change, settled_moded}
 use Rattle.trio_laws.proofs.StateLaws.{does_told}
 use Rattle.trio_laws.proofs.judgement.Breaking.{breaks_lowest, lowest_rule}
+use Rattle.trio_laws.proofs.Allots.{uncovered'}
 
 -- ---- lists
 

@@ -1,5 +1,5 @@
 -- For each bundle that was given to its library there is a step of its release.
-use Rattle.trio_laws.proofs.Words.{◌++◌, ◌+◌, ◌∙◌, ◌∷◌, ◌≡◌, Accepted, Allot, Back, Bundle, CtlAnswer, Does, Ends, Event, GivenEvent, GivenTo, Grant, Image, In, In-filter, In-flat, IsAccepted, IsRefused, IsSpread, Kept, List, None, NotClosed, OpenGrant, Option, Pages, Parted, Refused, Release, SetMode, Settle, Settled, Sheet, Some, State, [], allot_outcome, ap, arith, blank, bundle_sheets, cases_Bool, checkpoints_of, creds_of, filter, filter-In, flat_map-In, given_back, grant_outcome, grants_after, inl, inr, is_accepted, is_in_bundle, length, length-with_pages, lent_part, map, map-In, mode_outcome, next, not, option_and_then, out_after, parted_hold, refl, refused_image, settled, sheet_numbers, slice_get, subst, suc, sym, true, uncovered, unless_absent, with_core_pages, with_pages, zero, ℕ}
+use Rattle.trio_laws.proofs.Words.{Accepted, Allot, Back, Bundle, CtlAnswer, Does, Ends, Event, GivenEvent, GivenTo, Grant, Image, In, In-filter, In-flat, IsAccepted, IsRefused, IsSpread, Kept, List, None, NotClosed, OpenGrant, Option, Pages, Parted, Refused, Release, SetMode, Settle, Settled, Sheet, Some, State, [], allot_outcome, ap, arith, blank, bundle_sheets, cases_Bool, checkpoints_of, creds_of, filter, filter-In, flat_map-In, given_back, grant_outcome, grants_after, inl, inr, is_accepted, is_in_bundle, length, length-with_pages, lent_part, map, map-In, mode_outcome, next, not, option_and_then, out_after, parted_hold, refl, refused_image, settled, sheet_numbers, slice_get, subst, suc, sym, true, uncovered, unless_absent, with_core_pages, with_pages, zero, ℕ, ◌++◌, ◌+◌, ◌∙◌, ◌∷◌, ◌≡◌}
 use Rattle.trio_laws.specs.Laws.{MayEnd}
 use Rattle.trio_state.specs.Step.{Done}
 use Rattle.trio_laws.proofs.PutBack.{refused_away, refused_settles}

@@ -1,15 +1,14 @@
 -- After a refusal the image of a refusal is settled, once the bundle's checkpoints are back at home.
-use Rattle.trio_laws.proofs.Words.{◌++◌, ◌∙◌, ◌≡◌, Bundle, Core, Directory, GivenTo, In, In-cases, In-filter, In-flat, In-left, In-right, Kept, Kind, List, None, OpenGrant, Pages, Regular, Sheet, Some, State, Write, Written, among_cases, ap, arith, bundle_pages, bundle_sheets, cases_Bool, checkpoints_of, covered, filter-In, flat_map-In, free_unlisted, grants_after, index_apart, inl, inr, is_in_bundle, is_some, map-In, not, not_from_false, pages_same, plain, refl, refused_image, settled, sheet_numbers, slice_get, slice_index, sound_parts, subst, survey, sym, true, uncovered, with_pages, with_pages-append, with_pages_apart, with_pages_cong, ℕ}
+use Rattle.trio_laws.proofs.Words.{Bool, Bundle, Core, GivenTo, In, In-cases, In-filter, In-flat, In-left, In-right, Kept, Kind, List, None, OpenGrant, Pages, Sheet, Some, State, Write, Written, among_cases, ap, arith, bundle_pages, bundle_sheets, cases_Bool, checkpoints_of, cond, covered, covers_blocks, false, filter-In, flat_map-In, free_unlisted, grants_after, guard_in, guard_of, index_apart, inl, inr, is_in_bundle, is_some, map-In, not, not_from_false, pages_same, plain, refl, refused_image, settled, sheet_numbers, slice_get, slice_index, sound_parts, subst, survey, sym, true, uncovered, with_pages, with_pages-append, with_pages_apart, with_pages_cong, ℕ, ◌++◌, ◌∙◌, ◌≡◌}
 use Rattle.trio_laws.proofs.Accepting.{handed_back}
 use Rattle.trio_laws.proofs.Bundles.{in_numbers}
 use Rattle.trio_laws.proofs.Checkpoints.{with_pages_like, checkpoint_from, one_lender, checkpoints_one}
 use Rattle.trio_laws.proofs.Uncovered.{uncovered_from, uncovered_handed}
 use Rattle.trio_laws.proofs.StateFacts.{covered_write, tables, lent_met}
 
--- a checkpoint of a regular file covers its index pages alone
-covered_index : (of : Kind) (index blocks : List Sheet) (p : ℕ) → of ≡ Regular → In p (sheet_numbers (covered Write of index blocks)) → In p (sheet_numbers index)
-covered_index Regular index blocks p e i = i
-covered_index Directory index blocks p e i = absurd cc
+-- a checkpoint that doesn't cover the blocks covers the index pages alone
+covered_index : (of : Kind) (guarded : Bool) (index blocks : List Sheet) (p : ℕ) → covers_blocks of guarded ≡ false → In p (sheet_numbers (covered Write of guarded index blocks)) → In p (sheet_numbers index)
+covered_index of guarded index blocks p e i = subst (λ t. In p (sheet_numbers (cond t (index ++ blocks) index))) e i
 
 in_append : (p : ℕ) (blocks index : List Sheet) → In p (sheet_numbers blocks) → In p (sheet_numbers (index ++ blocks))
 in_append p blocks index i = search (arith, map-In, in_numbers, In-right)
@@ -18,9 +17,9 @@ module _ (s : State) (k : Kept s) (lib : ℕ) (b : Bundle) (given : GivenTo s li
   abbrev core : Core
   core = (settled s).core
 
-  -- a block of a written regular file is in no checkpoint
-  block_bare : (w : Written) (x : Sheet) (p : ℕ) → In w b.writes → w.kind ≡ Regular → In p (sheet_numbers w.blocks) → In x (checkpoints_of s.open_grants) → p ≡ x.page → ⊥
-  block_bare w x p i reg a j on =
+  -- a block of a written file that isn't covered is in no checkpoint
+  block_bare : (w : Written) (x : Sheet) (p : ℕ) → In w b.writes → covers_blocks w.kind (guard_of (settled s) w.ino) ≡ false → In p (sheet_numbers w.blocks) → In x (checkpoints_of s.open_grants) → p ≡ x.page → ⊥
+  block_bare w x p i uncovered' a j on =
       let files = survey core plain in
       let c = checkpoint_from s k x j in
       let g : OpenGrant = c.0 in
@@ -28,11 +27,13 @@ module _ (s : State) (k : Kept s) (lib : ℕ) (b : Bundle) (given : GivenTo s li
       let mine : In p (sheet_numbers (y.grant.index ++ y.grant.blocks)) = in_append p y.grant.blocks y.grant.index (subst (λ l. In p l) y.blocks a) in
       let theirs : In p (sheet_numbers (g.index ++ g.blocks)) = subst (λ n. In n (sheet_numbers (g.index ++ g.blocks))) (sym on) c.4 in
       let same : g ≡ y.grant = one_lender s k p g y.grant c.1 y.is_open c.3 y.kind theirs mine in
-      let of : g.of ≡ Regular = ap (λ (z : OpenGrant). z.of) same ∙ y.of ∙ reg in
-      let numbers : sheet_numbers g.checkpoint ≡ sheet_numbers (covered Write g.of g.index g.blocks) =
-      k.checkpoints g c.1 ∙ ap (λ t. sheet_numbers (covered t g.of g.index g.blocks)) c.3 in
+      let of : g.of ≡ w.kind = ap (λ (z : OpenGrant). z.of) same ∙ y.of in
+      let guarded : guard_in g.body ≡ guard_of (settled s) w.ino = ap guard_in (k.bodies g c.1) ∙ ap (guard_of (settled s)) (ap (λ (z : OpenGrant). z.ino) same ∙ y.ino) in
+      let bare' : covers_blocks g.of (guard_in g.body) ≡ false = ap (λ t. covers_blocks t (guard_in g.body)) of ∙ ap (covers_blocks w.kind) guarded ∙ uncovered' in
+      let numbers : sheet_numbers g.checkpoint ≡ sheet_numbers (covered Write g.of (guard_in g.body) g.index g.blocks) =
+      k.checkpoints g c.1 ∙ ap (λ t. sheet_numbers (covered t g.of (guard_in g.body) g.index g.blocks)) c.3 in
       let index : In p (sheet_numbers g.index) =
-      covered_index g.of g.index g.blocks p of (subst (λ l. In p l) numbers (in_numbers g.checkpoint x p c.2 on)) in
+      covered_index g.of (guard_in g.body) g.index g.blocks p bare' (subst (λ l. In p l) numbers (in_numbers g.checkpoint x p c.2 on)) in
       let l = k.lent g c.1 c.3 in
       let l' = k.lent y.grant y.is_open y.kind in
       index_apart core files l.met l'.met l.file l'.file p (sound_parts core plain k.verifies.sound).paged l.stands l'.stands l.read l'.read
@@ -82,7 +83,7 @@ module _ (s : State) (k : Kept s) (lib : ℕ) (b : Bundle) (given : GivenTo s li
     pub sheets_handed : (x : Sheet) → In x sheets → In x.page (bundle_pages b)
     sheets_handed x i =
         let r = from x i in
-        let c = covered_write r.0.kind r.0.of r.0.index r.0.blocks x.page (subst (λ l. In x.page l) (k.checkpoints r.0 r.1) (in_numbers r.0.checkpoint x x.page r.3 refl)) in
+        let c = covered_write r.0.kind r.0.of (guard_in r.0.body) r.0.index r.0.blocks x.page (subst (λ l. In x.page l) (k.checkpoints r.0 r.1) (in_numbers r.0.checkpoint x x.page r.3 refl)) in
         handed_back s k lib b given r.0 x.page r.1 c.0 r.2 c.1
 
     -- a page that is absent at home stays so unless it is the bundle's

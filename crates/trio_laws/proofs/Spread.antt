@@ -1,5 +1,5 @@
 -- An accepted image that is spread over home and the checkpoints is settled.
-use Rattle.trio_laws.proofs.Words.{◌++◌, ◌<◌, ◌∙◌, ◌≡◌, Bundle, Core, GivenTo, In, In-filter, In-flat, In-map, IsFit, IsSpread, Kept, List, None, OpenGrant, Option, Pages, Pick, Sheet, Some, State, all_listed, among_cases, ap, arith, bodies_are, bundle_pages, bundle_sheets, cases_Bool, checkpoints_of, creds_of, false, flat_map-In, grants_after, inl, inr, is_accepted, is_in_bundle, is_sound, length, length-with_pages, lent_part, listed_no_root, map, map-In, next, not, not_from_false, option_map, page_there, pages_same, place_there, place_within, proposed, proposed_pick, put_on, refl, settled, sheet_numbers, slice_get, subst, sym, true, unless_absent, with_bodies-get, with_pages, with_pages_absent, with_pages_apart, with_pages_known, ℕ}
+use Rattle.trio_laws.proofs.Words.{Bundle, Core, GivenTo, In, In-filter, In-flat, In-map, IsFit, IsSpread, Kept, List, None, OpenGrant, Option, Pages, Pick, Sheet, Some, State, all_listed, among_cases, ap, arith, bodies_are, bundle_pages, bundle_sheets, cases_Bool, checkpoints_of, creds_of, false, flat_map-In, grants_after, inl, inr, is_accepted, is_in_bundle, is_sound, length, length-with_pages, lent_part, listed_no_root, map, map-In, next, not, not_from_false, option_map, page_there, pages_same, place_there, place_within, proposed, proposed_pick, put_on, refl, settled, sheet_numbers, slice_get, subst, sym, true, unless_absent, with_bodies-get, with_pages, with_pages_absent, with_pages_apart, with_pages_known, ℕ, ◌++◌, ◌<◌, ◌∙◌, ◌≡◌}
 use Rattle.trio_surveys.proofs.Accepted.{length-bodies}
 use Rattle.trio_laws.proofs.Accepting.{handed_back}
 use Rattle.trio_laws.proofs.Bundles.{in_numbers}

@@ -1,13 +1,12 @@
 -- Where the settled body of a live file stands.
-use Rattle.trio_laws.proofs.Words.{◌++◌, ◌<◌, ◌∙◌, ◌≡◌, ◌⊎◌, Core, Directory, FileRead, In, In-flat, In-right, Kept, Kind, List, Listed, Met, Ok, Ok-one, OpenGrant, Regular, Row, Sheet, Some, State, Write, all_listed, among_cases, ap, checkpoints_of, child_from, child_placed, children, file_of, flat_map-In, inl, inr, map-In, one_met, page_of, page_there, pages_are, pages_of, plain, reads_from, refl, root_or_listed, row_at, settled, sheet_numbers, slice_get, subst, survey, sym, with_pages_apart, ℕ}
+use Rattle.trio_laws.proofs.Words.{Core, Directory, FileRead, In, In-flat, In-right, Kept, Kind, List, Listed, Met, Ok, Ok-one, OpenGrant, Row, Sheet, Some, State, Write, all_listed, among_cases, ap, checkpoints_of, child_from, child_placed, children, false, file_of, flat_map-In, inl, inr, is_directory, kind_cases, map-In, one_met, page_of, page_there, pages_are, pages_of, plain, reads_from, root_or_listed, row_at, settled, sheet_numbers, slice_get, subst, survey, sym, with_pages_apart, ℕ, ◌++◌, ◌<◌, ◌∙◌, ◌≡◌, ◌⊎◌}
 use Rattle.trio_laws.proofs.Bundles.{in_numbers}
 use Rattle.trio_laws.proofs.Checkpoints.{checkpoint_from, checkpoint_settled}
-use Rattle.trio_laws.proofs.Isolated.{regular_empty}
+use Rattle.trio_laws.proofs.Isolated.{plain_empty}
 use Rattle.trio_laws.proofs.StateFacts.{lent_file, live_met}
 
-directory_or : (kind : Kind) → (kind ≡ Regular → ⊥) → kind ≡ Directory
-directory_or Directory h = refl
-directory_or Regular h = absurd (h refl)
+directory_or : (kind : Kind) → (is_directory kind ≡ false → ⊥) → kind ≡ Directory
+directory_or kind h = elim (kind_cases kind) [ inl d ↦ d | inr none ↦ absurd (h none) ]
 
 -- the directory that lists a file, with the page on which it does so
 pub record HasParent (core : Core) (r : Row) : Type 0 where
@@ -41,7 +40,7 @@ module _ (s : State) (k : Kept s) (ino : ℕ) (r : Row) (row : row_at s.home ino
         stands = q.1;
         read = c.read;
         number = sym (parent ∙ up);
-        kind = directory_or q.0.kind (λ reg. regular_empty core q.0.kind c.file.chain.blocks c.file.entries l reg (reads_from core q.0 c.file c.read).entries c.listed);
+        kind = directory_or q.0.kind (λ reg. plain_empty core q.0.kind c.file.chain.blocks c.file.entries l reg (reads_from core q.0 c.file c.read).entries c.listed);
         block = subst (λ n. In n c.file.chain.blocks) (sym on) pl.block;
         bytes = pl.bytes;
         page = ap (page_of core) on ∙ pl.page;

@@ -1,5 +1,5 @@
 -- What follows from `Kept` of open grants and pages.
-use Rattle.trio_laws.proofs.Words.{◌&&◌, ◌++◌, ◌<◌, ◌∙◌, ◌∷◌, ◌≡◌, AllPairs, AllPairs-In, Bool, Core, GrantKind, In, In-is_among, In-left, In-list_any, Kept, Kind, List, MayBothStand, Met, MetAt, None, OpenGrant, Option, Row, Sheet, Some, State, TablesOf, Write, [], and_from, and_parts, ap, arith, covered, false, false≢true, flat_map, flat_map-In, free_unlisted, inl, inr, is_among-In, is_core, is_lent, is_read, is_write, leb, list_any-In, listed_is_core, ltb, ltb-true, map-In, map-append, met_row, page_from, page_of, page_owner, pages_are, pages_of, place_there, plain, read_met, row_at, row_at_is, settled, sheet_numbers, slice_get, sound_parts, survey, sym, true, with_pages_absent, ℕ}
+use Rattle.trio_laws.proofs.Words.{AllPairs, AllPairs-In, Bool, Core, GrantKind, In, In-is_among, In-left, In-list_any, In-right, Kept, Kind, List, MayBothStand, Met, MetAt, None, OpenGrant, Option, Row, Sheet, Some, State, TablesOf, Write, [], and_from, and_parts, ap, arith, cond, covered, covers_blocks, false, false≢true, flat_map, flat_map-In, free_unlisted, inl, inr, is_among-In, is_core, is_directory, is_lent, is_read, is_write, leb, list_any-In, listed_is_core, ltb, ltb-true, map-In, map-append, met_row, or_right, page_from, page_of, page_owner, pages_are, pages_of, place_there, plain, read_met, refl, row_at, row_at_is, settled, sheet_numbers, slice_get, sound_parts, subst, survey, sym, true, with_pages_absent, ℕ, ◌&&◌, ◌++◌, ◌<◌, ◌∙◌, ◌∷◌, ◌≡◌, ◌||◌}
 
 pub write_is : (k : GrantKind) → is_write k ≡ true → k ≡ Write
 write_is k e = search (arith, false≢true)
@@ -18,8 +18,39 @@ write_alone gs g h pairs i j w e =
       | inr one ↦ search (arith, write_reads, reads_right)
     ]
 
-pub covered_write : (kind : GrantKind) (of : Kind) (index blocks : List Sheet) (p : ℕ) → In p (sheet_numbers (covered kind of index blocks)) → (kind ≡ Write) × In p (sheet_numbers (index ++ blocks))
-covered_write kind of index blocks p i = search (arith, map-append, In-left)
+pub covered_write : (kind : GrantKind) (of : Kind) (guarded : Bool) (index blocks : List Sheet) (p : ℕ) → In p (sheet_numbers (covered kind of guarded index blocks)) → (kind ≡ Write) × In p (sheet_numbers (index ++ blocks))
+covered_write kind of guarded index blocks p i = search (arith, map-append, In-left)
+
+-- the numbers that a checkpoint covers go by the numbers of the pages
+pub covered_numbers : (of : Kind) (guarded : Bool) (index index' blocks blocks' : List Sheet) → sheet_numbers index ≡ sheet_numbers index' → sheet_numbers blocks ≡ sheet_numbers blocks' → sheet_numbers (covered Write of guarded index blocks) ≡ sheet_numbers (covered Write of guarded index' blocks')
+covered_numbers of guarded index index' blocks blocks' i b = by (covers_blocks of guarded)
+  where
+    by : (t : Bool) → sheet_numbers (cond t (index ++ blocks) index) ≡ sheet_numbers (cond t (index' ++ blocks') index')
+    by true =
+        map-append (λ (x : Sheet). x.page) index blocks
+        ∙ ap (λ l. l ++ sheet_numbers blocks) i
+        ∙ ap (λ l. sheet_numbers index' ++ l) b
+        ∙ sym (map-append (λ (x : Sheet). x.page) index' blocks')
+    by false = i
+
+-- a guarded file's blocks are covered
+pub covered_block : (of : Kind) (guarded : Bool) (index blocks : List Sheet) (p : ℕ) → guarded ≡ true → In p (sheet_numbers blocks) → In p (sheet_numbers (covered Write of guarded index blocks))
+covered_block of guarded index blocks p t i =
+    let c : covers_blocks of guarded ≡ true = or_right (is_directory of) guarded t in
+    subst (λ z. In p (sheet_numbers (cond z (index ++ blocks) index))) (sym c)
+    (subst (λ l. In p l) (sym (map-append (λ (x : Sheet). x.page) index blocks)) (In-right p (sheet_numbers index) (sheet_numbers blocks) i))
+
+or_none : (a b : Bool) → (a || b) ≡ false → (a ≡ false) × (b ≡ false)
+or_none true b e = absurd cc
+or_none false b e = (refl, e)
+
+-- what is covered and is no directory is guarded
+pub covered_kind : (of : Kind) (guarded : Bool) → is_directory of ≡ false → covers_blocks of guarded ≡ true → guarded ≡ true
+covered_kind of guarded d e = sym (ap (λ t. t || guarded) d) ∙ e
+
+-- a file whose blocks aren't covered is no directory, and isn't guarded
+pub uncovered_kind : (of : Kind) (guarded : Bool) → covers_blocks of guarded ≡ false → (is_directory of ≡ false) × (guarded ≡ false)
+uncovered_kind of guarded e = or_none (is_directory of) guarded e
 
 pub numbers_flat : (gs : List OpenGrant) (p : ℕ) → In p (sheet_numbers (flat_map (λ g. g.checkpoint) gs)) → (g : OpenGrant) × In g gs × In p (sheet_numbers g.checkpoint)
 numbers_flat gs p i =

@@ -1,9 +1,10 @@
 -- The verdict on a bundle, and what a refusal leaves.
-use Rattle.trio_laws.proofs.Words.{◌++◌, ◌∙◌, ◌≡◌, Accepted, Bundle, CtlAnswer, Ends, FileRead, GivenTo, Image, In, IsAccepted, IsRefused, Kept, Kind, List, NoMemory, None, NotClosed, Option, Parted, Refused, Release, ReleaseEnd, Sheet, Some, State, Step, Tells, Why, Write, ap, arith, both_ways, covered, creds_of, false, inl, inr, is_accepted, map-append, next, page_of, pages_read, parted_hold, plain, refl, refused_image, settled, settled_body, sheet_numbers, slice_get, sound_parts, subst, survey, survey_local, sym, true, uncovered, with_pages_apart, ℕ}
+use Rattle.trio_laws.proofs.Words.{Accepted, Bundle, CtlAnswer, Ends, GivenTo, Image, In, In-flat, IsAccepted, IsRefused, Kept, List, NoMemory, None, NotClosed, OpenGrant, Option, Parted, Refused, Release, ReleaseEnd, Sheet, Some, State, Step, Tells, Why, Write, Written, ap, arith, both_ways, checkpoints_of, covered, creds_of, false, guard_in, guard_of, inl, inr, is_accepted, map-In, next, page_of, parted_hold, plain, refl, refused_image, settled, settled_body, sheet_numbers, slice_get, sound_parts, subst, survey, survey_local, sym, true, uncovered, with_pages_apart, ℕ, ◌++◌, ◌∙◌, ◌≡◌}
 use Rattle.trio_laws.specs.Laws.{IsVerdict, IsBack, RefusalKeeps}
 use Rattle.trio_laws.proofs.Agreeing.{body_still}
-use Rattle.trio_laws.proofs.Bundles.{Closed, closed_unparted}
-use Rattle.trio_laws.proofs.Refusing.{agree, fit', pages}
+use Rattle.trio_laws.proofs.Bundles.{Closed, closed_unparted, in_numbers}
+use Rattle.trio_laws.proofs.StateFacts.{covered_numbers}
+use Rattle.trio_laws.proofs.Refusing.{agree, covered_back, fit', pages}
 
 without_memory : (s : State) (lib : ℕ) (b : Bundle) → IsVerdict s lib b NoMemory s
 without_memory s lib b = search arith
@@ -39,9 +40,18 @@ release_verdict s s' lib b answer (inl does) = by_end does
     by_end (IsAccepted none t e ends) = (let V : CtlAnswer → Type 0 = λ a. IsVerdict s lib b a s' in subst V (sym e) (is_accepted_then s s' lib b none t ends.settles))
     by_end (IsRefused none f why e tells ends) = (let V : CtlAnswer → Type 0 = λ a. IsVerdict s lib b a s' in subst V (sym e) (is_refused_then s s' lib b why none f tells ends.settles))
 
--- a page that a checkpoint covers is one that is read of its file
-covered_read : (kind : Kind) (index blocks : List Sheet) (f : FileRead) (p : ℕ) → sheet_numbers index ≡ f.chain.index → sheet_numbers blocks ≡ f.chain.blocks → In p (sheet_numbers (covered Write kind index blocks)) → In p (pages_read kind f)
-covered_read kind index blocks f p a b i = search (arith, map-append)
+-- what is to be covered of a written file is in its grant's checkpoint
+covered_lent : (s : State) (k : Kept s) (lib : ℕ) (b : Bundle) (given : GivenTo s lib b) (w : Written) (p : ℕ) → In w b.writes → In p (sheet_numbers (covered Write w.kind (guard_of (settled s) w.ino) w.index w.blocks)) → In p (sheet_numbers (checkpoints_of s.open_grants))
+covered_lent s k lib b given w p i j =
+    let g = given.writes w i in
+    let numbers : sheet_numbers g.grant.checkpoint ≡ sheet_numbers (covered Write w.kind (guard_of (settled s) w.ino) w.index w.blocks) =
+    k.checkpoints g.grant g.is_open
+    ∙ ap (λ t. sheet_numbers (covered t g.grant.of (guard_in g.grant.body) g.grant.index g.grant.blocks)) g.kind
+    ∙ ap (λ t. sheet_numbers (covered Write t (guard_in g.grant.body) g.grant.index g.grant.blocks)) g.of
+    ∙ ap (λ t. sheet_numbers (covered Write w.kind t g.grant.index g.grant.blocks)) (ap guard_in (k.bodies g.grant g.is_open) ∙ ap (guard_of (settled s)) g.ino)
+    ∙ covered_numbers w.kind (guard_of (settled s) w.ino) g.grant.index w.index g.grant.blocks w.blocks (sym g.index) (sym g.blocks) in
+    let x = map-In (λ (x : Sheet). x.page) p g.grant.checkpoint (subst (λ l. In p l) (sym numbers) j) in
+    in_numbers (checkpoints_of s.open_grants) x.0 p (In-flat (λ (g : OpenGrant). g.checkpoint) g.grant x.0 s.open_grants g.is_open x.1) x.2
 
 refused_back : (s s' : State) (k : Kept s) (lib : ℕ) (b : Bundle) (given : GivenTo s lib b) → Closed s lib b → Ends s lib b (refused_image (settled s) b) s' → IsBack s b s'
 refused_back s s' k lib b given closed e =
@@ -50,11 +60,8 @@ refused_back s s' k lib b given closed e =
     record {
       pages = λ page none. ap (λ (i : Image). slice_get i.core.pages page) e.settles ∙ with_pages_apart (uncovered (settled s) b ++ b.pages) (settled s).core.pages page none;
       covered = λ w page i j.
-          let g = given.writes w i in
-          let l = k.lent g.grant g.is_open g.kind in
-          let read : In page (pages_read w.kind l.file) = covered_read w.kind w.index w.blocks l.file page (g.index ∙ l.index) (g.blocks ∙ l.blocks) j in
-          let read' : In page (pages_read l.met.kind l.file) = subst (λ kind. In page (pages_read kind l.file)) (sym (l.of ∙ g.of)) read in
-          ap (λ (i : Image). page_of i.core page) e.settles ∙ agrees l.met l.file page l.stands l.read read';
+          ap (λ (i : Image). page_of i.core page) e.settles
+          ∙ covered_back s s' k lib b given closed e page (covered_lent s k lib b given w page i j);
       root = ap (λ (i : Image). i.core.root) e.settles;
       bodies = λ n r row. ap (λ (i : Image). settled_body i n) e.settles ∙ body_still (settled s) ps k.fit (fit' s s' k lib b given closed e) k.verifies agrees n r row;
       files = ap (λ (i : Image). survey i.core plain) e.settles ∙ survey_local (settled s).core ps plain (sound_parts (settled s).core plain k.verifies.sound).grammar agrees;

@@ -22,21 +22,21 @@ pub use Rattle.trio_desk.specs.Contents.{Rights, ShownEntry, Sizes, bytes_shown,
 pub use Rattle.trio_desk.specs.Edits.{DoesCall, InHand, MayShow}
 pub use Rattle.trio_desk.specs.Out.{IsWellLent, Parcel, file_numbers, hold_numbers, ino_numbers, lent_numbers, numbers_of_file, page_numbers}
 pub use Rattle.trio_desk.specs.Ready.{ArePossible, Ready, bundle_of, lent_files, parcel_case}
-pub use Rattle.trio_desk.specs.Shows.{Naming, Shows, bytes_now, bytes_read, made_by, naming_of, namings, namings_in, node_left, node_listed, node_now, pages_bytes, placed, with_bytes}
+pub use Rattle.trio_desk.specs.Shows.{Naming, Shows, bytes_now, bytes_read, guard_now, made_by, naming_of, namings, namings_in, node_left, node_listed, node_now, pages_bytes, placed, with_bytes, with_guard, with_judged}
 pub use Rattle.trio_layout.proofs.EntryNumbers.{AreInodes, if_ok_at, is_inode, within_fit}
 pub use Rattle.trio_layout.proofs.QueueLaws.{met_by}
 pub use Rattle.trio_layout.proofs.Walks.{fronts_keep, fronts_listed, fronts_new, fronts_tree, numbers-flat, pigeons, starts_met}
 pub use Rattle.trio_layout.proofs.WithinCore.{rest_of, within_from, within_to}
 pub use Rattle.trio_layout.specs.Accept.{is_accepted, next}
 pub use Rattle.trio_layout.specs.Allowed.{all_up_to, has_kind, has_owner, is_allowed, keeps_rows, lists_own, may_stand, same_row}
-pub use Rattle.trio_layout.specs.Body.{block_count, body_at, body_of}
+pub use Rattle.trio_layout.specs.Body.{block_count, body_at, body_of, guard_in}
 pub use Rattle.trio_layout.specs.Broken.{BreaksGrammar, BreaksOwning, BreaksRights, EntryAt, judged_listings}
 pub use Rattle.trio_layout.specs.Case.{Case, Held, bundle_core, case_of}
 pub use Rattle.trio_layout.specs.Chain.{Chain, chain_of, index_count, with_index}
 pub use Rattle.trio_layout.specs.Copied.{with_copied}
 pub use Rattle.trio_layout.specs.Core.{Core, Location, at_page, nowhere, page_of}
 pub use Rattle.trio_layout.specs.Edges.{climbs, climbs_clear, comes_to_root, has_file, is_listed, is_listed_kept, is_moved, keeps_children, leaves_none, meets_edges, proposed_parent, row_parent, stays_listed}
-pub use Rattle.trio_layout.specs.Entries.{Listed, body_in_slot, entries_of_kind, entries_on, has_name, listed_at, page_entries, place_of, repeated_name, slot_bytes, slot_entries, unless_repeated, with_names_apart}
+pub use Rattle.trio_layout.specs.Entries.{Listed, body_in_slot, entries_of, entries_of_kind, entries_on, has_name, listed_at, page_entries, place_of, repeated_name, slot_bytes, slot_entries, unless_repeated, with_names_apart}
 pub use Rattle.trio_layout.specs.Image.{Image, IsFit, row_at, settled_body, with_core_pages}
 pub use Rattle.trio_layout.specs.Index.{Index}
 pub use Rattle.trio_layout.specs.JudgedFiles.{entries_in, fronts, judged_entries, judged_files, judged_pages, new_entries, pages_within, written_at, written_files, written_met}
@@ -77,13 +77,13 @@ pub use Rattle.trio_nodes.specs.After.{batch_nodes, bytes_in, call_nodes, lacks_
 pub use Rattle.trio_nodes.specs.Apply.{Applied, Apply, LacksRoom, applied, done, is_done, listed_in, makes_file, of_node, reached, refused, resized}
 pub use Rattle.trio_nodes.specs.GrantKinds.{excludes_kind, is_hold, is_read, is_write, same_kind}
 pub use Rattle.trio_nodes.specs.Handed.{Handed, HandedFile}
-pub use Rattle.trio_nodes.specs.Legal.{BlocksAreKnown, HasNameOf, HasPlaceOf, HasRightsOf, IsLegal, IsWithinGrants, KeepsRights, LegalCalls, LegalChmod, LegalFrom, MadeFits, Past, SameContent, SparesOthers, beginning, is_handed, is_owner, parent_in, past_after}
+pub use Rattle.trio_nodes.specs.Legal.{BlocksAreKnown, HasNameOf, HasPlaceOf, HasRightsOf, IsLegal, IsWithinGrants, KeepsRights, LegalCalls, LegalChmod, LegalFrom, MadeFits, Past, SameContent, SparesOthers, beginning, is_guarded, is_handed, is_owner, parent_in, past_after}
 pub use Rattle.trio_nodes.specs.Libraries.{creds_in}
 pub use Rattle.trio_nodes.specs.Nodes.{Nodes, entry_in, find_named, is_in, node_at, with_node}
 pub use Rattle.trio_nodes.specs.Standing.{Standing, is_given, is_others, stands, stands_on}
 pub use Rattle.trio_nodes.specs.Told.{ToldBlock}
 pub use Rattle.trio_nodes.specs.Tree.{IsDirectory, IsTree}
-pub use Rattle.trio_nodes.specs.Walk.{Path, and_then, dir_of, is_directory, lacks, walk, walk_into}
+pub use Rattle.trio_nodes.specs.Walk.{Path, and_then, dir_of, lacks, walk, walk_into}
 pub use Rattle.trio_nodes.specs.declared.answers.GrantFault.{GrantFault}
 pub use Rattle.trio_nodes.specs.declared.answers.GrantFault.TheVariants.{NoParent}
 pub use Rattle.trio_nodes.specs.declared.answers.ModeFault.{ModeFault}
@@ -104,11 +104,13 @@ pub use Rattle.trio_nodes.specs.declared.node.Node.{Node}
 pub use Rattle.trio_nodes.specs.declared.note.Note.{Note}
 pub use Rattle.trio_onetree.proofs.Children.{Up, find_named-Child, one_node}
 pub use Rattle.trio_onetree.proofs.TreeStays.{tree_stays_through}
+pub use Rattle.trio_rights.proofs.KindFacts.{is_directory-false, is_directory-true, kind_cases}
 pub use Rattle.trio_rights.specs.Bundle.{Bundle, Written, bundle_pages, bundle_sheets, is_written}
+pub use Rattle.trio_rights.specs.ByKind.{covers_blocks, is_directory, is_link}
 pub use Rattle.trio_rights.specs.Row.{Row, is_child, row_in}
 pub use Rattle.trio_rights.specs.Sheets.{Sheet, sheet_numbers, with_pages, without_pages}
 pub use Rattle.trio_rights.specs.declared.kind.Kind.{Kind}
-pub use Rattle.trio_rights.specs.declared.kind.Kind.TheVariants.{Directory, Regular}
+pub use Rattle.trio_rights.specs.declared.kind.Kind.TheVariants.{Directory, Link, Regular}
 pub use Rattle.trio_rights.specs.declared.rights.Creds.{Creds}
 pub use Rattle.trio_rights.specs.declared.rights.LibNo.{LibNo}
 pub use Rattle.trio_rights.specs.declared.rights.Mode.{Mode}
@@ -119,8 +121,8 @@ pub use Rattle.trio_state.specs.Bundles.{Ends, blank, grants_after, has_all, is_
 pub use Rattle.trio_state.specs.Given.{GivenEvent, GivenTo, HasGrant, HasNoRead, WasAllotted}
 pub use Rattle.trio_state.specs.Grants.{denied_by, denied_or, excluding, given_back, grant_fault, has_parent_grant, holder_of, lacks_parent, lent_pages, opened, opens, told_children}
 pub use Rattle.trio_state.specs.ImageNodes.{body_of_row}
-pub use Rattle.trio_state.specs.Kept.{HoldStands, Kept, LentIsListed, MayBothStand, is_lent}
-pub use Rattle.trio_state.specs.Listed.{Notes, accepted_files, blocks_of_kind, changed_blocks, entry_name, entry_size, is_block_changed, lent_blocks, noted_name, noted_size, notes_after, size_in, told_row}
+pub use Rattle.trio_state.specs.Kept.{HasLentBlocks, HoldStands, Kept, LentIsListed, MayBothStand, is_lent}
+pub use Rattle.trio_state.specs.Listed.{Notes, accepted_files, blocks_of_kind, changed_blocks, entry_guard, entry_name, entry_size, is_block_changed, lent_blocks, noted_guard, noted_name, noted_size, notes_after, size_in, told_row}
 pub use Rattle.trio_state.specs.Moves.{ActAnswer, Begin, Beginning, ComesBack, End, HasNoRoom, IsFull, IsTaken, KeptUnderway, One, Outline, Underway, begun_by, outline_of, with_begun}
 pub use Rattle.trio_state.specs.Run.{IsWhole, Move, Trace, start}
 pub use Rattle.trio_state.specs.State.{IsLibrary, OpenGrant, State, covered, creds_of, logged, settled}
@@ -157,10 +159,10 @@ pub use Rattle.trio_laws.specs.Known.{Known, known}
 pub use Rattle.trio_laws.specs.Laws.{library_of, plain_pages}
 pub use Rattle.trio_laws.specs.OutLaws.{out_of, without_checkpoint}
 pub use Rattle.trio_laws.specs.RuleLaws.{IsJudgeable}
-pub use Rattle.trio_laws.specs.history.Entries.{Beside, answer_of, block_numbers, blocks_in as chain_blocks, bundle_handed, entry_of, event_of, is_block_told, is_told, is_touched, name_by, raw_blocks, raw_entry, raw_file, raw_files, sheet_handed, told_blocks, told_blocks_of, told_by, told_file, written_handed}
+pub use Rattle.trio_laws.specs.history.Entries.{Beside, answer_of, block_numbers, blocks_in as chain_blocks, bundle_handed, entry_of, event_of, is_block_told, is_told, is_touched, name_by, raw_blocks, raw_entry, raw_file, raw_files, sheet_handed, tells_blocks, told_blocks, told_blocks_of, told_by, told_file, written_handed}
 pub use Rattle.trio_laws.specs.history.Recorded.{BesideFits, CallFits, IsMarked, LentWhole}
 pub use Rattle.trio_laws.specs.history.Replays.{ReplaysFrom}
-pub use Rattle.trio_laws.specs.history.Stands.{blocks_of, bytes_of, bytes_of_sheets, name_in, name_of, node_by, node_in, node_of, nodes_of, past_of, size_of, standing_of, writer_of}
+pub use Rattle.trio_laws.specs.history.Stands.{blocks_of, bytes_of, bytes_of_sheets, data_of, guard_of, name_in, name_of, node_by, node_in, node_of, nodes_of, past_of, size_of, standing_of, writer_of}
 pub use Rattle.trio_laws.specs.history.ToldLaws.{note_of, notes_of}
 pub use Rattle.trio_laws.specs.session.FileEdits.{bare_file, bytes_listed, core_in_hand, read_in_hand, with_body}
 pub use Rattle.trio_laws.specs.session.Others.{NoHoldOnRoot}

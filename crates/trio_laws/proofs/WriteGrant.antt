@@ -1,43 +1,49 @@
 -- A write grant on a file without open grants keeps what holds of a state.
-use Rattle.trio_laws.proofs.Words.{◌&&◌, ◌++◌, ◌∙◌, ◌∷◌, ◌≡◌, ◌⊎◌, AgreeOn, Bool, Core, Directory, FileRead, Hold, HoldStands, In, In-cases, In-is_among, In-left, In-list_any, In-right, IsFit, Kept, Kind, LentIsListed, List, MayBothStand, Met, None, OpenGrant, Option, Pages, Regular, Row, Sheet, Some, State, Write, [], all_pairs_push, among_cases, ap, append-nil, are_new, arith, block_sheets, body_of, chain_of, covered, eqb, file_agrees, file_of, flat_map, flat_map-append, get_or, get_or-In, has_parent_grant, index_apart, inl, inr, is_among, is_some, is_write, length-with_pages, length-without, lent_pages, list_any, list_any-append, map-In, map-append, nowhere, opened, opens, or_left, page_of, page_owner, page_same, page_there, pages_are, pages_of, pages_read, place_there, place_within, plain, reads_from, refl, result_then, row_at, row_at_is, row_by, row_met, settled, settled_body, settled_body_met, settled_chain, sheet_numbers, sheets_all, sheets_in, sheets_of, slice_get, some_of, sound_parts, subst, survey, sym, there_or, true, with_other, with_pages, with_pages-append, with_pages_apart, with_pages_cong, with_pages_known, without_absent, without_apart, without_pages, without_there, ℕ}
+use Rattle.trio_laws.proofs.Words.{AgreeOn, Bool, Core, Directory, FileRead, HasLentBlocks, Hold, In, In-cases, In-is_among, In-left, In-list_any, In-right, IsFit, Kept, Kind, LentIsListed, Link, List, MayBothStand, Met, None, OpenGrant, Option, Pages, Regular, Row, Sheet, Some, State, Write, [], all_pairs_push, among_cases, ap, append-nil, are_new, arith, block_sheets, body_of, chain_of, cond, covered, covers_blocks, eqb, false, false≢true, file_agrees, file_of, flat_map, flat_map-append, get_or, get_or-In, guard_in, has_parent_grant, index_apart, inl, inr, is_among, is_directory, is_directory-false, is_some, is_write, length-with_pages, length-without, lent_pages, list_any, list_any-append, map-In, map-append, nowhere, opened, opens, or_left, page_of, page_owner, page_same, page_there, pages_are, pages_of, pages_read, place_there, place_within, plain, reads_from, refl, result_then, row_at, row_at_is, row_by, row_met, settled, settled_body, settled_body_met, settled_chain, sheet_numbers, sheets_all, sheets_in, sheets_of, slice_get, some_of, sound_parts, subst, survey, sym, there_or, true, with_other, with_pages, with_pages-append, with_pages_apart, with_pages_cong, with_pages_known, without_absent, without_apart, without_pages, without_there, ℕ, ◌&&◌, ◌++◌, ◌∙◌, ◌∷◌, ◌≡◌, ◌⊎◌}
 use Rattle.std.specs.Prelude.{Ok}
 use Rattle.trio_layout.specs.Sound.{listed_pages}
 use Rattle.trio_layout.specs.Pages.{index_sheets}
 use Rattle.trio_laws.proofs.Agreeing.{image_with, verifies_still, met_still, lent_still, body_still}
-use Rattle.trio_laws.proofs.StateFacts.{tables, pages_there, lent_file, checkpoint_lent}
+use Rattle.trio_laws.proofs.Bundles.{in_numbers}
+use Rattle.trio_laws.proofs.StateFacts.{tables, pages_there, lent_file, checkpoint_lent, uncovered_kind}
 
 -- a page that is read is an index page or a block of a directory
 pub read_cases : (kind : Kind) (f : FileRead) (p : ℕ) → In p (pages_read kind f) → In p f.chain.index ⊎ (In p f.chain.blocks × (kind ≡ Directory))
-read_cases kind f p i = search (arith, In-cases)
+read_cases Regular f p i = inl i
+read_cases Directory f p i = elim (In-cases p f.chain.index f.chain.blocks i) [ inl a ↦ inl a | inr b ↦ inr (b, refl) ]
+read_cases Link f p i = inl i
 
-pub regular_directory : (k : Kind) → k ≡ Regular → k ≡ Directory → ⊥
-regular_directory Regular a b = absurd cc
-regular_directory Directory a b = absurd cc
-
--- a block of a regular file is read of no file
-pub block_unread : (core : Core) (files : List Met) (m m' : Met) (f f' : FileRead) (p : ℕ) → are_new [] (listed_pages core files) ≡ true → In m files → file_of core m ≡ Ok f → In p f.chain.blocks → m.kind ≡ Regular → In m' files → file_of core m' ≡ Ok f' → In p (pages_read m'.kind f') → ⊥
-block_unread core files m m' f f' p new i e a reg j e' b =
+-- a block of what is no directory is read of no file
+pub block_unread : (core : Core) (files : List Met) (m m' : Met) (f f' : FileRead) (p : ℕ) → are_new [] (listed_pages core files) ≡ true → In m files → file_of core m ≡ Ok f → In p f.chain.blocks → is_directory m.kind ≡ false → In m' files → file_of core m' ≡ Ok f' → In p (pages_read m'.kind f') → ⊥
+block_unread core files m m' f f' p new i e a plain' j e' b =
     elim (read_cases m'.kind f' p b) [
       | inl index ↦ index_apart core files m' m f' f p new j i e' e index a
       | inr block ↦
           let pa : In p (pages_of core m) = subst (λ l. In p l) (sym (pages_are core m f e)) (In-right p f.chain.index f.chain.blocks a) in
           let pb : In p (pages_of core m') = subst (λ l. In p l) (sym (pages_are core m' f' e')) (In-right p f'.chain.index f'.chain.blocks block.0) in
           let same : m' ≡ m = page_owner core files m' m p new j i pb pa in
-          regular_directory m.kind reg (sym (ap (λ (x : Met). x.kind) same) ∙ block.1)
+          is_directory-false m.kind plain' (sym (ap (λ (x : Met). x.kind) same) ∙ block.1)
     ]
 
 -- what a checkpoint covers of a file's pages
-covers : (of : Kind) (index blocks : List Sheet) (x : Sheet) → In x (covered Write of index blocks) → In x (index ++ blocks)
-covers Directory index blocks x i = i
-covers Regular index blocks x i = In-left x index blocks i
+covers : (of : Kind) (guarded : Bool) (index blocks : List Sheet) (x : Sheet) → In x (covered Write of guarded index blocks) → In x (index ++ blocks)
+covers of guarded index blocks x i = by (covers_blocks of guarded) i
+  where
+    by : (t : Bool) → In x (cond t (index ++ blocks) index) → In x (index ++ blocks)
+    by true i = i
+    by false i = In-left x index blocks i
 
-pub uncovers : (of : Kind) (index blocks : List Sheet) (p : ℕ) → In p (sheet_numbers (index ++ blocks)) → (In p (sheet_numbers (covered Write of index blocks)) → ⊥) → In p (sheet_numbers blocks) × (of ≡ Regular)
-uncovers Directory index blocks p i none = absurd (none i)
-uncovers Regular index blocks p i none =
-    elim (In-cases p (sheet_numbers index) (sheet_numbers blocks) (subst (λ l. In p l) (map-append (λ (x : Sheet). x.page) index blocks) i)) [
-      | inl a ↦ absurd (none a)
-      | inr b ↦ (b, refl)
-    ]
+-- and what it doesn't: blocks of what is no directory and isn't guarded
+pub uncovers : (of : Kind) (guarded : Bool) (index blocks : List Sheet) (p : ℕ) → In p (sheet_numbers (index ++ blocks)) → (In p (sheet_numbers (covered Write of guarded index blocks)) → ⊥) → In p (sheet_numbers blocks) × (covers_blocks of guarded ≡ false)
+uncovers of guarded index blocks p i none = by (covers_blocks of guarded) refl none
+  where
+    by : (t : Bool) → covers_blocks of guarded ≡ t → (In p (sheet_numbers (cond t (index ++ blocks) index)) → ⊥) → In p (sheet_numbers blocks) × (covers_blocks of guarded ≡ false)
+    by true e none = absurd (none i)
+    by false e none =
+        elim (In-cases p (sheet_numbers index) (sheet_numbers blocks) (subst (λ l. In p l) (map-append (λ (x : Sheet). x.page) index blocks) i)) [
+          | inl a ↦ absurd (none a)
+          | inr b ↦ (b, e)
+        ]
 
 module _ (s : State) (k : Kept s) (lib : ℕ) (m : Met) (f : FileRead) (i : In m (survey (settled s).core plain)) (e : file_of (settled s).core m ≡ Ok f) (free : (g : OpenGrant) → In g s.open_grants → g.ino ≡ m.ino → ⊥) where
   abbrev pub g : OpenGrant
@@ -87,17 +93,17 @@ module _ (s : State) (k : Kept s) (lib : ℕ) (m : Met) (f : FileRead) (i : In m
   pages_are_two : pages ≡ with_pages g.checkpoint before
   pages_are_two = search (arith, flat_map-append, append-nil, with_pages-append)
 
-  -- each page is as it was, or it is a block of the regular file and absent
-  pub pages_now : (p : ℕ) → (slice_get pages p ≡ slice_get core.pages p) ⊎ (In p f.chain.blocks × (m.kind ≡ Regular) × (slice_get pages p ≡ Some None))
+  -- each page is as it was, or it is a block that isn't covered, and absent
+  pub pages_now : (p : ℕ) → (slice_get pages p ≡ slice_get core.pages p) ⊎ (In p f.chain.blocks × (covers_blocks m.kind (guard_in g.body) ≡ false) × (slice_get pages p ≡ Some None))
   pages_now p =
       elim (among_cases p (sheet_numbers g.checkpoint)) [
         | inl covered' ↦
             let x = map-In (λ (x : Sheet). x.page) p g.checkpoint covered' in
             let same : (y : Sheet) → In y g.checkpoint → y.page ≡ p → y.bytes ≡ x.0.bytes =
             λ y j on.
-            let a : Some y.bytes ≡ Some x.0.bytes = sym (sheet_bytes y (covers m.kind g.index g.blocks y j)) ∙ ap (page_of core) (on ∙ x.2) ∙ sheet_bytes x.0 (covers m.kind g.index g.blocks x.0 x.1) in
+            let a : Some y.bytes ≡ Some x.0.bytes = sym (sheet_bytes y (covers m.kind (guard_in g.body) g.index g.blocks y j)) ∙ ap (page_of core) (on ∙ x.2) ∙ sheet_bytes x.0 (covers m.kind (guard_in g.body) g.index g.blocks x.0 x.1) in
             cc a in
-            let was = (page_there core x.0.page x.0.bytes (sheet_bytes x.0 (covers m.kind g.index g.blocks x.0 x.1))).1 in
+            let was = (page_there core x.0.page x.0.bytes (sheet_bytes x.0 (covers m.kind (guard_in g.body) g.index g.blocks x.0 x.1))).1 in
             let was' : slice_get core.pages p ≡ Some (Some x.0.bytes) = ap (slice_get core.pages) x.2 ∙ was in
             let lower = place_within core.pages p (Some x.0.bytes) was' in
             let n1 = length-with_pages (flat_map (λ g. g.checkpoint) s.open_grants) s.home.core.pages in
@@ -109,7 +115,7 @@ module _ (s : State) (k : Kept s) (lib : ℕ) (m : Met) (f : FileRead) (i : In m
             let now : slice_get pages p ≡ slice_get before p = ap (λ l. slice_get l p) pages_are_two ∙ with_pages_apart g.checkpoint before p uncovered' in
             elim (among_cases p (lent_pages g)) [
               | inl lent ↦
-                  let u = uncovers m.kind g.index g.blocks p lent uncovered' in
+                  let u = uncovers m.kind (guard_in g.body) g.index g.blocks p lent uncovered' in
                   let block : In p f.chain.blocks = subst (λ l. In p l) block_numbers u.0 in
                   let mine : In p (pages_of core m) = subst (λ l. In p l) (sym (pages_are core m f e)) (In-right p f.chain.index f.chain.blocks block) in
                   let none : In p (sheet_numbers (flat_map (λ g. g.checkpoint) s.open_grants)) → ⊥ =
@@ -127,7 +133,7 @@ module _ (s : State) (k : Kept s) (lib : ℕ) (m : Met) (f : FileRead) (i : In m
   agree m' f' p j e' a =
       elim (pages_now p) [
         | inl same ↦ page_same core pages p same
-        | inr gone ↦ absurd (block_unread core (survey core plain) m m' f f' p (sound_parts core plain k.verifies.sound).paged i e gone.0 gone.1 j e' a)
+        | inr gone ↦ absurd (block_unread core (survey core plain) m m' f f' p (sound_parts core plain k.verifies.sound).paged i e gone.0 (uncovered_kind m.kind (guard_in g.body) gone.1).0 j e' a)
       ]
 
   pub fit' : IsFit (with_other core pages)
@@ -158,12 +164,29 @@ module _ (s : State) (k : Kept s) (lib : ℕ) (m : Met) (f : FileRead) (i : In m
   parent_more l None h = h
   parent_more l (Some r) h = any_more (λ (x : OpenGrant). eqb x.lib l && eqb x.ino r.parent && is_write x.kind) h
 
-  held_more : (h : OpenGrant) → In h s.open_grants → h.kind ≡ Hold → HoldStands ((opens s g)) h
-  held_more h j w =
-      let old = k.held h j w in
-      let live = k.live h j in
-      let row = some_of (row_at s.home h.ino) live in
-      (parent_more h.lib (row_at s.home h.ino) old.0, old.1 ∙ sym (body_still (settled s) pages k.fit fit' k.verifies agree h.ino row.0 row.1))
+  -- the body that a grant lent is settled still
+  body_more : (h : OpenGrant) → In h s.open_grants → h.body ≡ settled_body (image_with (settled s) pages) h.ino
+  body_more h j =
+      let row = some_of (row_at s.home h.ino) (k.live h j) in
+      k.bodies h j ∙ sym (body_still (settled s) pages k.fit fit' k.verifies agree h.ino row.0 row.1)
+
+  -- the blocks of a guarded file are settled as they were lent
+  guarded_more : (h : OpenGrant) → In h s.open_grants → h.kind ≡ Write → HasLentBlocks (settled s) h → HasLentBlocks (image_with (settled s) pages) h
+  guarded_more h j w was x a =
+      elim (pages_now x.page) [
+        | inl same ↦ page_same core pages x.page same ∙ was x a
+        | inr gone ↦
+            let mine : In x.page (pages_of core m) = subst (λ l. In x.page l) (sym (pages_are core m f e)) (In-right x.page f.chain.index f.chain.blocks gone.0) in
+            let theirs : In x.page (sheet_numbers (h.index ++ h.blocks)) = in_numbers (h.index ++ h.blocks) x x.page (In-right x h.index h.blocks a) refl in
+            absurd (free h j (lent_file s k m x.page h i mine j w theirs))
+      ]
+
+  guarded_new : guard_in g.body ≡ true → HasLentBlocks (image_with (settled s) pages) g
+  guarded_new t x a =
+      elim (pages_now x.page) [
+        | inl same ↦ page_same core pages x.page same ∙ sheet_bytes x (In-right x g.index g.blocks a)
+        | inr gone ↦ absurd (false≢true (sym (uncovered_kind m.kind (guard_in g.body) gone.1).1 ∙ t))
+      ]
 
   lent_new : LentIsListed (image_with (settled s) pages) g
   lent_new = record {
@@ -190,8 +213,14 @@ module _ (s : State) (k : Kept s) (lib : ℕ) (m : Met) (f : FileRead) (i : In m
       | inr new ↦ ap (λ (x : OpenGrant). is_some (row_at s.home x.ino)) new ∙ ap is_some row_is
     ];
     apart = all_pairs_push MayBothStand s.open_grants g k.apart (λ n d l same. absurd (free (get_or s.open_grants n d) (get_or-In s.open_grants n d l) same));
+    bodies = λ h j. elim (old_or_new h j) [
+      | inl old ↦ body_more h old
+      | inr new ↦
+          let B : OpenGrant → Type 0 = λ x. x.body ≡ settled_body (image_with (settled s) pages) x.ino in
+          subst B (sym new) (sym (body_still (settled s) pages k.fit fit' k.verifies agree m.ino (row_by m f.body) row_is))
+    ];
     held = λ h j w. elim (old_or_new h j) [
-      | inl old ↦ held_more h old w
+      | inl old ↦ parent_more h.lib (row_at s.home h.ino) (k.held h old w)
       | inr new ↦ let wrong : Write ≡ Hold = sym (ap (λ (x : OpenGrant). x.kind) new) ∙ w in absurd (cc wrong)
     ];
     lent = λ h j w. elim (old_or_new h j) [
@@ -201,6 +230,12 @@ module _ (s : State) (k : Kept s) (lib : ℕ) (m : Met) (f : FileRead) (i : In m
     checkpoints = λ h j. elim (old_or_new h j) [
       | inl old ↦ k.checkpoints h old
       | inr new ↦ search arith
+    ];
+    guarded = λ h j w d t. elim (old_or_new h j) [
+      | inl old ↦ guarded_more h old w (k.guarded h old w d t)
+      | inr new ↦
+          let L : OpenGrant → Type 0 = λ x. HasLentBlocks (image_with (settled s) pages) x in
+          subst L (sym new) (guarded_new (sym (ap (λ (x : OpenGrant). guard_in x.body) new) ∙ t))
     ];
     absent = λ p gone c. elim (without_absent (lent_pages g) s.home.core.pages p gone) [
       | inl lent ↦

@@ -3,16 +3,17 @@
 -- one connected tree with each page owned once and rights as in the shadow table, and a release is accepted exactly when the
 -- whole image with its bytes would be sound by an allowed change, while otherwise what the checkpoint covers returns byte for
 -- byte.
-use Rattle.std.specs.Prelude.{◌≡◌, ◌≢◌, ◌↔◌, ◌⊎◌, ℕ, List, map, [], ◌++◌, Option, Some, None, Ok, slice_get, IsTrue, IsFalse}
+use Rattle.std.specs.Prelude.{◌≡◌, ◌≢◌, ◌↔◌, ◌⊎◌, ℕ, List, map, [], ◌++◌, Option, Some, None, Ok, if◌then◌else◌, slice_get, IsTrue, IsFalse}
 use Rattle.trio_rights.specs.declared.kind.Kind.{Kind}
-use Rattle.trio_rights.specs.declared.kind.Kind.TheVariants.{Regular, Directory}
+use Rattle.trio_rights.specs.ByKind.{is_directory}
 use Rattle.trio_rights.specs.declared.rights.Creds.{Creds}
 use Rattle.trio_rights.specs.Row.{Row}
 use Rattle.trio_nodes.specs.declared.grant.GrantKind.TheVariants.{Write, Hold}
 use Rattle.trio_lists.specs.Lists.{In, is_among}
+use Rattle.trio_layout.specs.Body.{guard_in}
 use Rattle.trio_layout.specs.Core.{page_of}
 use Rattle.trio_layout.specs.Entries.{Listed}
-use Rattle.trio_layout.specs.Survey.{Met, plain, FileRead, file_of, survey, numbers}
+use Rattle.trio_layout.specs.Survey.{Met, plain, FileRead, file_of, survey}
 use Rattle.trio_rights.specs.Sheets.{sheet_numbers}
 use Rattle.trio_layout.specs.Image.{Image, IsFit, row_at, settled_body}
 use Rattle.trio_layout.specs.Verifies.{Verifies}
@@ -86,13 +87,14 @@ EveryReleaseIsJudged =
 
 -- What stands in the settled image after a refusal: all as before, but for the lent blocks of the bundle's written files
 -- that aren't covered, and its allotted pages. The pages that the checkpoints of its written files cover are not among
--- these: they are as before, byte for byte.
+-- these, a guarded file's blocks too: they are as before, byte for byte. Which files are guarded is settled before.
 pub record IsBack (s : State) (b : Bundle) (s' : State) : Type 0 where
   pub pages :
       (page : ℕ) → (In page (sheet_numbers (uncovered (settled s) b ++ b.pages)) → ⊥)
       → slice_get (settled s').core.pages page ≡ slice_get (settled s).core.pages page
   pub covered :
-      (w : Written) (page : ℕ) → In w b.writes → In page (sheet_numbers (covered Write w.kind w.index w.blocks))
+      (w : Written) (page : ℕ) → In w b.writes
+      → In page (sheet_numbers (covered Write w.kind (guard_in (settled_body (settled s) w.ino)) w.index w.blocks))
       → page_of (settled s').core page ≡ page_of (settled s).core page
   pub root : (settled s').core.root ≡ (settled s).core.root
   pub bodies : (n : ℕ) (r : Row) → row_at (settled s) n ≡ Some r → settled_body (settled s') n ≡ settled_body (settled s) n
@@ -125,10 +127,9 @@ NeverStuck =
 abbrev pub entry_only : Listed → Listed
 entry_only l = record { entry = l.entry; page = l.page; slot = l.slot; body = [] }
 
--- the pages of a file that have no slots: the index pages, and a regular file's blocks
+-- the pages of a file that have no slots: the index pages, and the blocks of what is no directory
 abbrev pub plain_pages : Kind → FileRead → List ℕ
-plain_pages Regular f = f.chain.index ++ f.chain.blocks
-plain_pages Directory f = f.chain.index
+plain_pages kind f = if is_directory kind then f.chain.index else f.chain.index ++ f.chain.blocks
 
 -- The file of a number is the same in both images: met at its place, with its kind, body, row and chain, with the same bytes in
 -- each page without slots and, in a directory, with the same entries but for the bodies of its children.
@@ -169,7 +170,8 @@ IsElsewhere n (SetMode lib ino mode) answer = answer ≡ ModeSet → ino ≢ n
 IsElsewhere n _ answer = Unit {0}
 
 -- A live file on which a library has no open write grant and no hold is the same after each event of that library that is
--- elsewhere. (A write grant on a regular file itself takes its blocks out of the settled image until they come back.)
+-- elsewhere. (A write grant on the file itself takes blocks that its checkpoint doesn't cover out of the settled image until they come
+-- back.)
 abbrev pub EveryStepIsIsolated : Type 0
 EveryStepIsIsolated =
     (s : State) (event : Event) (answer : CtlAnswer) (s' : State) (n : ℕ) (r : Row)

@@ -23,7 +23,7 @@ pub fn becomes_through()
     ensures law { BecomesThrough }
 {}
 
-/// A write lease that is taken, of a regular file or a directory, shows the same nodes.
+/// A write lease that is taken, of a file of any kind, shows the same nodes.
 pub fn takes_write()
     ensures law { TakesWrite }
 {}
@@ -63,8 +63,9 @@ pub fn walks_by_sight()
     ensures step { WalksBy }
 {}
 
-/// A write, a read, a truncation or a stat is decided by its walk, and by the rights and the bytes of
-/// the file to which that comes; or there is no room for it.
+/// A write, a read, a truncation, a stat, a reading of a link's text or a change of the guard is decided
+/// by its walk, and by the kind, the rights and the bytes of the file to which that comes; or there is no
+/// room for it.
 pub fn decides_file_calls()
     ensures walk { RefusedByWalk }
     ensures check { RefusedByCheck }

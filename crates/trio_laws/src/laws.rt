@@ -21,7 +21,8 @@ pub fn every_release_is_judged()
 {}
 
 /// After a refusal what the checkpoints of the bundle cover is as before, byte for byte, and so is
-/// all else but the lent blocks of its regular files and its allotted pages.
+/// all else but the lent blocks that they don't cover, those of links and of regular files that aren't
+/// guarded, and its allotted pages.
 pub fn refusal_keeps()
     ensures law { RefusalKeeps }
 {}

@@ -72,7 +72,7 @@ module _ (s : State) (k : Kept s) (lib other : ℕ) (apart : other ≢ lib) wher
   guarded_unheld : (n : ℕ) (r : Row) → row_at s.home n ≡ Some r → Guards s lib r.parent → HasGrant s other n Hold → ⊥
   guarded_unheld n r row g h =
       let stands : has_parent_grant s h.grant.lib (Some r) ≡ true =
-      ap (has_parent_grant s h.grant.lib) (sym row ∙ ap (row_at s.home) (sym h.ino)) ∙ (k.held h.grant h.is_open h.kind).0 in
+      ap (has_parent_grant s h.grant.lib) (sym row ∙ ap (row_at s.home) (sym h.ino)) ∙ (k.held h.grant h.is_open h.kind) in
       let q = list_any-In (λ (x : OpenGrant). eqb x.lib h.grant.lib && eqb x.ino r.parent && is_write x.kind) s.open_grants stands in
       let p = and_parts (eqb q.0.lib h.grant.lib && eqb q.0.ino r.parent) (is_write q.0.kind) q.2 in
       let o = and_parts (eqb q.0.lib h.grant.lib) (eqb q.0.ino r.parent) p.0 in
@@ -284,12 +284,11 @@ module _ (s : State) (lib : ℕ) (b : Bundle) (j : IsJudgeable s lib b) where
           let l = other_step_leaves s s' lib event answer j.kept given step apart in
           let h = l.grants g.grant g.is_open g.lib in
           let same : lent_part g.grant ≡ lent_part h.0 = h.2 in
-          let kind : h.0.kind ≡ Hold = ap (λ (x : OpenGrant). x.kind) (sym same) ∙ g.kind in
           let at : h.0.ino ≡ n = ap (λ (x : OpenGrant). x.ino) (sym same) ∙ g.ino in
           ap (settled_body (settled s')) (sym at)
-          ∙ sym (k'.held h.0 h.1 kind).1
+          ∙ sym (k'.bodies h.0 h.1)
           ∙ ap (λ (x : OpenGrant). x.body) (sym same)
-          ∙ (j.kept.held g.grant g.is_open g.kind).1
+          ∙ j.kept.bodies g.grant g.is_open
           ∙ ap (settled_body (settled s)) g.ino
 
       case_same : with_copied (case_in s' lib b) ≡ with_copied (case_in s lib b)

@@ -1,5 +1,5 @@
 -- The blocks that an accepted release tells, by the images before and after, are those that the bundle, its listing and the notes tell.
-use Rattle.trio_laws.proofs.Words.{◌++◌, ◌+◌, ◌∙◌, ◌≡◌, ◌⊎◌, Bundle, Case, Core, FileRead, Handed, Image, In, In-find, In-right, IsJudgeable, Kind, List, ListedFile, Listing, Met, None, Notes, Ok, Option, Pick, Raw, RawFile, Regular, Row, Some, State, Written, [], accepted_files, ap, arith, block_numbers, blocks_of_kind, bundle_core, bundle_handed, case_of, chain_blocks, changed_blocks, creds_of, eq-eqb, eqb, eqb-true, false, file_of, find-In, flat_map-same, inl, inr, is_accepted, is_block_changed, is_block_told, is_told, is_written, judged_files, lent_blocks, listed_is_core, listing, map, next, notes_of, option_map_or, page_of, pages_are, pages_of, picked_entry, proposed, proposed_pick, raw_blocks, raw_entry, raw_file, raw_files, refl, row_at, row_by, settled, settled_chain, sheet_numbers, size_of, slice_get, subst, sym, there_same, told_blocks, told_blocks_of, told_by, told_file, true, ℕ}
+use Rattle.trio_laws.proofs.Words.{Bool, Bundle, Case, Core, FileRead, Handed, Image, In, In-find, In-right, IsJudgeable, List, ListedFile, Listing, Met, None, Notes, Ok, Option, Pick, Raw, RawFile, Row, Some, State, Written, [], accepted_files, ap, arith, block_numbers, blocks_of_kind, bundle_core, bundle_handed, case_of, chain_blocks, changed_blocks, cond, creds_of, eq-eqb, eqb, eqb-true, false, file_of, find-In, flat_map-same, inl, inr, is_accepted, is_block_changed, is_block_told, is_directory, is_told, is_written, judged_files, lent_blocks, listed_is_core, listing, map, next, not, notes_of, option_map_or, page_of, pages_are, pages_of, picked_entry, proposed, proposed_pick, raw_blocks, raw_entry, raw_file, raw_files, refl, row_at, row_by, settled, settled_chain, sheet_numbers, size_of, slice_get, subst, sym, there_same, told_blocks, told_blocks_of, told_by, told_file, true, ℕ, ◌++◌, ◌+◌, ◌∙◌, ◌≡◌, ◌⊎◌}
 use Rattle.std.proofs.Common.{find}
 use Rattle.trio_nodes.specs.declared.answers.ReleaseAnswer.TheVariants.{Accepted}
 use Rattle.trio_state.specs.Listed.{accepted_blocks, blocks_listed_of}
@@ -10,7 +10,8 @@ use Rattle.trio_laws.proofs.judgement.JudgedFacts.{judged_from, new_from, writte
 use Rattle.trio_laws.proofs.judgement.MeetingEdges.{met_side, same_file}
 use Rattle.trio_laws.proofs.judgement.TablesAfter.{file_from, file_to}
 use Rattle.trio_laws.proofs.judgement.Taking.{judged_met, reads}
-use Rattle.trio_laws.proofs.history.AcceptedFiles.{kept_follows, plain_block, plain_page}
+use Rattle.trio_laws.proofs.Isolated.{plain_block}
+use Rattle.trio_laws.proofs.history.AcceptedFiles.{kept_follows, plain_page}
 use Rattle.trio_laws.proofs.history.AcceptedNames.{at_now, fit_after, row_now, verifies_after}
 use Rattle.trio_laws.proofs.history.AcceptedTold.{files_same}
 use Rattle.trio_laws.proofs.history.Follows.{chain_read, size_follows}
@@ -72,10 +73,10 @@ module _ (s : State) (lib : ℕ) (h : Handed) (j : IsJudgeable s lib (bundle_han
       let read : Ok w.file ≡ Ok (reads s lib b j acc m i).file = sym w.read ∙ ap (file_of P) (judged_now n r row m i is) ∙ (reads s lib b j acc m i).whole in
       cc read
 
-  page_alike : (n : ℕ) (r : Row) (row : row_at J n ≡ Some r) (m : Met) (i : In m (judged_files cs)) → m.ino ≡ n → r.kind ≡ Regular → (p : ℕ) → In p (at_now s lib b j acc n r row).file.chain.blocks → page_of J.core p ≡ page_of (bundle_core cs) p
-  page_alike n r row m i is regular p k =
+  page_alike : (n : ℕ) (r : Row) (row : row_at J n ≡ Some r) (m : Met) (i : In m (judged_files cs)) → m.ino ≡ n → is_directory r.kind ≡ false → (p : ℕ) → In p (at_now s lib b j acc n r row).file.chain.blocks → page_of J.core p ≡ page_of (bundle_core cs) p
+  page_alike n r row m i is plain' p k =
       let w = at_now s lib b j acc n r row in
-      let kind : w.met.kind ≡ Regular = sym (ap (λ (x : Row). x.kind) w.row) ∙ regular in
+      let kind : is_directory w.met.kind ≡ false = sym (ap (λ (x : Row). is_directory x.kind) w.row) ∙ plain' in
       let all : In p (w.file.chain.index ++ w.file.chain.blocks) = In-right p w.file.chain.index w.file.chain.blocks k in
       let listed : In p (pages_of P w.met) = subst (λ ps. In p ps) (sym (pages_are P w.met w.file w.read)) all in
       let own = (reads s lib b j acc m i).own p (subst (λ (f : FileRead). In p (f.chain.index ++ f.chain.blocks)) (file_now n r row m i is) all) in
@@ -109,8 +110,8 @@ module _ (s : State) (lib : ℕ) (h : Handed) (j : IsJudgeable s lib (bundle_han
         | inr x ↦ new_alike f (subst (λ n. In n b.numbers) is (new_from s lib b j x.0 m x.2).1) at page
       ]
 
-  judged_blocks : (f : RawFile) (r : Row) (row : row_at J f.ino ≡ Some r) (m : Met) (i : In m (judged_files cs)) → m.ino ≡ f.ino → r.kind ≡ Regular → size_of J f.ino ≡ f.size → told_blocks I J h f.ino 0 (block_numbers J f.ino (row_at J f.ino)) ≡ changed_blocks cs notes h f 0 (reads s lib b j acc m i).file.chain.blocks
-  judged_blocks f r row m i is regular size =
+  judged_blocks : (f : RawFile) (r : Row) (row : row_at J f.ino ≡ Some r) (m : Met) (i : In m (judged_files cs)) → m.ino ≡ f.ino → is_directory r.kind ≡ false → size_of J f.ino ≡ f.size → told_blocks I J h f.ino 0 (block_numbers J f.ino (row_at J f.ino)) ≡ changed_blocks cs notes h f 0 (reads s lib b j acc m i).file.chain.blocks
+  judged_blocks f r row m i is plain' size =
       let n : ℕ = f.ino in
       let file = file_now n r row m i is in
       let pages : List ℕ = (reads s lib b j acc m i).file.chain.blocks in
@@ -119,7 +120,7 @@ module _ (s : State) (lib : ℕ) (h : Handed) (j : IsJudgeable s lib (bundle_han
       ∙ same_blocks I J cs notes h f 0 pages
       (λ at page get. (
         judged_alike f m i is size (0 + at) page,
-        page_alike n r row m i is regular page (subst (λ ps. In page ps) (sym chain) (get_in pages at page get)),
+        page_alike n r row m i is plain' page (subst (λ ps. In page ps) (sym chain) (get_in pages at page get)),
       ))
 
   -- ---- any other file
@@ -159,9 +160,9 @@ module _ (s : State) (lib : ℕ) (h : Handed) (j : IsJudgeable s lib (bundle_han
       let k = In-find (λ (f : ListedFile). eqb f.ino n) l.files (record { ino = m.ino; row = row_by m r.file.body; index = r.file.chain.index; blocks = r.file.chain.blocks }) (file_to s lib b j acc m r.file i r.within) (eq-eqb m.ino n is) in
       let wrong : None ≡ Some k.0 = sym none ∙ k.1 in absurd (cc wrong)
 
-  found_blocks : (f : RawFile) (r : Row) (row : row_at J f.ino ≡ Some r) → r.kind ≡ Regular → size_of J f.ino ≡ f.size → (o : Option ListedFile) → found f.ino ≡ o → told_blocks I J h f.ino 0 (block_numbers J f.ino (row_at J f.ino)) ≡ changed_blocks cs notes h f 0 (option_map_or (λ (x : ListedFile). x.blocks) o [])
-  found_blocks f r row regular size None none = kept_blocks f.ino r row (unfound f.ino none)
-  found_blocks f r row regular size (Some x) there =
+  found_blocks : (f : RawFile) (r : Row) (row : row_at J f.ino ≡ Some r) → is_directory r.kind ≡ false → size_of J f.ino ≡ f.size → (o : Option ListedFile) → found f.ino ≡ o → told_blocks I J h f.ino 0 (block_numbers J f.ino (row_at J f.ino)) ≡ changed_blocks cs notes h f 0 (option_map_or (λ (x : ListedFile). x.blocks) o [])
+  found_blocks f r row plain' size None none = kept_blocks f.ino r row (unfound f.ino none)
+  found_blocks f r row plain' size (Some x) there =
       let q = find-In (λ (f' : ListedFile). eqb f'.ino f.ino) l.files x there in
       let m = file_from s lib b j acc x q.0 in
       let is : m.0.ino ≡ f.ino = ap (λ (y : ListedFile). y.ino) (sym m.4) ∙ eqb-true x.ino f.ino q.1 in
@@ -182,21 +183,30 @@ module _ (s : State) (lib : ℕ) (h : Handed) (j : IsJudgeable s lib (bundle_han
           let wrong : None ≡ Some (row_by m.0 t.0.body) = sym gone ∙ ap (row_at J) (sym is) ∙ t.2 in
           absurd (cc wrong)
 
-  there_blocks : (f : RawFile) (r : Row) → row_at J f.ino ≡ Some r → told_file J b f.ino false r ≡ f → (kind : Kind) → r.kind ≡ kind → told_blocks_of I J h f kind ≡ blocks_of_kind cs notes h f kind (blocks_listed_of l f.ino)
-  there_blocks f r row is h kind = search (arith, found_blocks)
+  there_blocks : (f : RawFile) (r : Row) → row_at J f.ino ≡ Some r → told_file J b f.ino false r ≡ f → (d : Bool) → is_directory r.kind ≡ d → told_blocks_of I J h f (not d) ≡ blocks_of_kind cs notes h f (not d) (blocks_listed_of l f.ino)
+  there_blocks f r row is true d = refl
+  there_blocks f r row is false d =
+      ap (λ t. cond t [] (told_blocks I J h f.ino 0 (block_numbers J f.ino (row_at J f.ino)))) (ap (λ (x : RawFile). x.gone) (sym is))
+      ∙ found_blocks f r row d (ap (λ (x : RawFile). x.size) is) (found f.ino) refl
 
-  lost_blocks : (f : RawFile) → row_at J f.ino ≡ None → f.gone ≡ true → (kind : Kind) → told_blocks_of I J h f kind ≡ blocks_of_kind cs notes h f kind (blocks_listed_of l f.ino)
-  lost_blocks f none gone kind = search (arith, gone_blocks)
+  lost_blocks : (f : RawFile) → row_at J f.ino ≡ None → f.gone ≡ true → (told : Bool) → told_blocks_of I J h f told ≡ blocks_of_kind cs notes h f told (blocks_listed_of l f.ino)
+  lost_blocks f none gone false = refl
+  lost_blocks f none gone true =
+      ap (λ t. cond t [] (told_blocks I J h f.ino 0 (block_numbers J f.ino (row_at J f.ino)))) gone
+      ∙ sym (ap (changed_blocks cs notes h f 0) (gone_blocks f none))
 
-  file_blocks : (f : RawFile) → In f (raw_files I J b) → told_blocks_of I J h f f.kind ≡ blocks_of_kind cs notes h f f.kind (blocks_listed_of l f.ino)
+  file_blocks : (f : RawFile) → In f (raw_files I J b) → told_blocks_of I J h f (not (is_directory f.kind)) ≡ blocks_of_kind cs notes h f (not (is_directory f.kind)) (blocks_listed_of l f.ino)
   file_blocks f i =
       let q = counted_in (λ (x : RawFile). x.ino) (raw_file I J b) (raw_number I J b) 1 I.core.inodes f i in
       let p = when_passed (is_told I J b f.ino) (told_by I J b f.ino (row_at I f.ino) (row_at J f.ino)) f q.2 in
-      search (arith, told_parts, there_blocks, lost_blocks)
+      elim (told_parts f (row_at I f.ino) (row_at J f.ino) p.1) [
+        | inl there ↦ there_blocks f there.0 there.1 there.2 (is_directory f.kind) (ap (λ (x : RawFile). is_directory x.kind) there.2)
+        | inr lost ↦ lost_blocks f lost.0 lost.1 (not (is_directory f.kind))
+      ]
 
-  blocks_same : raw_blocks I J h (raw_files I J b) ≡ accepted_blocks cs l notes h (accepted_files cs l notes)
+  blocks_same : raw_blocks Accepted I J h (raw_files I J b) ≡ accepted_blocks cs l notes h (accepted_files cs l notes)
   blocks_same =
-      flat_map-same (λ f. told_blocks_of I J h f f.kind) (λ f. blocks_of_kind cs notes h f f.kind (blocks_listed_of l f.ino)) (raw_files I J b) file_blocks
+      flat_map-same (λ f. told_blocks_of I J h f (not (is_directory f.kind))) (λ f. blocks_of_kind cs notes h f (not (is_directory f.kind)) (blocks_listed_of l f.ino)) (raw_files I J b) file_blocks
       ∙ ap (accepted_blocks cs l notes h) (files_same s lib b j acc)
 
   entry_same : raw_entry I lib h Accepted J ≡ Raw (record { 0 = lib }) Accepted (accepted_files cs l notes) (record { handed = h; blocks = accepted_blocks cs l notes h (accepted_files cs l notes) })

@@ -1,18 +1,13 @@
 -- The files of an accepted release: those that stay as they were, and those of the bundle's pages.
-use Rattle.trio_laws.proofs.Words.{◌&&◌, ◌<◌, ◌∙◌, ◌≡◌, Body, Bool, Bundle, Chain, Core, Creds, Directory, FileRead, GivenTo, Hold, Image, In, In-is_among, In-right, IsFit, Kept, Kind, List, Met, None, Ok, OpenGrant, Option, Pick, Regular, Row, Some, State, Verifies, Write, Written, accepted_verifies, all_listed, and_parts, ap, arith, body_of, both_ways, bundle_pages, bundle_sheets, bytes_eq, bytes_eq-Decides, eqb, false, false≢true, file_of, file_put, fit_put, has_kind, has_owner, inl, inr, is_accepted, is_allowed, is_among, is_among-In, is_core, is_sound, is_written, keeps_rows, leb, length, list_all, list_all-In, listed_is_core, lists_own, ltb, may_stand, met_row, next, one_met, page_from, page_of, page_put_is, pages_are, pages_of, picked_entry, place_there, plain, plain_pages, proposed, proposed_pick, reads_from, refl, row_at, row_at_is, row_by, row_of, same_kind_is, settled, settled_body, slice_get, some_of, subst, survey, survey_put, sym, true, with_pages_there, ℕ}
+use Rattle.trio_laws.proofs.Words.{Body, Bool, Bundle, Chain, Core, Creds, FileRead, GivenTo, Hold, Image, In, In-is_among, In-right, IsFit, Kept, Kind, List, Met, None, Ok, OpenGrant, Option, Pick, Row, Some, State, Verifies, Write, Written, accepted_verifies, all_listed, and_parts, ap, arith, body_of, both_ways, bundle_pages, bundle_sheets, bytes_eq, bytes_eq-Decides, eqb, false, false≢true, file_of, file_put, fit_put, has_kind, has_owner, inl, inr, is_accepted, is_allowed, is_among, is_among-In, is_core, is_directory, is_sound, is_written, keeps_rows, leb, length, list_all, list_all-In, listed_is_core, lists_own, ltb, may_stand, met_row, next, one_met, page_from, page_of, page_put_is, pages_are, pages_of, picked_entry, place_there, plain, plain_pages, proposed, proposed_pick, reads_from, refl, row_at, row_at_is, row_by, row_of, same_kind_is, settled, settled_body, slice_get, some_of, subst, survey, survey_put, sym, true, with_pages_there, ℕ, ◌&&◌, ◌<◌, ◌∙◌, ◌≡◌}
 use Rattle.std.proofs.Common.{ltb-true, map, is_some, find}
 use Rattle.trio_laws.proofs.Bundles.{finds_unwritten, Unwritten, kept_chain, page_kept, unwritten_apart}
-use Rattle.trio_laws.proofs.Isolated.{bare_page, put_none}
+use Rattle.trio_laws.proofs.Isolated.{bare_page, plain_block, put_none}
 use Rattle.trio_laws.proofs.Allots.{none_row}
 use Rattle.trio_laws.proofs.Survivors.{fit_now, sound_now, classify, stand_cases, stays, unheld_row}
 use Rattle.trio_laws.proofs.StateFacts.{write_alone}
 use Rattle.trio_laws.proofs.history.Follows.{Follows}
 use Rattle.trio_laws.proofs.history.Listing.{met_at, body_met}
-
--- a block of a regular file is on a page without slots
-pub plain_block : (kind : Kind) (f : FileRead) (p : ℕ) → kind ≡ Regular → In p f.chain.blocks → In p (plain_pages kind f)
-plain_block Regular f p e i = In-right p f.chain.index f.chain.blocks i
-plain_block Directory f p e i = absurd cc
 
 module _ (s : State) (k : Kept s) (lib : ℕ) (creds : Creds) (b : Bundle) (given : GivenTo s lib b) (accepted : is_accepted (settled s) creds b ≡ true) where
   abbrev pub I : Image
@@ -96,11 +91,12 @@ module _ (s : State) (k : Kept s) (lib : ℕ) (creds : Creds) (b : Bundle) (give
         read = m0.read;
         read' = w.read';
         size = ap (λ (x : Body). x.size) same;
+        guard = ap (λ (x : Body). x.guard) same;
         chain = chain;
-        pages = λ regular p a.
+        pages = λ plain' p a.
             let listed : In p w.file.chain.blocks = subst (λ (x : Chain). In p x.blocks) (sym chain) a in
-            let reg : w.met.kind ≡ Regular = kind ∙ sym (ap (λ (x : Row). x.kind) m0.row) ∙ regular in
-            plain_page w.met w.file p w.stands w.read (plain_block w.met.kind w.file p reg listed)
+            let bare : is_directory w.met.kind ≡ false = ap is_directory kind ∙ sym (ap (λ (x : Row). is_directory x.kind) m0.row) ∙ plain' in
+            plain_page w.met w.file p w.stands w.read (plain_block w.met.kind w.file p bare listed)
             ∙ page_kept s k lib b given p (λ j. unwritten_apart s k lib b given m0.met p m0.stands un (subst (λ l. In p l) (sym (pages_are I.core m0.met m0.file m0.read)) (In-right p m0.file.chain.index m0.file.chain.blocks a)) j);
       }
 
@@ -118,15 +114,15 @@ module _ (s : State) (k : Kept s) (lib : ℕ) (creds : Creds) (b : Bundle) (give
       by (Some bytes) at = (bytes, page_from P p bytes c at)
       by None at = absurd (with_pages_there (bundle_sheets b) I.core.pages p i at)
 
-  -- each block of such a regular file is a whole page
-  pub own_block : (n : ℕ) (r : Row) (row : row_at J n ≡ Some r) → lists_own b P (now n r row).met ≡ true → r.kind ≡ Regular → (p : ℕ) → In p (now n r row).file.chain.blocks → (bytes : List ℕ) × (page_of P p ≡ Some bytes) × (page_of J.core p ≡ Some bytes) × (length bytes ≡ 4096) × (is_core P.range p ≡ true)
-  own_block n r row own regular p i =
+  -- each block of such a file, if it is no directory, is a whole page
+  pub own_block : (n : ℕ) (r : Row) (row : row_at J n ≡ Some r) → lists_own b P (now n r row).met ≡ true → is_directory r.kind ≡ false → (p : ℕ) → In p (now n r row).file.chain.blocks → (bytes : List ℕ) × (page_of P p ≡ Some bytes) × (page_of J.core p ≡ Some bytes) × (length bytes ≡ 4096) × (is_core P.range p ≡ true)
+  own_block n r row own plain' p i =
       let w = now n r row in
       let listed : In p (pages_of P w.met) = subst (λ l. In p l) (sym (pages_are P w.met w.file w.read)) (In-right p w.file.chain.index w.file.chain.blocks i) in
       let handed : In p (bundle_pages b) = is_among-In p (bundle_pages b) (list_all-In (λ page. is_among page (bundle_pages b)) p (pages_of P w.met) own listed) in
       let c = listed_is_core P w.met w.file p w.read listed in
       let t = bundle_there p c handed in
-      let kind : w.met.kind ≡ Regular = sym (ap (λ (x : Row). x.kind) w.row) ∙ regular in
+      let kind : is_directory w.met.kind ≡ false = sym (ap (λ (x : Row). is_directory x.kind) w.row) ∙ plain' in
       (t.0, t.1, plain_page w.met w.file p w.stands w.read (plain_block w.met.kind w.file p kind i) ∙ t.1, fitP.full p t.0 t.1, c)
 
   -- ---- which files there are

@@ -1,6 +1,6 @@
 -- The names and sizes of files after an accepted release, by the bundle's pages, its leases and what was before.
-use Rattle.trio_laws.proofs.Words.{◌*◌, ◌+◌, ◌-◌, ◌∙◌, ◌∷◌, ◌≡◌, Bundle, Case, Core, EntryPart, FileRead, Image, In, In-is_among, In-map, In-right, IsFit, IsJudgeable, List, Listed, Listing, Met, None, Notes, Ok, Pick, Row, Some, State, Verifies, Written, [], ap, arith, body_in_slot, both_ways, bundle_core, bundle_pages, case_of, cases_Bool, child_from, child_placed, cond, creds_of, drop, drop-drop, drop-take, entry_at, entry_listed, entry_name, entry_size, eq-eqb, false, file_of, file_put, inl, inr, is_accepted, is_among, is_among-In, is_listed, is_written, judged_entries, listing, map, met_cases, name_in, name_of, next, no_root_listed, noted_size, notes_of, one_met, option_map, option_map_or, page_of, page_there, picked_entry, plain, proposed, proposed_pick, read_met, refl, row_at, row_at_is, row_by, row_met, settled, size_in, size_of, slot_bytes, subst, survey, survey_put, sym, take, there_same, true, unwrap_or, written_met, ℕ}
-use Rattle.trio_state.specs.Listed.{entry_slot, written_size}
+use Rattle.trio_laws.proofs.Words.{Bundle, Case, Core, EntryPart, FileRead, Image, In, In-is_among, In-map, In-right, IsFit, IsJudgeable, List, Listed, Listing, Met, None, Notes, Ok, Option, Pick, Row, Some, State, Verifies, Written, [], ap, arith, body_in_slot, both_ways, bundle_core, bundle_pages, case_of, cases_Bool, child_from, child_placed, cond, creds_of, drop, drop-drop, drop-take, entry_at, entry_guard, entry_listed, entry_name, entry_size, eq-eqb, false, file_of, file_put, guard_in, guard_of, inl, inr, is_accepted, is_among, is_among-In, is_listed, is_written, judged_entries, listing, map, met_cases, name_in, name_of, next, no_root_listed, noted_guard, noted_size, notes_of, one_met, option_map, option_map_or, page_of, page_there, picked_entry, plain, proposed, proposed_pick, read_met, refl, row_at, row_at_is, row_by, row_met, settled, settled_body, size_in, size_of, slot_bytes, subst, survey, survey_put, sym, take, there_same, true, unwrap_or, written_met, ℕ, ◌*◌, ◌+◌, ◌-◌, ◌∙◌, ◌∷◌, ◌≡◌, eqb, find}
+use Rattle.trio_state.specs.Listed.{entry_slot}
 use Rattle.trio_laws.proofs.Bundles.{finds_unwritten, unwritten_finds}
 use Rattle.trio_laws.proofs.judgement.CaseFacts.{is_written_from, live_bounds, written_find}
 use Rattle.trio_laws.proofs.judgement.JudgedFacts.{entries_are, entry_to, judged_from, new_from, new_judged, written_body, written_ino, written_judged}
@@ -9,10 +9,10 @@ use Rattle.trio_laws.proofs.judgement.Meeting.{entry_met, itself, once_met}
 use Rattle.trio_laws.proofs.judgement.MeetingEdges.{met_side}
 use Rattle.trio_laws.proofs.judgement.Sides.{inside_child, outside_met, outside_read}
 use Rattle.trio_laws.proofs.judgement.Taking.{fit, judged_met, reads, sound}
-use Rattle.trio_laws.proofs.history.AcceptedFiles.{Now, fitJ, kept_follows, now, verifiesJ}
-use Rattle.trio_laws.proofs.history.Follows.{name_at_entry, size_follows}
+use Rattle.trio_laws.proofs.history.AcceptedFiles.{Now, fitJ, now, verifiesJ}
+use Rattle.trio_laws.proofs.history.Follows.{name_at_entry}
 use Rattle.trio_laws.proofs.history.Listing.{body_met, met_at, slot_entry}
-use Rattle.trio_laws.proofs.history.ToldNoted.{noted_size_is}
+use Rattle.trio_laws.proofs.history.ToldNoted.{noted_size_is, noted_guard_is}
 
 -- the body in a slot is what stands behind the entry
 pub body_behind : (slot : ℕ) (bytes : List ℕ) → drop 192 (slot_bytes slot bytes) ≡ body_in_slot slot bytes
@@ -64,24 +64,30 @@ module _ (s : State) (lib : ℕ) (b : Bundle) (j : IsJudgeable s lib b) (acc : i
       let f = read_met P pick (fit s lib b j acc) (sound s lib b j acc) m i in
       (f.0, f.1, row_at_is P pick (fit s lib b j acc) (sound s lib b j acc) J (record { rows = refl; owners = refl }) m.ino ∙ row_met P pick (fit s lib b j acc) (sound s lib b j acc) m f.0 i f.1)
 
-  -- ---- sizes
+  -- ---- sizes and guards
 
-  -- a file has the size that the body says with which it is met
-  pub size_met : (n : ℕ) (r : Row) (row : row_at (next (settled s) b) n ≡ Some r) (m : Met) → In m (survey (proposed (settled s) b) (proposed_pick (settled s) b)) → m.ino ≡ n → size_of (next (settled s) b) n ≡ size_in m.body
-  size_met n r row m i is =
+  -- a file has the body with which it is met
+  body_now : (n : ℕ) (r : Row) (row : row_at (next (settled s) b) n ≡ Some r) (m : Met) → In m (survey (proposed (settled s) b) (proposed_pick (settled s) b)) → m.ino ≡ n → settled_body (next (settled s) b) n ≡ m.body
+  body_now n r row m i is =
       let q = met_at J fit_after verifies_after n r row in
       let there : In m (survey J.core plain) = subst (λ ms. In m ms) (sym (survey_put P pick (fit s lib b j acc) (sound s lib b j acc))) i in
       let same : q.met ≡ m = one_met J.core plain fit_after verifies_after.sound q.met m q.stands there (q.number ∙ sym is) in
-      ap size_in (body_met J fit_after verifies_after n r row ∙ ap (λ (x : Met). x.body) same)
+      body_met J fit_after verifies_after n r row ∙ ap (λ (x : Met). x.body) same
+
+  body_written : (w : Written) → In w b.writes → (r : Row) → row_at (next (settled s) b) w.ino ≡ Some r → settled_body (next (settled s) b) w.ino ≡ w.body
+  body_written w i r row =
+      body_now w.ino r row (written_met cs w) (judged_met s lib b j acc (written_met cs w) (written_judged s lib b j w i)) (written_ino cs w)
+      ∙ written_body cs w
 
   pub size_written : (w : Written) → In w b.writes → (r : Row) → row_at (next (settled s) b) w.ino ≡ Some r → size_of (next (settled s) b) w.ino ≡ size_in w.body
-  size_written w i r row =
-      size_met w.ino r row (written_met cs w) (judged_met s lib b j acc (written_met cs w) (written_judged s lib b j w i)) (written_ino cs w)
-      ∙ ap size_in (written_body cs w)
+  size_written w i r row = ap size_in (body_written w i r row)
 
-  -- one that is neither written nor new has the size that it had
-  pub size_kept : (n : ℕ) (r : Row) → row_at (next (settled s) b) n ≡ Some r → is_written b n ≡ false → is_among n b.numbers ≡ false → size_of (next (settled s) b) n ≡ noted_size (notes_of (settled s)) n
-  size_kept n r row un old =
+  pub guard_written : (w : Written) → In w b.writes → (r : Row) → row_at (next (settled s) b) w.ino ≡ Some r → guard_of (next (settled s) b) w.ino ≡ guard_in w.body
+  guard_written w i r row = ap guard_in (body_written w i r row)
+
+  -- one that is neither written nor new has the body that it had
+  body_kept : (n : ℕ) (r : Row) → row_at (next (settled s) b) n ≡ Some r → is_written b n ≡ false → is_among n b.numbers ≡ false → (q : Row) × (row_at (settled s) n ≡ Some q) × (settled_body (next (settled s) b) n ≡ settled_body (settled s) n)
+  body_kept n r row un old =
       let w = at_now n r row in
       elim (met_side s lib b j acc w.met w.stands) [
         | inl k ↦
@@ -95,11 +101,20 @@ module _ (s : State) (lib : ℕ) (b : Bundle) (j : IsJudgeable s lib b) (acc : i
             ]
         | inr o ↦
             let was : row_at I n ≡ Some o.row = ap (row_at I) (sym w.number) ∙ o.is_row in
-            let low = (live_bounds s lib b j n o.row was).1 in
-            let f = kept_follows s j.kept lib (creds_of s lib) b j.given acc n o.row r was row (o.row, o.is_row, o.kind, o.body, o.unwritten) in
-            size_follows I J j.kept.fit fit_after j.kept.verifies verifies_after n o.row r was row f
-            ∙ sym (noted_size_is I n o.row low was)
+            (o.row, was, body_now n r row w.met w.stands w.number ∙ o.body ∙ ap (settled_body I) w.number)
       ]
+
+  size_kept : (n : ℕ) (r : Row) → row_at (next (settled s) b) n ≡ Some r → is_written b n ≡ false → is_among n b.numbers ≡ false → size_of (next (settled s) b) n ≡ noted_size (notes_of (settled s)) n
+  size_kept n r row un old =
+      let q = body_kept n r row un old in
+      let low = (live_bounds s lib b j n q.0 q.1).1 in
+      ap size_in q.2 ∙ sym (noted_size_is I n q.0 low q.1)
+
+  guard_kept : (n : ℕ) (r : Row) → row_at (next (settled s) b) n ≡ Some r → is_written b n ≡ false → is_among n b.numbers ≡ false → guard_of (next (settled s) b) n ≡ noted_guard (notes_of (settled s)) n
+  guard_kept n r row un old =
+      let q = body_kept n r row un old in
+      let low = (live_bounds s lib b j n q.0 q.1).1 in
+      ap guard_in q.2 ∙ sym (noted_guard_is I n q.0 low q.1)
 
   -- ---- the entries of judged directories
 
@@ -109,7 +124,7 @@ module _ (s : State) (lib : ℕ) (b : Bundle) (j : IsJudgeable s lib b) (acc : i
     pub is_row : row_at (next (settled s) b) e.ino ≡ Some row
     pub below : e.ino ≡ 1 → ⊥
     pub name : name_of (next (settled s) b) e.ino row ≡ entry_name (case_of (settled s) (creds_of s lib) b) (entry_listed (case_of (settled s) (creds_of s lib) b) e)
-    pub body : size_in (drop 192 (entry_slot (case_of (settled s) (creds_of s lib) b) (entry_listed (case_of (settled s) (creds_of s lib) b) e))) ≡ size_in e.body
+    pub body : drop 192 (entry_slot (case_of (settled s) (creds_of s lib) b) (entry_listed (case_of (settled s) (creds_of s lib) b) e)) ≡ e.body
 
   pub entry_now : (e : Met) → In e (judged_entries (case_of (settled s) (creds_of s lib) b)) → EntryNow e
   entry_now e i =
@@ -143,37 +158,49 @@ module _ (s : State) (lib : ℕ) (b : Bundle) (j : IsJudgeable s lib b) (acc : i
             (file_put P pick (fit s lib b j acc) (sound s lib b j acc) x q.file met q.read)
             (In-map (picked_entry pick x.ino) le q.file.entries q.listed) other (y.page ∙ at_page) (y.slot ∙ at_slot)
             ∙ sym said;
-        body = ap size_in body;
+        body = body;
       }
 
-  pub size_listed : (e : Met) (i : In e (judged_entries (case_of (settled s) (creds_of s lib) b))) → size_of (next (settled s) b) e.ino ≡ entry_size (case_of (settled s) (creds_of s lib) b) (notes_of (settled s)) (entry_listed (case_of (settled s) (creds_of s lib) b) e)
-  size_listed e i =
+  -- what the body of an entry's file says: as its lease says, where it is new as the slot says, else as it was
+  said_listed : {X : Type 0} (said : List ℕ → X) (was : X) (e : Met) (i : In e (judged_entries (case_of (settled s) (creds_of s lib) b)))
+      → (is_written b e.ino ≡ false → is_among e.ino b.numbers ≡ false → said (settled_body (next (settled s) b) e.ino) ≡ was)
+      → said (settled_body (next (settled s) b) e.ino)
+      ≡ unwrap_or (option_map (λ (v : Written). said v.body) (find (λ (v : Written). eqb v.ino e.ino) b.writes))
+      (cond (is_among e.ino b.numbers) (said (drop 192 (entry_slot (case_of (settled s) (creds_of s lib) b) (entry_listed (case_of (settled s) (creds_of s lib) b) e)))) was)
+  said_listed {X} said was e i kept =
       let n : ℕ = e.ino in
       let t = entry_now e i in
       let r : Row = t.row in
-      let slot_size : ℕ = size_in (drop 192 (entry_slot cs (entry_listed cs e))) in
-      let rest : ℕ = cond (is_among n b.numbers) slot_size (noted_size notes n) in
+      let slot_says : X = said (drop 192 (entry_slot cs (entry_listed cs e))) in
+      let rest : X = cond (is_among n b.numbers) slot_says was in
       elim (cases_Bool (is_written b n)) [
         | inl wr ↦
             let w = written_find s lib b j n wr in
-            ap (size_of J) (sym w.2) ∙ size_written w.0 w.1 r (ap (row_at J) w.2 ∙ t.is_row)
-            ∙ sym (ap (λ o. unwrap_or (option_map (λ (v : Written). size_in v.body) o) rest) w.3)
+            ap (λ m. said (settled_body J m)) (sym w.2) ∙ ap said (body_written w.0 w.1 r (ap (row_at J) w.2 ∙ t.is_row))
+            ∙ sym (ap (λ o. unwrap_or (option_map (λ (v : Written). said v.body) o) rest) w.3)
         | inr un ↦
-            let none : written_size b n ≡ None = ap (option_map (λ (v : Written). size_in v.body)) (unwritten_finds b n (finds_unwritten b n un)) in
+            let says : Option Written → Option X = option_map (λ (v : Written). said v.body) in
+            let none : says (find (λ (v : Written). eqb v.ino n) b.writes) ≡ None = ap says (unwritten_finds b n (finds_unwritten b n un)) in
             elim (cases_Bool (is_among n b.numbers)) [
               | inl new ↦
                   let y = entry_met s lib b j acc e i in
                   let k = new_judged s lib b j (reads s lib b j acc) (once_met s lib b j acc) y.file e y.judged_one y.among (is_among-In n b.numbers new) in
-                  size_met n r t.is_row e (judged_met s lib b j acc e k) refl
-                  ∙ sym t.body
-                  ∙ sym (ap (λ q. cond q slot_size (noted_size notes n)) new)
+                  ap said (body_now n r t.is_row e (judged_met s lib b j acc e k) refl)
+                  ∙ ap said (sym t.body)
+                  ∙ sym (ap (λ q. cond q slot_says was) new)
                   ∙ sym (ap (λ o. unwrap_or o rest) none)
               | inr old ↦
-                  size_kept n r t.is_row un old
-                  ∙ sym (ap (λ q. cond q slot_size (noted_size notes n)) old)
+                  kept un old
+                  ∙ sym (ap (λ q. cond q slot_says was) old)
                   ∙ sym (ap (λ o. unwrap_or o rest) none)
             ]
       ]
+
+  pub size_listed : (e : Met) (i : In e (judged_entries (case_of (settled s) (creds_of s lib) b))) → size_of (next (settled s) b) e.ino ≡ entry_size (case_of (settled s) (creds_of s lib) b) (notes_of (settled s)) (entry_listed (case_of (settled s) (creds_of s lib) b) e)
+  size_listed e i = said_listed size_in (noted_size notes e.ino) e i (λ un old. size_kept e.ino (entry_now e i).row (entry_now e i).is_row un old)
+
+  pub guard_listed : (e : Met) (i : In e (judged_entries (case_of (settled s) (creds_of s lib) b))) → guard_of (next (settled s) b) e.ino ≡ entry_guard (case_of (settled s) (creds_of s lib) b) (notes_of (settled s)) (entry_listed (case_of (settled s) (creds_of s lib) b) e)
+  guard_listed e i = said_listed guard_in (noted_guard notes e.ino) e i (λ un old. guard_kept e.ino (entry_now e i).row (entry_now e i).is_row un old)
 
   -- ---- a file that no judged directory lists
 

@@ -1,5 +1,5 @@
 -- An accepted release extends the history.
-use Rattle.trio_laws.proofs.Words.{◌&&◌, ◌*◌, ◌++◌, ◌+◌, ◌<◌, ◌∙◌, ◌∷◌, ◌≡◌, ◌≤◌, ◌⊎◌, Accepted, AllByRecursion, BlocksAreKnown, Bool, Bundle, Core, Directory, Ends, FileRead, GivenTo, GrantKind, Handed, HandedFile, HasNameOf, HasPlaceOf, HasRightsOf, Hold, Image, In, In-flat, In-list_any, In-map, IsFit, IsMarked, IsWithinGrants, Kept, Kind, LentWhole, List, Listed, Met, Node, Nodes, None, Ok, Ok-one, OpenGrant, Option, RawFile, Regular, Release, Row, SameContent, Some, Standing, State, ToldBlock, Verifies, Write, Written, [], all_listed, and_from, and_parts, ap, arith, block_numbers, both_ways, bundle_handed, bytes_in, bytes_of, cases_eq, child_has, children, cond, creds_of, entry_in, eq-eqb, eqb, eqb-true, false, false_from_ne_true, file_of, find-In, has_owner, has_parent_grant, inl, inr, is_accepted, is_among, is_among-In, is_block_told, is_given, is_handed, is_others, is_write, is_written, length, list_any-In, list_any-map, listed_no_root, map-In, met_in, met_numbered, min, name_of, ne_eqb, next, node_at, node_by, node_of, nodes_of, not, not-true, one_met, or_left, or_right, page_of, pages_are, picked_entry, plain, raw_blocks, raw_entry, raw_files, raw_nodes, read_met, reads_from, reads_to, refl, root_is_met, root_of, row_at, row_at_is, row_by, row_met, row_of, same_Some, same_kind, settled, settled_body, size_of, slice_get, some_of, standing_of, stands, subst, suc, survey, sym, told_blocks, told_blocks_of, told_by, told_file, true, unwrap_or, writer_of, zero, ℕ}
+use Rattle.trio_laws.proofs.Words.{Accepted, AllByRecursion, BlocksAreKnown, Bool, Bundle, Core, Ends, FileRead, GivenTo, GrantKind, Handed, HandedFile, HasNameOf, HasPlaceOf, HasRightsOf, Hold, Image, In, In-flat, In-list_any, In-map, IsFit, IsMarked, IsWithinGrants, Kept, Kind, LentWhole, List, Listed, Met, Node, Nodes, None, Ok, Ok-one, OpenGrant, Option, RawFile, Release, Row, SameContent, Some, Standing, State, ToldBlock, Verifies, Write, Written, [], all_listed, and_from, and_parts, ap, arith, block_numbers, both_ways, bundle_handed, bytes_in, bytes_of, cases_eq, child_has, children, cond, creds_of, data_of, entry_in, eq-eqb, eqb, eqb-true, false, false_from_ne_true, file_of, find-In, has_owner, has_parent_grant, inl, inr, is_accepted, is_among, is_among-In, is_block_told, is_directory, is_given, is_guarded, is_handed, is_others, is_write, is_written, length, list_any-In, list_any-map, listed_no_root, map-In, met_in, met_numbered, min, name_of, ne_eqb, next, node_at, node_by, node_of, nodes_of, not, not-true, one_met, or_left, or_right, page_of, pages_are, picked_entry, plain, raw_blocks, raw_entry, raw_files, raw_nodes, read_met, reads_from, reads_to, refl, root_is_met, root_of, row_at, row_at_is, row_by, row_met, row_of, same_Some, same_kind, settled, settled_body, size_of, slice_get, some_of, standing_of, stands, subst, suc, survey, sym, told_blocks, told_blocks_of, told_by, told_file, true, unwrap_or, writer_of, zero, ℕ, ◌&&◌, ◌*◌, ◌++◌, ◌+◌, ◌<◌, ◌∙◌, ◌∷◌, ◌≡◌, ◌≤◌, ◌⊎◌}
 use Rattle.std.proofs.Common.{map, filter, find}
 use Rattle.trio_nodes.specs.declared.answers.ReleaseAnswer.TheVariants.{Accepted as IsAccepted}
 use Rattle.trio_laws.proofs.Bundles.{Unwritten, page_kept, unwritten_apart}
@@ -15,7 +15,7 @@ use Rattle.trio_laws.proofs.history.OldBytes.{old_long}
 use Rattle.trio_laws.proofs.history.AcceptedNodes.{size_now, numbers_now, accepted_nodes, node_settled, kept_bytes, dead_unwritten}
 use Rattle.trio_laws.proofs.history.Extends.{Makes, past_is}
 use Rattle.trio_laws.proofs.history.Facts.{Live, any_same, live, node_is}
-use Rattle.trio_laws.proofs.history.Follows.{Follows, name_at_entry}
+use Rattle.trio_laws.proofs.history.Follows.{Follows, name_at_entry, guard_follows}
 use Rattle.trio_laws.proofs.history.Listing.{listing, met_at, body_met, tables_of}
 use Rattle.trio_laws.proofs.history.RawGiven.{is_in, given_grant, given_is, grants_end, handed_is, files_from}
 use Rattle.trio_laws.proofs.history.ModeNodes.{name_root}
@@ -209,13 +209,26 @@ module _ (s s' : State) (k : Kept s) (k' : Kept s') (whole : LentWhole s) (lib :
       ]
       ∙ sym (ap (entry_in dir) (was n))
 
-  stays_kind : (n : ℕ) (r r' : Row) (st : Stays n r r') (kind : Kind) → r.kind ≡ kind → bytes_of after n r' (writer_of s' n) kind ≡ bytes_of image n r (writer_of s n) kind
-  stays_kind n r r' st Directory t = refl
-  stays_kind n r r' st Regular t = kept_bytes s s' k k' whole lib h given accepted e marked n r r' st.row st.row' st.follows st.unwritten t
+  stays_kind : (n : ℕ) (r r' : Row) (st : Stays n r r') → bytes_of after n r' (writer_of s' n) r'.kind ≡ bytes_of image n r (writer_of s n) r.kind
+  stays_kind n r r' st = ap (bytes_of after n r' (writer_of s' n)) st.kind ∙ by (is_directory r.kind) refl
+    where
+      by : (d : Bool) → is_directory r.kind ≡ d → cond d [] (data_of after n r' (writer_of s' n)) ≡ cond d [] (data_of image n r (writer_of s n))
+      by true d = refl
+      by false d = kept_bytes s s' k k' whole lib h given accepted e marked n r r' st.row st.row' st.follows st.unwritten d
+
+  was_row : (n : ℕ) (r r' : Row) → Stays n r r' → node_at (nodes_of s) n ≡ Some (node_of image n (writer_of s n) r)
+  was_row n r r' st = was n ∙ ap (node_by image n (writer_of s n)) st.row
+
+  is_row : (n : ℕ) (r r' : Row) → Stays n r r' → node_at (nodes_of s') n ≡ Some (node_of after n (writer_of s' n) r')
+  is_row n r r' st = is n ∙ ap (node_by after n (writer_of s' n)) st.row'
 
   content_stays : (n : ℕ) (r r' : Row) → Stays n r r' → SameContent (nodes_of s) (nodes_of s') n
   content_stays n r r' st = record {
-    bytes = search (arith, is, stays_kind, was);
+    guard =
+        ap is_guarded (is_row n r r' st)
+        ∙ guard_follows image after k.fit fit' k.verifies verifies' n r r' st.row st.row' st.follows
+        ∙ sym (ap is_guarded (was_row n r r' st));
+    bytes = ap bytes_in (is_row n r r' st) ∙ stays_kind n r r' st ∙ sym (ap bytes_in (was_row n r r' st));
     entries = entries_stay n r r' st;
   }
 
@@ -255,7 +268,7 @@ module _ (s s' : State) (k : Kept s) (k' : Kept s') (whole : LentWhole s) (lib :
   held_above : (n : ℕ) (r : Row) → row_at s.home n ≡ Some r → is_among n b.holds ≡ true → stands gs lib r.parent Write ≡ true
   held_above n r row held =
       let l = given.holds n (is_among-In n b.holds held) in
-      let p = (k.held l.grant l.is_open l.kind).0 in
+      let p = (k.held l.grant l.is_open l.kind) in
       let a : has_parent_grant s lib (Some r) ≡ true = ap (has_parent_grant s lib) (sym row) ∙ ap (λ j. has_parent_grant s lib (row_at s.home j)) (sym l.ino) ∙ ap (λ j. has_parent_grant s j (row_at s.home l.grant.ino)) (sym l.lib) ∙ p in
       list_any-map standing_of (λ (g : Standing). eqb g.lib lib && eqb g.ino r.parent && same_kind g.kind Write) s.open_grants
       ∙ any_same (λ (g : OpenGrant). eqb g.lib lib && eqb g.ino r.parent && same_kind g.kind Write) (λ (g : OpenGrant). eqb g.lib lib && eqb g.ino r.parent && is_write g.kind) s.open_grants
@@ -385,7 +398,7 @@ module _ (s s' : State) (k : Kept s) (k' : Kept s') (whole : LentWhole s) (lib :
   these = raw_files image after b
 
   abbrev blocks : List ToldBlock
-  blocks = raw_blocks image after h these
+  blocks = raw_blocks IsAccepted image after h these
 
   told_step : (t : Bool) (x y : ToldBlock) (rest : List ToldBlock) → In y rest → In y (cond t (x ∷ rest) rest)
   told_step true x y rest i = inr i
@@ -405,8 +418,11 @@ module _ (s s' : State) (k : Kept s) (k' : Kept s') (whole : LentWhole s) (lib :
       let r = told_has n (at + 1) ps i page get (ap (λ m. is_block_told image after h n m page) (sym e) ∙ t) in
       (r.0, told_step (is_block_told image after h n at p) (record { ino = n; at = at; bytes = unwrap_or (page_of after.core p) [] }) r.0 (told_blocks image after h n (at + 1) ps) r.1, r.2, r.3 ∙ sym e)
 
-  old_size : (n : ℕ) (q : Row) → row_at s.home n ≡ Some q → q.kind ≡ Regular → length (bytes_in (node_at (nodes_of s) n)) ≡ size_of image n
-  old_size n q row regular = search (arith, was, old_long)
+  old_size : (n : ℕ) (q : Row) → row_at s.home n ≡ Some q → is_directory q.kind ≡ false → length (bytes_in (node_at (nodes_of s) n)) ≡ size_of image n
+  old_size n q row plain' =
+      ap (λ o. length (bytes_in o)) (was n ∙ ap (node_by image n (writer_of s n)) row)
+      ∙ ap (λ d. length (cond d [] (data_of image n q (writer_of s n)))) plain'
+      ∙ old_long s k whole n q row
 
   -- a position within the size has its block
   has_block : (n : ℕ) (r : Row) (row : row_at after n ≡ Some r) (at : ℕ) → 4096 * at < size_of after n → (page : ℕ) × (slice_get (block_numbers after n (row_at after n)) at ≡ Some page)
@@ -423,12 +439,15 @@ module _ (s s' : State) (k : Kept s) (k' : Kept s') (whole : LentWhole s) (lib :
       get_there (x ∷ xs) zero l = (x, refl)
       get_there (x ∷ xs) (suc i) l = get_there xs i (omega arith)
 
-  listed_in : (n : ℕ) (f : RawFile) → In f these → f.ino ≡ n → f.kind ≡ Regular → f.gone ≡ false → (at page : ℕ) → slice_get (block_numbers after n (row_at after n)) at ≡ Some page → is_block_told image after h n at page ≡ true → is_listed blocks f.ino at ≡ true
-  listed_in n f i number regular there at page get t =
+  listed_in : (n : ℕ) (f : RawFile) → In f these → f.ino ≡ n → is_directory f.kind ≡ false → f.gone ≡ false → (at page : ℕ) → slice_get (block_numbers after n (row_at after n)) at ≡ Some page → is_block_told image after h n at page ≡ true → is_listed blocks f.ino at ≡ true
+  listed_in n f i number plain' there at page get t =
       let zero_i : 0 + at ≡ at = omega arith in
       let x = told_has n 0 (block_numbers after n (row_at after n)) at page get (ap (λ m. is_block_told image after h n m page) zero_i ∙ t) in
-      let own : told_blocks_of image after h f f.kind ≡ told_blocks image after h n 0 (block_numbers after n (row_at after n)) = search (arith, there) in
-      let mine : In x.0 blocks = In-flat (λ f. told_blocks_of image after h f f.kind) f x.0 these i (subst (λ l. In x.0 l) (sym own) x.1) in
+      let own : told_blocks_of image after h f (not (is_directory f.kind)) ≡ told_blocks image after h n 0 (block_numbers after n (row_at after n)) =
+      ap (λ d. told_blocks_of image after h f (not d)) plain'
+      ∙ ap (λ g. cond g [] (told_blocks image after h f.ino 0 (block_numbers after f.ino (row_at after f.ino)))) there
+      ∙ ap (λ m. told_blocks image after h m 0 (block_numbers after m (row_at after m))) number in
+      let mine : In x.0 blocks = In-flat (λ f. told_blocks_of image after h f (not (is_directory f.kind))) f x.0 these i (subst (λ l. In x.0 l) (sym own) x.1) in
       In-list_any (λ (y : ToldBlock). eqb y.ino f.ino && eqb y.at at) x.0 blocks mine
       (and_from (eqb x.0.ino f.ino) (eqb x.0.at at) (eq-eqb x.0.ino f.ino (x.2 ∙ sym number)) (eq-eqb x.0.at at (x.3 ∙ zero_i)))
 
@@ -437,16 +456,16 @@ module _ (s s' : State) (k : Kept s) (k' : Kept s') (whole : LentWhole s) (lib :
 
   -- a file that is there after the release
   known_there : (n : ℕ) (r : Row) (f : RawFile) → row_at after n ≡ Some r → told_file after b n false r ≡ f → In f these → Known f
-  known_there n r f row same i at regular inside =
+  known_there n r f row same i at plain' inside =
       let number : f.ino ≡ n = sym (ap (λ (x : RawFile). x.ino) same) in
       let size : f.size ≡ size_of after n = sym (ap (λ (x : RawFile). x.size) same) in
       let there : f.gone ≡ false = sym (ap (λ (x : RawFile). x.gone) same) in
-      let kind : r.kind ≡ Regular = ap (λ (x : RawFile). x.kind) same ∙ regular in
+      let kind : is_directory r.kind ≡ false = ap (λ (x : RawFile). is_directory x.kind) same ∙ plain' in
       let p = has_block n r row at (omega (arith, inside, size)) in
       by number size there kind p.0 p.1 (is_block_told image after h n at p.0) refl
     where
-      by : f.ino ≡ n → f.size ≡ size_of after n → f.gone ≡ false → r.kind ≡ Regular → (page : ℕ) → slice_get (block_numbers after n (row_at after n)) at ≡ Some page → (t : Bool) → is_block_told image after h n at page ≡ t → (is_listed blocks f.ino at ≡ true) ⊎ (min f.size (4096 * at + 4096) ≤ length (bytes_in (node_at (nodes_of s) f.ino)))
-      by number size there kind page get true t = inl (listed_in n f i number regular there at page get t)
+      by : f.ino ≡ n → f.size ≡ size_of after n → f.gone ≡ false → is_directory r.kind ≡ false → (page : ℕ) → slice_get (block_numbers after n (row_at after n)) at ≡ Some page → (t : Bool) → is_block_told image after h n at page ≡ t → (is_listed blocks f.ino at ≡ true) ⊎ (min f.size (4096 * at + 4096) ≤ length (bytes_in (node_at (nodes_of s) f.ino)))
+      by number size there kind page get true t = inl (listed_in n f i number plain' there at page get t)
       by number size there kind page get false t =
           let u = unlisted_is image after h n at page t in
           inr (old (row_at s.home n) refl u.same u.counted)
@@ -456,7 +475,7 @@ module _ (s s' : State) (k : Kept s) (k' : Kept s') (whole : LentWhole s) (lib :
 
   -- one that is gone
   known_gone : (n : ℕ) (q : Row) (f : RawFile) → row_at s.home n ≡ Some q → told_file image b n true q ≡ f → Known f
-  known_gone n q f row same at regular inside = search (arith, old_size)
+  known_gone n q f row same at plain' inside = search (arith, old_size)
 
   known_by : (n : ℕ) (f : RawFile) (t : Bool) (o o' : Option Row) → row_at s.home n ≡ o → row_at after n ≡ o' → cond t (told_by image after b n o o') None ≡ Some f → In f these → Known f
   known_by n f t o o' row row' q i = search (arith, known_there, same_Some, known_gone)

@@ -1,5 +1,5 @@
 -- The files that an accepted release tells, by the images before and after, are those that the bundle, its listing and the notes tell.
-use Rattle.trio_laws.proofs.Words.{◌&&◌, ◌++◌, ◌+◌, ◌<◌, ◌||◌, ◌∙◌, ◌∷◌, ◌≡◌, ◌≤◌, Bool, Bundle, Case, Core, Image, In, In-cases, In-is_among, In-left, In-map, In-right, IsJudgeable, List, ListedEntry, Listing, Met, None, Notes, Option, Pick, RawFile, Row, Some, State, Written, [], accepted_files, ap, are_new, arith, both_ways, bytes_eq, bytes_eq-Decides, case_of, cases_Bool, cond, creds_of, entry_listed, entry_name, entry_size, false, false_from_ne_true, filter_map, inl, inr, is_accepted, is_among, is_among-In, is_kept, is_listed, is_some, is_told, is_written, judged_entries, listing, map, map-In, map-id, met_numbered, name_by, name_of, next, not, noted_name, noted_size, notes_of, numbers, option_map, or_cases, or_left, or_right, place_from, place_parts, proposed, proposed_pick, raw_file, raw_files, refl, row_after, row_at, row_in, settled, size_in, size_of, slot_bytes, sorted_new, subst, sym, told_by, told_file, told_row, true, ℕ}
+use Rattle.trio_laws.proofs.Words.{Bool, Bundle, Case, Core, Image, In, In-cases, In-is_among, In-left, In-map, In-right, IsJudgeable, List, ListedEntry, Listing, Met, None, Notes, Option, Pick, RawFile, Row, Some, State, Written, [], accepted_files, ap, are_new, arith, both_ways, bytes_eq, bytes_eq-Decides, case_of, cases_Bool, cond, creds_of, entry_guard, entry_listed, entry_name, entry_size, false, false_from_ne_true, filter_map, guard_in, guard_of, inl, inr, is_accepted, is_among, is_among-In, is_kept, is_listed, is_some, is_told, is_written, judged_entries, listing, map, map-In, map-id, met_numbered, name_by, name_of, next, not, noted_guard, noted_name, noted_size, notes_of, numbers, option_map, or_cases, or_left, or_right, place_from, place_parts, proposed, proposed_pick, raw_file, raw_files, refl, row_after, row_at, row_in, settled, size_in, size_of, slot_bytes, sorted_new, subst, sym, told_by, told_file, told_row, true, ℕ, ◌&&◌, ◌++◌, ◌+◌, ◌<◌, ◌||◌, ◌∙◌, ◌∷◌, ◌≡◌, ◌≤◌}
 use Rattle.std.proofs.lemmas.Bool.{or_from}
 use Rattle.trio_state.specs.Listed.{is_handed, is_untold, told_entry, told_gone, told_written}
 use Rattle.trio_laws.proofs.judgement.CaseFacts.{held_apart, held_row, is_written_from, live_bounds, new_dead, written_find, written_row}
@@ -10,12 +10,12 @@ use Rattle.trio_laws.proofs.judgement.MeetingEdges.{met_side}
 use Rattle.trio_laws.proofs.judgement.TablesAfter.{held_is_listed, rows_listed}
 use Rattle.trio_laws.proofs.judgement.Taking.{classes, fit, sound, unheld_at}
 use Rattle.trio_laws.proofs.history.AcceptedFiles.{unheld_now}
-use Rattle.trio_laws.proofs.history.AcceptedNames.{at_now, entry_now, fit_after, name_kept, size_listed, size_written, verifies_after}
+use Rattle.trio_laws.proofs.history.AcceptedNames.{at_now, entry_now, fit_after, name_kept, size_listed, size_written, verifies_after, guard_listed, guard_written}
 use Rattle.trio_laws.proofs.history.Listing.{listing as listed_now, name_listed, slot_named}
 use Rattle.trio_laws.proofs.history.RawParts.{raw_number}
 use Rattle.trio_laws.proofs.history.RefusedTold.{made_of}
 use Rattle.trio_laws.proofs.history.RisingKeys.{counted_sorted, in_made, joined_new, made_in, made_new, made_number}
-use Rattle.trio_laws.proofs.history.ToldNoted.{noted_name_is, noted_size_is}
+use Rattle.trio_laws.proofs.history.ToldNoted.{noted_name_is, noted_size_is, noted_guard_is}
 
 -- what is there only where a test fails
 unless_passed : {X : Type 0} (t : Bool) (o : Option X) (x : X) → cond t None o ≡ Some x → (t ≡ false) × (o ≡ Some x)
@@ -134,11 +134,12 @@ module _ (s : State) (lib : ℕ) (b : Bundle) (j : IsJudgeable s lib b) (acc : i
       let r : Row = t.row in
       let row : row_after l cs.rows n ≡ Some r = sym (rows_listed s lib b j acc n) ∙ t.is_row in
       raw_there n r t.is_row
-      ∙ told_unless (is_told I J b n) (is_untold cs notes (made e)) (Some (told_file J b n false r)) (option_map (told_row b n false (entry_name cs (made e)) (entry_size cs notes (made e))) (row_after l cs.rows n))
+      ∙ told_unless (is_told I J b n) (is_untold cs notes (made e)) (Some (told_file J b n false r)) (option_map (told_row b n false (entry_name cs (made e)) (entry_size cs notes (made e)) (entry_guard cs notes (made e))) (row_after l cs.rows n))
       (entry_untold e i r t.is_row t.below t.name)
-      (ap (λ x. Some (told_row b n false x (size_of J n) r)) t.name
-      ∙ ap (λ z. Some (told_row b n false (entry_name cs (made e)) z r)) (size_listed s lib b j acc e i)
-      ∙ sym (ap (option_map (told_row b n false (entry_name cs (made e)) (entry_size cs notes (made e)))) row))
+      (ap (λ x. Some (told_row b n false x (size_of J n) (guard_of J n) r)) t.name
+      ∙ ap (λ z. Some (told_row b n false (entry_name cs (made e)) z (guard_of J n) r)) (size_listed s lib b j acc e i)
+      ∙ ap (λ g. Some (told_row b n false (entry_name cs (made e)) (entry_size cs notes (made e)) g r)) (guard_listed s lib b j acc e i)
+      ∙ sym (ap (option_map (told_row b n false (entry_name cs (made e)) (entry_size cs notes (made e)) (entry_guard cs notes (made e)))) row))
 
   -- ---- a written file that no judged directory lists
 
@@ -155,10 +156,11 @@ module _ (s : State) (lib : ℕ) (b : Bundle) (j : IsJudgeable s lib b) (acc : i
       let told : is_told I J b n ≡ true = handed_told n (or_left (is_written b n) (is_among n b.holds) (is_written_from s lib b j w i)) in
       raw_there n r row
       ∙ ap (λ t. cond t (Some (told_file J b n false r)) None) told
-      ∙ ap (λ x. Some (told_row b n false x (size_of J n) r)) name
-      ∙ ap (λ z. Some (told_row b n false (noted_name notes n) z r)) (size_written s lib b j acc w i r row)
-      ∙ sym (ap (option_map (told_row b n false (noted_name notes n) (size_in w.body))) after)
-      ∙ sym (ap (λ t. cond t None (option_map (told_row b n false (noted_name notes n) (size_in w.body)) (row_after l cs.rows n))) free)
+      ∙ ap (λ x. Some (told_row b n false x (size_of J n) (guard_of J n) r)) name
+      ∙ ap (λ z. Some (told_row b n false (noted_name notes n) z (guard_of J n) r)) (size_written s lib b j acc w i r row)
+      ∙ ap (λ g. Some (told_row b n false (noted_name notes n) (size_in w.body) g r)) (guard_written s lib b j acc w i r row)
+      ∙ sym (ap (option_map (told_row b n false (noted_name notes n) (size_in w.body) (guard_in w.body))) after)
+      ∙ sym (ap (λ t. cond t None (option_map (told_row b n false (noted_name notes n) (size_in w.body) (guard_in w.body)) (row_after l cs.rows n))) free)
 
   -- ---- a held file that is listed nowhere
 
@@ -181,10 +183,11 @@ module _ (s : State) (lib : ℕ) (b : Bundle) (j : IsJudgeable s lib b) (acc : i
       ap (λ t. cond t (told_by I J b n (row_at I n) (row_at J n)) None) told
       ∙ ap (λ o. told_by I J b n o (row_at J n)) q.1
       ∙ ap (told_by I J b n (Some r)) (gone_now n i free)
-      ∙ ap (λ x. Some (told_row b n true x (size_of I n) r)) (sym (noted_name_is I n r low q.1))
-      ∙ ap (λ z. Some (told_row b n true (noted_name notes n) z r)) (sym (noted_size_is I n r low q.1))
-      ∙ sym (ap (option_map (told_row b n true (noted_name notes n) (noted_size notes n))) q.1)
-      ∙ sym (ap (λ t. cond t None (option_map (told_row b n true (noted_name notes n) (noted_size notes n)) (row_in cs.rows n))) free)
+      ∙ ap (λ x. Some (told_row b n true x (size_of I n) (guard_of I n) r)) (sym (noted_name_is I n r low q.1))
+      ∙ ap (λ z. Some (told_row b n true (noted_name notes n) z (guard_of I n) r)) (sym (noted_size_is I n r low q.1))
+      ∙ ap (λ g. Some (told_row b n true (noted_name notes n) (noted_size notes n) g r)) (sym (noted_guard_is I n r low q.1))
+      ∙ sym (ap (option_map (told_row b n true (noted_name notes n) (noted_size notes n) (noted_guard notes n))) q.1)
+      ∙ sym (ap (λ t. cond t None (option_map (told_row b n true (noted_name notes n) (noted_size notes n) (noted_guard notes n)) (row_in cs.rows n))) free)
 
   -- ---- no other is told
 

@@ -7,7 +7,7 @@ use Rattle.trio_laws.proofs.StateFacts.{tables}
 use Rattle.trio_laws.proofs.history.Extends.{Extends, past_is}
 use Rattle.trio_laws.proofs.history.Facts.{nodes_by_one}
 use Rattle.trio_laws.proofs.history.Listing.{met_at}
-use Rattle.trio_laws.proofs.history.Still.{node_same, name_still, size_still, blocks_still}
+use Rattle.trio_laws.proofs.history.Still.{node_same, name_still, size_still, blocks_still, guard_still}
 
 module _ (s : State) (k : Kept s) (lib count many : ℕ) where
   abbrev core : Core
@@ -39,7 +39,8 @@ module _ (s : State) (k : Kept s) (lib count many : ℕ) where
       ap Some (node_same (settled s) (settled s') n r (writer_of s n) (writer_of s' n)
       (name_still (settled s) after k.fit (fit' s lib count many k) k.verifies (agree s lib count many k) n r row)
       (size_still (settled s) after k.fit (fit' s lib count many k) k.verifies (agree s lib count many k) n r row)
-      (λ regular. blocks_now n r row (writer_of s n)))
+      (guard_still (settled s) after k.fit (fit' s lib count many k) k.verifies (agree s lib count many k) n r row)
+      (λ plain'. blocks_now n r row (writer_of s n)))
 
   pub allot_nodes : nodes_of s' ≡ nodes_of s
   allot_nodes = nodes_by_one s s' refl (λ n. one n (row_at s.home n) refl)

@@ -6,7 +6,7 @@ use Rattle.trio_laws.proofs.StateFacts.{live_met}
 use Rattle.trio_laws.proofs.WriteGrant.{pages, pages_now, agree, fit'}
 use Rattle.trio_laws.proofs.history.Facts.{find_push, find_none, find_last, nodes_by_one}
 use Rattle.trio_laws.proofs.history.Listing.{met_at}
-use Rattle.trio_laws.proofs.history.Still.{node_same, name_still, size_still, blocks_still}
+use Rattle.trio_laws.proofs.history.Still.{node_same, name_still, size_still, blocks_still, guard_still}
 
 -- a grant that is no write grant on a file isn't found as its writer
 not_writer : (g : OpenGrant) (n : ℕ) → is_write g.kind ≡ false → (eqb g.ino n && is_write g.kind) ≡ false
@@ -56,8 +56,13 @@ module _ (s : State) (k : Kept s) (lib : ℕ) (m : Met) (f : FileRead) (i : In m
   one n (Some r) row =
       let name = name_still (settled s) after k.fit (fit' s k lib m f i e free) k.verifies (agree s k lib m f i e free) n r row in
       let size = size_still (settled s) after k.fit (fit' s k lib m f i e free) k.verifies (agree s k lib m f i e free) n r row in
+      let guard = guard_still (settled s) after k.fit (fit' s k lib m f i e free) k.verifies (agree s k lib m f i e free) n r row in
       elim (cases_eq m.ino n) [
-        | inr other ↦ search (arith, find_push, other_writer, node_same, blocks_now)
+        | inr other ↦
+            let writers : writer_of (opens s g) n ≡ writer_of s n = find_push (λ (h : OpenGrant). eqb h.ino n && is_write h.kind) s.open_grants g (other_writer g n other) in
+            ap Some (node_same (settled s) (settled (opens s g)) n r (writer_of s n) (writer_of (opens s g) n) name size guard
+            (λ plain'.
+            ap (blocks_of (settled (opens s g)) n r) writers ∙ blocks_now n r row (writer_of s n) other))
         | inl same ↦
             let none : writer_of s n ≡ None = find_none (λ (h : OpenGrant). eqb h.ino n && is_write h.kind) s.open_grants (λ h j. other_writer h n (λ t. free h j (t ∙ sym same))) in
             let mine : writer_of (opens s g) n ≡ Some g = find_last (λ (h : OpenGrant). eqb h.ino n && is_write h.kind) s.open_grants g none (and_from (eqb m.ino n) true (eq-eqb m.ino n same) refl) in
@@ -65,8 +70,8 @@ module _ (s : State) (k : Kept s) (lib : ℕ) (m : Met) (f : FileRead) (i : In m
             let kind : r.kind ≡ m.kind = ap (λ (x : Row). x.kind) q.row ∙ ap (λ (x : Met). x.kind) (one_met core plain k.fit k.verifies.sound q.met m q.stands i (q.number ∙ sym same)) in
             let lent : g.blocks ≡ blocks_of (settled s) n r None =
             ap (λ t. block_sheets core (settled_chain (settled s) t m.ino)) (sym kind) ∙ ap (λ j. block_sheets core (settled_chain (settled s) r.kind j)) same in
-            ap Some (node_same (settled s) (settled (opens s g)) n r (writer_of s n) (writer_of (opens s g) n) name size
-            (λ regular.
+            ap Some (node_same (settled s) (settled (opens s g)) n r (writer_of s n) (writer_of (opens s g) n) name size guard
+            (λ plain'.
             ap (blocks_of (settled (opens s g)) n r) mine ∙ lent ∙ ap (blocks_of (settled s) n r) (sym none)))
       ]
 

@@ -1,5 +1,5 @@
 -- Where a live file is listed in an image that verifies, and what its name and its chain are.
-use Rattle.trio_laws.proofs.Words.{◌&&◌, ◌+◌, ◌<◌, ◌∙◌, ◌≡◌, ◌≤◌, ◌⊎◌, Bad, Bool, Core, Directory, Empty, EntryPart, FileRead, Image, In, In-right, IsFit, Kind, List, Listed, Met, MetAt, None, Ok, Option, Regular, Row, Some, TablesOf, Verifies, [], and_parts, ap, arith, bytes_eq, child_from, child_placed, children, cond, entries_of_kind, entry_at, eqb, false≢true, file_of, flat_map-In, inl, inr, met_numbered, met_row, name_of, nat_lt, ne_eqb, page_of, pages_read, plain, reads_from, refl, root_or_listed, row_at, row_at_is, settled_body, settled_body_met, settled_chain, slot_bytes, subst, survey, sym, take, true, ℕ}
+use Rattle.trio_laws.proofs.Words.{◌&&◌, ◌+◌, ◌<◌, ◌∙◌, ◌≡◌, ◌≤◌, ◌⊎◌, Bad, Bool, Core, Directory, Empty, EntryPart, FileRead, Image, In, In-right, IsFit, Kind, List, Listed, Met, MetAt, None, Ok, Option, Regular, Row, Some, TablesOf, Verifies, [], and_parts, ap, arith, bytes_eq, child_from, child_placed, children, cond, entries_of_kind, entry_at, eqb, false≢true, file_of, flat_map-In, inl, inr, met_numbered, met_row, name_of, nat_lt, ne_eqb, page_of, pages_read, plain, reads_from, refl, root_or_listed, row_at, row_at_is, settled_body, settled_body_met, settled_chain, slot_bytes, subst, survey, sym, take, true, ℕ, Link}
 use Rattle.std.specs.Prelude.{nat_le}
 use Rattle.trio_names.specs.Name.{is_name}
 use Rattle.trio_layout.specs.declared.slot.SlotRead.TheVariants.{Entry}
@@ -116,3 +116,4 @@ module _ (image : Image) (fit : IsFit image.core) (v : Verifies image) where
 pub block_read : (kind : Kind) (f : FileRead) (p : ℕ) → kind ≡ Directory → In p f.chain.blocks → In p (pages_read kind f)
 block_read Directory f p e i = In-right p f.chain.index f.chain.blocks i
 block_read Regular f p e i = absurd cc
+block_read Link f p e i = absurd cc

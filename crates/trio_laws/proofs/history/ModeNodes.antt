@@ -1,11 +1,11 @@
 -- A change of mode changes one node.
-use Rattle.trio_laws.proofs.Words.{◌∙◌, ◌∷◌, ◌≡◌, ◌≤◌, Body, Bool, Core, Directory, FileRead, Image, In, In-map, In-right, IsFit, Kept, Kind, Met, MetAt, None, Ok, OpenGrant, Option, Regular, Row, Some, State, Verifies, [], ap, arith, body_moded, bytes_of, cases_eq, changed, cond, eq-eqb, eqb, false, file_of, get_or-set_other, get_or-set_same, image_with_mode, inl, inr, listed0, logged, met_numbered, met_other, mode_core_is, mode_file, mode_fit, mode_met, mode_verifies, moded_node, moded_nodes, ms, name_in, name_of, node_at, node_by, node_in, nodes_of, option_map_or, page_now, page_of, picked_entry, plain, plain_pages, read_now, refl, row_at, row_with_mode, settled, survey, sym, tabulated-length, true, writer_of, ℕ}
-use Rattle.trio_laws.proofs.Isolated.{put_none, bare_page}
+use Rattle.trio_laws.proofs.Words.{Body, Bool, Core, FileRead, Image, In, In-map, IsFit, Kept, Met, MetAt, None, Ok, OpenGrant, Option, Row, Some, State, Verifies, [], ap, arith, body_moded, bytes_of, cases_eq, changed, cond, eq-eqb, eqb, false, file_of, get_or-set_other, get_or-set_same, guard_of, image_with_mode, inl, inr, is_directory, listed0, logged, met_numbered, met_other, mode_core_is, mode_file, mode_fit, mode_met, mode_verifies, moded_node, moded_nodes, ms, name_in, name_of, node_at, node_by, node_in, nodes_of, option_map_or, page_now, page_of, picked_entry, plain, plain_pages, read_now, refl, row_at, row_with_mode, settled, survey, sym, tabulated-length, true, writer_of, ℕ, ◌∙◌, ◌∷◌, ◌≡◌, ◌≤◌}
+use Rattle.trio_laws.proofs.Isolated.{put_none, bare_page, plain_block}
 use Rattle.trio_surveys.proofs.ModedCore.{pick}
 use Rattle.trio_laws.proofs.Modes.{settled_moded, moded_kept}
 use Rattle.trio_laws.proofs.Grants.{logged_kept}
 use Rattle.trio_laws.proofs.history.Facts.{node_is}
-use Rattle.trio_laws.proofs.history.Follows.{Follows, bytes_follow, name_at_entry}
+use Rattle.trio_laws.proofs.history.Follows.{Follows, bytes_follow, guard_follows, name_at_entry}
 use Rattle.trio_laws.proofs.history.Listing.{listing, met_at}
 use Rattle.trio_laws.proofs.history.Still.{node_with}
 use Rattle.trio_laws.proofs.history.WithNode.{nodes_with}
@@ -14,9 +14,9 @@ size_cond : (t : Bool) (mode : ℕ) (b : Body) → (cond t (body_moded mode b) b
 size_cond true mode b = refl
 size_cond false mode b = refl
 
-plain_block : (kind : Kind) (f : FileRead) (p : ℕ) → kind ≡ Regular → In p f.chain.blocks → In p (plain_pages kind f)
-plain_block Regular f p e i = In-right p f.chain.index f.chain.blocks i
-plain_block Directory f p e i = absurd cc
+guard_cond : (t : Bool) (mode : ℕ) (b : Body) → (cond t (body_moded mode b) b).guard ≡ b.guard
+guard_cond true mode b = refl
+guard_cond false mode b = refl
 
 pub name_root : (image : Image) (n : ℕ) (r : Row) → n ≡ 1 → name_of image n r ≡ 45 ∷ []
 name_root image n r e = ap (λ b. cond b (45 ∷ []) (option_map_or (name_in r.slot) (page_of image.core r.page) [])) (eq-eqb n 1 e)
@@ -59,8 +59,9 @@ module _ (image : Image) (n mode : ℕ) (r : Row) (fit : IsFit image.core) (v : 
         read = m.read;
         read' = f.1;
         size = size_cond (eqb m.met.ino q.met.ino) mode m.file.body;
+        guard = guard_cond (eqb m.met.ino q.met.ino) mode m.file.body;
         chain = refl;
-        pages = λ regular p a. bare m.met m.file p m.stands m.read (plain_block m.met.kind m.file p (sym (ap (λ (y : Row). y.kind) m.row) ∙ regular) a);
+        pages = λ plain' p a. bare m.met m.file p m.stands m.read (plain_block m.met.kind m.file p (sym (ap (λ (y : Row). is_directory y.kind) m.row) ∙ plain') a);
       }
 
   pub mode_name : (j : ℕ) (x x' : Row) → row_at image j ≡ Some x → x'.page ≡ x.page → x'.slot ≡ x.slot → name_of after j x' ≡ name_of image j x
@@ -105,13 +106,18 @@ module _ (s : State) (k : Kept s) (n mode : ℕ) (r : Row) (row : row_at s.home 
 
   bytes_now : (j : ℕ) (x x' : Row) → row_at s.home j ≡ Some x → row_at now j ≡ Some x' → bytes_of now j x' (writer_of s j) x.kind ≡ bytes_of (settled s) j x (writer_of s j) x.kind
   bytes_now j x x' at at' =
-      bytes_follow (settled s) now k.fit fits k.verifies verifies j x x' at at' (mode_follows (settled s) n mode r k.fit k.verifies row small other j x x' at) (writer_of s j) x.kind refl
+      bytes_follow (settled s) now k.fit fits k.verifies verifies j x x' at at' (mode_follows (settled s) n mode r k.fit k.verifies row small other j x x' at) (writer_of s j)
+
+  guard_now : (j : ℕ) (x x' : Row) → row_at s.home j ≡ Some x → row_at now j ≡ Some x' → guard_of now j ≡ guard_of (settled s) j
+  guard_now j x x' at at' =
+      guard_follows (settled s) now k.fit fits k.verifies verifies j x x' at at' (mode_follows (settled s) n mode r k.fit k.verifies row small other j x x' at)
 
   else_step : (j : ℕ) (o : Option Row) → (j ≡ n → ⊥) → row_at s.home j ≡ o → node_by now j (writer_of s j) o ≡ node_by (settled s) j (writer_of s j) o
   else_step j None d at = refl
   else_step j (Some x) d at =
-      ap (λ l. Some (node_with x l (bytes_of now j x (writer_of s j) x.kind))) (mode_name (settled s) n mode r k.fit k.verifies row small other j x x at refl refl)
-      ∙ ap (λ l. Some (node_with x (name_of (settled s) j x) l)) (bytes_now j x x at (row_else j d ∙ at))
+      ap (λ l. Some (node_with x (guard_of now j) l (bytes_of now j x (writer_of s j) x.kind))) (mode_name (settled s) n mode r k.fit k.verifies row small other j x x at refl refl)
+      ∙ ap (λ g. Some (node_with x g (name_of (settled s) j x) (bytes_of now j x (writer_of s j) x.kind))) (guard_now j x x at (row_else j d ∙ at))
+      ∙ ap (λ l. Some (node_with x (guard_of (settled s) j) (name_of (settled s) j x) l)) (bytes_now j x x at (row_else j d ∙ at))
 
   node_else : (j : ℕ) → (j ≡ n → ⊥) → node_in s' j ≡ node_in s j
   node_else j d = search (arith, settled_now, row_else, else_step)
@@ -121,8 +127,9 @@ module _ (s : State) (k : Kept s) (n mode : ℕ) (r : Row) (row : row_at s.home 
       let x' : Row = record r { mode = record { 0 = mode } } in
       ap (λ (i : Image). node_by i n (writer_of s n) (row_at s'.home n)) settled_now
       ∙ ap (node_by now n (writer_of s n)) row_here
-      ∙ ap (λ l. Some (node_with x' l (bytes_of now n x' (writer_of s n) r.kind))) (mode_name (settled s) n mode r k.fit k.verifies row small other n r x' row refl refl)
-      ∙ ap (λ l. Some (node_with x' (name_of (settled s) n r) l)) (bytes_now n r x' row row_here)
+      ∙ ap (λ l. Some (node_with x' (guard_of now n) l (bytes_of now n x' (writer_of s n) r.kind))) (mode_name (settled s) n mode r k.fit k.verifies row small other n r x' row refl refl)
+      ∙ ap (λ g. Some (node_with x' g (name_of (settled s) n r) (bytes_of now n x' (writer_of s n) r.kind))) (guard_now n r x' row row_here)
+      ∙ ap (λ l. Some (node_with x' (guard_of (settled s) n) (name_of (settled s) n r) l)) (bytes_now n r x' row row_here)
       ∙ ap (λ o. moded_node mode (node_by (settled s) n (writer_of s n) o)) (sym row)
 
   pub mode_nodes : nodes_of s' ≡ moded_nodes n mode (nodes_of s)

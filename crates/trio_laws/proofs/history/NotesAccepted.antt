@@ -3,7 +3,7 @@ use Rattle.trio_laws.proofs.Words.{◌&&◌, ◌+◌, ◌<◌, ◌∙◌, ◌≡
 use Rattle.std.proofs.Common.{is_some}
 use Rattle.trio_laws.specs.history.ToldLaws.{ReleaseNotes}
 use Rattle.trio_laws.proofs.history.AcceptedFiles.{fitJ, verifiesJ, Now, now, kept_follows, FileIs, Stayed, Wrote, New, file_is, unheld_now}
-use Rattle.trio_laws.proofs.history.Follows.{Follows, size_follows}
+use Rattle.trio_laws.proofs.history.Follows.{Follows, size_follows, guard_follows}
 use Rattle.trio_laws.proofs.history.Listing.{met_at, tables_of, listing, name_listed, slot_named}
 use Rattle.trio_laws.proofs.history.NotesFacts.{after_long, comes, noted, noted_at, noted_row, notes_in, notes_long, notes_out}
 use Rattle.trio_laws.proofs.history.RawParts.{raw_number}
@@ -76,6 +76,7 @@ module _ (s : State) (k : Kept s) (lib : ℕ) (b : Bundle) (given : GivenTo s li
       noted_row image after n q r row_s row
       (sym (same_name n r (Some q) row row_s t))
       (size_follows image after k.fit fit' k.verifies verifies' n q r row_s row f)
+      (guard_follows image after k.fit fit' k.verifies verifies' n q r row_s row f)
 
   -- ---- each number
 

@@ -1,16 +1,16 @@
 -- What is noted of live files, number by number.
-use Rattle.trio_laws.proofs.Words.{◌+◌, ◌<◌, ◌∙◌, ◌∷◌, ◌≡◌, ◌≤◌, ◌⊎◌, AgreeOn, Image, IsFit, List, None, Note, Notes, Option, Pages, RawFile, Row, Some, Verifies, [], ap, arith, cases_eq, cons_option, count_up, filter_map, get_or, inl, inr, length, length-set, name_of, note_of, notes_after, notes_of, option_map, plain, refl, row_at, set, size_of, suc, survey, tabulated, tabulated-get, tabulated-length, tabulated-same, with_other, zero, ℕ}
+use Rattle.trio_laws.proofs.Words.{AgreeOn, Bool, Image, IsFit, List, None, Note, Notes, Option, Pages, RawFile, Row, Some, Verifies, [], ap, arith, cases_eq, cons_option, count_up, filter_map, get_or, guard_of, inl, inr, length, length-set, name_of, note_of, notes_after, notes_of, option_map, plain, refl, row_at, set, size_of, suc, survey, sym, tabulated, tabulated-get, tabulated-length, tabulated-same, with_other, zero, ℕ, ◌+◌, ◌<◌, ◌∙◌, ◌∷◌, ◌≡◌, ◌≤◌, ◌⊎◌}
 use Rattle.std.proofs.Common.{get_or-set_same, get_or-set_other}
 use Rattle.trio_state.specs.Listed.{note_told}
 use Rattle.trio_laws.proofs.Agreeing.{image_with}
-use Rattle.trio_laws.proofs.history.Still.{name_still, size_still}
+use Rattle.trio_laws.proofs.history.Still.{name_still, size_still, guard_still}
 
 -- what is noted of a number of an image
 abbrev pub noted : Image → ℕ → Option Note
 noted image n = option_map (note_of image n) (row_at image n)
 
-abbrev pub note_with : List ℕ → ℕ → Note
-note_with name size = record { name = name; size = size }
+abbrev pub note_with : List ℕ → ℕ → Bool → Note
+note_with name size guarded = record { name = name; size = size; guard = guarded }
 
 pub notes_long : (image : Image) → length (notes_of image) ≡ image.core.inodes + 1
 notes_long image = tabulated-length (noted image) (image.core.inodes + 1)
@@ -23,14 +23,21 @@ pub notes_by_one : (image image' : Image) → image'.core.inodes ≡ image.core.
 notes_by_one image image' count h =
     ap (λ c. tabulated (noted image') (c + 1)) count ∙ tabulated-same (noted image') (noted image) (image.core.inodes + 1) h
 
--- a row of the same name and size
-pub noted_row : (image image' : Image) (n : ℕ) (r r' : Row) → row_at image n ≡ Some r → row_at image' n ≡ Some r' → name_of image' n r' ≡ name_of image n r → size_of image' n ≡ size_of image n → noted image' n ≡ noted image n
-noted_row image image' n r r' row row' name size = search arith
+-- a row of the same name, size and guard
+pub noted_row : (image image' : Image) (n : ℕ) (r r' : Row) → row_at image n ≡ Some r → row_at image' n ≡ Some r' → name_of image' n r' ≡ name_of image n r → size_of image' n ≡ size_of image n → guard_of image' n ≡ guard_of image n → noted image' n ≡ noted image n
+noted_row image image' n r r' row row' name size guard =
+    ap (option_map (note_of image' n)) row'
+    ∙ ap (λ l. Some (note_with l (size_of image' n) (guard_of image' n))) name
+    ∙ ap (λ z. Some (note_with (name_of image n r) z (guard_of image' n))) size
+    ∙ ap (λ g. Some (note_with (name_of image n r) (size_of image n) g)) guard
+    ∙ sym (ap (option_map (note_of image n)) row)
 
 -- an image with other pages, of which all that are read are the same
 module _ (image : Image) (pages : Pages) (fit : IsFit image.core) (fit' : IsFit (with_other image.core pages)) (v : Verifies image) (agree : AgreeOn image.core (with_other image.core pages) (survey image.core plain)) where
   by_row : (n : ℕ) (o : Option Row) → row_at image n ≡ o → noted (image_with image pages) n ≡ noted image n
-  by_row n o row = search (arith, noted_row, name_still, size_still)
+  by_row n None row = ap (option_map (note_of (image_with image pages) n)) row ∙ sym (ap (option_map (note_of image n)) row)
+  by_row n (Some r) row =
+      noted_row image (image_with image pages) n r r row row (name_still image pages fit fit' v agree n r row) (size_still image pages fit fit' v agree n r row) (guard_still image pages fit fit' v agree n r row)
 
   pub notes_still : notes_of (image_with image pages) ≡ notes_of image
   notes_still = notes_by_one image (image_with image pages) refl (λ n. by_row n (row_at image n) refl)

@@ -1,11 +1,11 @@
 -- What is noted of live files at the start is what the rows of the image tell.
-use Rattle.trio_laws.proofs.Words.{◌+◌, ◌<◌, ◌∙◌, ◌≡◌, Creds, Image, In, IsFit, IsWhole, Kept, List, None, Note, OpenGrant, Option, Row, Some, State, Verifies, Write, ap, body_at, body_of_row, length, name_of, note_of, option_map, plain, refl, row_at, row_in, row_of, settled, size_of, start, survey, sym, tabulated, tabulated-length, tabulated-same, ℕ}
+use Rattle.trio_laws.proofs.Words.{Creds, Image, In, IsFit, IsWhole, Kept, List, None, Note, OpenGrant, Option, Row, Some, State, Verifies, Write, ap, body_at, body_of_row, guard_in, length, name_of, note_of, option_map, plain, refl, row_at, row_in, row_of, settled, size_of, start, survey, sym, tabulated, tabulated-length, tabulated-same, ℕ, ◌+◌, ◌<◌, ◌∙◌, ◌≡◌}
 use Rattle.trio_state.specs.ImageNodes.{note_by_row}
 use Rattle.trio_laws.specs.history.ToldLaws.{StartNotes}
 use Rattle.trio_laws.proofs.Runs.{start_kept}
 use Rattle.trio_laws.proofs.history.Listing.{body_met}
 use Rattle.trio_laws.proofs.history.NotesFacts.{note_with, noted}
-use Rattle.trio_laws.proofs.history.SettledNodes.{body_is, name_is}
+use Rattle.trio_laws.proofs.history.SettledNodes.{body_is, name_is, guard_is}
 
 module _ (image : Image) (creds : List Creds) (fit : IsFit image.core) (v : Verifies image) (whole : IsWhole image) (first : 0 < image.core.range.first) where
   abbrev s : State
@@ -23,8 +23,9 @@ module _ (image : Image) (creds : List Creds) (fit : IsFit image.core) (v : Veri
   one : (n : ℕ) (o : Option Row) → row_at image n ≡ o → option_map (note_by_row image.core n) o ≡ option_map (note_of (settled s) n) o
   one n None row = refl
   one n (Some r) row =
-      ap (λ x. Some (note_with x (body_at (body_of_row image.core n r)).size)) (name_is s kept none first n r row)
-      ∙ ap (λ z. Some (note_with (name_of (settled s) n r) z)) (size_is n r row)
+      ap (λ x. Some (note_with x (body_at (body_of_row image.core n r)).size (guard_in (body_of_row image.core n r)))) (name_is s kept none first n r row)
+      ∙ ap (λ z. Some (note_with (name_of (settled s) n r) z (guard_in (body_of_row image.core n r)))) (size_is n r row)
+      ∙ ap (λ g. Some (note_with (name_of (settled s) n r) (size_of (settled s) n) g)) (guard_is s kept none first n r row)
 
 pub start_notes : StartNotes
 start_notes image creds fit v whole first =

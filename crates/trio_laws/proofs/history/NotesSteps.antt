@@ -11,7 +11,7 @@ use Rattle.trio_laws.proofs.Refusing.{pages as pages_refused, agree as refused_a
 use Rattle.trio_laws.proofs.StateFacts.{live_met}
 use Rattle.trio_laws.proofs.WriteGrant.{pages as pages_lent, agree as lent_agrees, fit' as lent_fits}
 use Rattle.trio_laws.specs.history.ToldLaws.{EndsNone, RefusedNotes, StepsKeepNotes}
-use Rattle.trio_laws.proofs.history.Follows.{size_follows}
+use Rattle.trio_laws.proofs.history.Follows.{size_follows, guard_follows}
 use Rattle.trio_laws.proofs.history.ModeNodes.{mode_follows, mode_name, row_here, row_else}
 use Rattle.trio_laws.proofs.history.NotesFacts.{noted, noted_row, notes_by_one, notes_still}
 
@@ -53,7 +53,14 @@ module _ (s : State) (k : Kept s) (n mode : ℕ) (r : Row) (row : row_at s.home 
   now = image_with_mode (settled s) n mode
 
   one : (j : ℕ) (x x' : Row) → row_at s.home j ≡ Some x → row_at now j ≡ Some x' → x'.page ≡ x.page → x'.slot ≡ x.slot → noted now j ≡ noted (settled s) j
-  one j x x' at at' page slot = search (arith, noted_row, mode_name, size_follows, mode_fit, mode_verifies, mode_follows)
+  one j x x' at at' page slot =
+      let fits = mode_fit (settled s) n mode r k.fit k.verifies row small other in
+      let verifies = mode_verifies (settled s) n mode r k.fit k.verifies row small other in
+      let follows = mode_follows (settled s) n mode r k.fit k.verifies row small other j x x' at in
+      noted_row (settled s) now j x x' at at'
+      (mode_name (settled s) n mode r k.fit k.verifies row small other j x x' at page slot)
+      (size_follows (settled s) now k.fit fits k.verifies verifies j x x' at at' follows)
+      (guard_follows (settled s) now k.fit fits k.verifies verifies j x x' at at' follows)
 
   other_row : (j : ℕ) (o : Option Row) → (j ≡ n → ⊥) → row_at s.home j ≡ o → noted now j ≡ noted (settled s) j
   other_row j None d at = search (arith, row_else, one)

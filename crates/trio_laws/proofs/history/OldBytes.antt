@@ -1,5 +1,5 @@
--- The bytes of a live regular file are as many as its size says.
-use Rattle.trio_laws.proofs.Words.{◌∙◌, ◌∷◌, ◌≡◌, Chain, GrantKind, In, In-right, Kept, LentWhole, List, MetAt, None, Ok, OpenGrant, Option, Regular, Row, Sheet, Some, State, Write, [], and_from, and_parts, ap, arith, block_sheets, blocks_of, both_ways, bytes_of, bytes_of_sheets, eq-eqb, eqb, eqb-true, find-In, is_write, length, length-take, page_of, pages_are, plain, reads_from, refl, resized, row_at, settled, settled_chain, sheet_numbers, sheets_all, sheets_in, sheets_of, size_of, subst, suc, sym, take_all, true, writer_of, ℕ}
+-- The bytes of the blocks of a live file are as many as its size says.
+use Rattle.trio_laws.proofs.Words.{Chain, GrantKind, In, In-right, Kept, LentWhole, List, MetAt, None, Ok, OpenGrant, Option, Row, Sheet, Some, State, Write, [], and_from, and_parts, ap, arith, block_sheets, blocks_of, both_ways, bytes_of_sheets, data_of, eq-eqb, eqb, eqb-true, find-In, is_write, length, length-take, page_of, pages_are, plain, reads_from, refl, resized, row_at, settled, settled_chain, sheet_numbers, sheets_all, sheets_in, sheets_of, size_of, subst, suc, sym, take_all, true, writer_of, ℕ, ◌∙◌, ◌∷◌, ◌≡◌}
 use Rattle.std.proofs.Common.{append-nil}
 use Rattle.trio_laws.proofs.StateFacts.{pages_there, write_is}
 use Rattle.trio_laws.proofs.history.Blocks.{chain_count, flat_long}
@@ -63,6 +63,6 @@ module _ (s : State) (k : Kept s) (whole : LentWhole s) (n : ℕ) (r : Row) (row
       ap (λ l. length (bytes_of_sheets (size_of (settled s) n) (block_sheets (settled s).core l))) (chain_met (settled s) k.fit k.verifies n r row)
       ∙ cut_long (size_of (settled s) n) xs (λ x i. (let q = sheets_in (settled s).core ps x i in k.fit.full x.page x.bytes q.1)) (subst (λ j. Count j (size_of (settled s) n)) c count_is)
 
-  -- the bytes of a regular file are as many as its size
-  pub old_long : length (bytes_of (settled s) n r (writer_of s n) Regular) ≡ size_of (settled s) n
+  -- the bytes of a file's blocks are as many as its size
+  pub old_long : length (data_of (settled s) n r (writer_of s n)) ≡ size_of (settled s) n
   old_long = long_by (writer_of s n) refl

@@ -1,5 +1,5 @@
 -- The files and blocks of a release, one by one.
-use Rattle.trio_laws.proofs.Words.{◌*◌, ◌+◌, ◌∙◌, ◌∷◌, ◌≡◌, Bool, Bundle, Directory, Handed, Image, In, Kind, List, None, Option, RawFile, Regular, Row, Sheet, Some, ToldBlock, [], ap, arith, block_numbers, cond, eq-eqb, false, inl, inr, is_block_told, is_told, is_touched, le-ltb, ltb, min, ne_eqb, page_of, put_within, raw_file, refl, row_at, sheet_numbers, size_of, slice_get, suc, sym, told_blocks, told_blocks_of, told_by, true, unwrap_or, with_blocks, zero, ℕ}
+use Rattle.trio_laws.proofs.Words.{Bool, Bundle, Handed, Image, In, List, None, Option, RawFile, Row, Sheet, Some, ToldBlock, [], ap, arith, block_numbers, cond, eq-eqb, false, inl, inr, is_block_told, is_told, is_touched, le-ltb, ltb, min, ne_eqb, page_of, put_within, raw_file, refl, row_at, sheet_numbers, size_of, slice_get, suc, sym, told_blocks, told_blocks_of, told_by, true, unwrap_or, with_blocks, zero, ℕ, ◌*◌, ◌+◌, ◌∙◌, ◌∷◌, ◌≡◌}
 
 -- the file of a number has that number
 told_number : (before after : Image) (b : Bundle) (n : ℕ) (was is : Option Row) (f : RawFile) → told_by before after b n was is ≡ Some f → f.ino ≡ n
@@ -27,12 +27,9 @@ gone_others : (before after : Image) (h : Handed) (f : RawFile) (m : ℕ) (bytes
 gone_others before after h f m bytes true d = refl
 gone_others before after h f m bytes false d = told_others before after h f.ino m 0 (block_numbers after f.ino (row_at after f.ino)) bytes d
 
-kind_others : (before after : Image) (h : Handed) (f : RawFile) (m : ℕ) (bytes : List ℕ) (kind : Kind) → (f.ino ≡ m → ⊥) → with_blocks m (told_blocks_of before after h f kind) bytes ≡ bytes
-kind_others before after h f m bytes Directory d = refl
-kind_others before after h f m bytes Regular d = gone_others before after h f m bytes f.gone d
-
-pub own_blocks : (before after : Image) (h : Handed) (f : RawFile) (m : ℕ) (bytes : List ℕ) → (f.ino ≡ m → ⊥) → with_blocks m (told_blocks_of before after h f f.kind) bytes ≡ bytes
-own_blocks before after h f m bytes d = kind_others before after h f m bytes f.kind d
+pub own_blocks : (before after : Image) (h : Handed) (f : RawFile) (told : Bool) (m : ℕ) (bytes : List ℕ) → (f.ino ≡ m → ⊥) → with_blocks m (told_blocks_of before after h f told) bytes ≡ bytes
+own_blocks before after h f false m bytes d = refl
+own_blocks before after h f true m bytes d = gone_others before after h f m bytes f.gone d
 
 -- where nothing is told, there are no blocks
 none_step : (t : Bool) (x : ToldBlock) (rest : List ToldBlock) → t ≡ false → rest ≡ [] → cond t (x ∷ rest) rest ≡ []

@@ -1,11 +1,12 @@
 -- The nodes after a refused release.
-use Rattle.trio_laws.proofs.Words.{◌&&◌, ◌*◌, ◌++◌, ◌+◌, ◌<◌, ◌||◌, ◌∙◌, ◌≡◌, ◌≤◌, ◌⊎◌, Bool, Bundle, Directory, Ends, GivenTo, Handed, HandedFile, Image, In, In-find, In-left, In-right, IsFit, IsMarked, Kept, Kind, LentWhole, List, Met, None, OpenGrant, Option, Pages, RawFile, Regular, Row, Sheet, Some, State, ToldBlock, Written, [], and_from, and_parts, ap, arith, block_numbers, block_sheets, blocks_of, both_ways, bundle_handed, bundle_pages, bundle_sheets, bytes_eq, bytes_of, bytes_of_sheets, cases_lt, chain_blocks, cond, drop, eq-eqb, eqb, eqb-true, false, find-In, is_among, is_block_told, is_core, is_told, is_touched, is_write, is_written, leb, length, listed_is_core, ltb, map-In, name_by, name_of, node_by, node_in, node_of, nodes_of, not, one_met, or_parts, page_from, page_of, page_same, pages_are, pages_of, place_there, plain, raw_blocks, raw_bytes, raw_file, raw_files, raw_nodes, refl, refused_image, row_at, settled, sheet_numbers, size_of, slice_get, some_of, subst, sym, take, told_blocks, told_blocks_of, told_by, told_file, true, uncovered, unwrap_or, with_blocks, with_other, with_pages_apart, with_pages_known, with_pages_there, writer_of, ℕ}
+use Rattle.trio_laws.proofs.Words.{Bool, Bundle, Ends, GivenTo, Handed, HandedFile, Image, In, In-find, In-left, In-right, IsFit, IsMarked, Kept, LentWhole, List, Met, None, OpenGrant, Option, Pages, RawFile, Row, Sheet, Some, State, ToldBlock, Write, Written, [], and_from, and_parts, ap, arith, block_numbers, block_sheets, blocks_of, both_ways, bundle_handed, bundle_pages, bundle_sheets, bytes_eq, bytes_of, bytes_of_sheets, cases_lt, chain_blocks, cond, covers_blocks, data_of, drop, eq-eqb, eqb, eqb-true, false, find-In, guard_in, guard_of, is_among, is_block_told, is_core, is_directory, is_told, is_touched, is_write, is_written, leb, length, listed_is_core, ltb, map-In, name_by, name_of, node_by, node_in, node_of, nodes_of, not, one_met, or_parts, page_from, page_of, page_same, pages_are, pages_of, place_there, plain, raw_bytes, raw_file, raw_files, raw_nodes, refl, refused_image, resized, row_at, settled, sheet_numbers, sheets_of, size_of, slice_get, some_of, subst, sym, take, told_blocks, told_blocks_of, told_by, told_file, true, uncovered, unwrap_or, with_blocks, with_other, with_pages_apart, with_pages_known, with_pages_there, writer_of, ℕ, ◌&&◌, ◌*◌, ◌++◌, ◌+◌, ◌<◌, ◌||◌, ◌∙◌, ◌≡◌, ◌≤◌, ◌⊎◌}
 use Rattle.std.proofs.Common.{ltb-true, is_some, flat_map, find}
 use Rattle.trio_laws.proofs.Bundles.{Closed, Unwritten, unwritten_apart, in_numbers}
-use Rattle.trio_laws.proofs.Refusing.{pages, agree, fit'}
+use Rattle.trio_laws.proofs.Checkpoints.{guarded_covered}
+use Rattle.trio_laws.proofs.Refusing.{pages, agree, covered_back, fit'}
 use Rattle.trio_laws.proofs.Uncovered.{uncovered_handed, In-uncovered}
 use Rattle.trio_laws.proofs.history.Untouched.{handed_same}
-use Rattle.trio_laws.proofs.StateFacts.{write_alone}
+use Rattle.trio_laws.proofs.StateFacts.{covered_kind, write_alone, write_is}
 use Rattle.trio_laws.proofs.history.Blocks.{flat_sheets, chunk}
 use Rattle.trio_laws.proofs.history.Listing.{met_at, chain_met, row_outside}
 use Rattle.trio_laws.proofs.history.OldBytes.{resized_same, old_long, count_is, lent_is}
@@ -13,7 +14,7 @@ use Rattle.trio_laws.proofs.history.RawNodes.{becomes, part_of, blocks_in, raw_i
 use Rattle.trio_laws.proofs.history.WithNode.{nodes_same, nodes_long}
 use Rattle.trio_laws.proofs.history.Facts.{node_is}
 use Rattle.trio_laws.proofs.history.RawParts.{raw_number, own_blocks, told_none, same_told, sheet_at, get_in}
-use Rattle.trio_laws.proofs.history.Still.{node_same, name_still, size_still, chain_still, blocks_still}
+use Rattle.trio_laws.proofs.history.Still.{node_same, node_with, guard_still, name_still, size_still, chain_still, blocks_still, sheets_back}
 use Rattle.trio_laws.proofs.history.Told.{Count, block_bytes, told_put}
 use Rattle.trio_laws.proofs.history.Writers.{writes, none_found, other_writer, no_writer}
 use Rattle.trio_laws.proofs.history.ToldBlocks.{clean_block}
@@ -66,10 +67,13 @@ module _ (s s' : State) (k : Kept s) (k' : Kept s') (whole : LentWhole s) (lib :
   numbers_were : (n : ℕ) (r : Row) (row : row_at s.home n ≡ Some r) → block_numbers I n (row_at I n) ≡ (met_at I k.fit k.verifies n r row).file.chain.blocks
   numbers_were n r row = ap (block_numbers I n) row ∙ ap chain_blocks (chain_met I k.fit k.verifies n r row)
 
+  pub guard_stays : (n : ℕ) (r : Row) → row_at s.home n ≡ Some r → guard_of J n ≡ guard_of I n
+  guard_stays n r row = guard_still I ps k.fit fitJ k.verifies (agree s s' k lib b given closed e) n r row
+
   pub same_node : (n : ℕ) (r : Row) (row : row_at s.home n ≡ Some r) → is_written b n ≡ false → node_of J n (writer_of s' n) r ≡ node_of I n (writer_of s n) r
   same_node n r row un =
-      node_same I J n r (writer_of s n) (writer_of s' n) (name_stays n r row) (size_stays n r row)
-      (λ regular. other_writer s s' k lib b given J e n un J r ∙ blocks_stay n r row un (writer_of s n))
+      node_same I J n r (writer_of s n) (writer_of s' n) (name_stays n r row) (size_stays n r row) (guard_stays n r row)
+      (λ plain'. other_writer s s' k lib b given J e n un J r ∙ blocks_stay n r row un (writer_of s n))
 
   -- ---- where a page was handed in
 
@@ -78,11 +82,11 @@ module _ (s s' : State) (k : Kept s) (k' : Kept s') (whole : LentWhole s) (lib :
   untouched n r row g i t x a un y j at =
       handed_same s k whole lib h given marked n r row g i t x a un y (uncovered_handed s k lib b given y j) at
 
-  -- ---- a regular file that the bundle writes
+  -- ---- a file that the bundle writes, other than a directory
 
-  -- the grant by which the bundle writes a file, which lent its blocks and has them handed in
-  written_grant : (n : ℕ) (r : Row) (row : row_at s.home n ≡ Some r) → is_written b n ≡ true → r.kind ≡ Regular → (g : OpenGrant) × (writer_of s n ≡ Some g) × In g s.open_grants × (writes n g ≡ true) × ((p : ℕ) → In p (sheet_numbers g.blocks) → In p (sheet_numbers (uncovered I b ++ b.pages)))
-  written_grant n r row wr regular =
+  -- the grant by which the bundle writes a file, which lent its blocks and has them handed in, unless they are covered
+  written_grant : (n : ℕ) (r : Row) (row : row_at s.home n ≡ Some r) → is_written b n ≡ true → (g : OpenGrant) × (writer_of s n ≡ Some g) × In g s.open_grants × (writes n g ≡ true) × (g.of ≡ r.kind) × (covers_blocks r.kind (guard_of I n) ≡ false → (p : ℕ) → In p (sheet_numbers g.blocks) → In p (sheet_numbers (uncovered I b ++ b.pages)))
+  written_grant n r row wr =
       let w = some_of (find (λ (w : Written). eqb w.ino n) b.writes) wr in
       let f = find-In (λ (w : Written). eqb w.ino n) b.writes w.0 w.1 in
       let l = given.writes w.0 f.0 in
@@ -94,15 +98,18 @@ module _ (s s' : State) (k : Kept s) (k' : Kept s') (whole : LentWhole s) (lib :
       let lent = k.lent l.grant l.is_open l.kind in
       let m = met_at I k.fit k.verifies n r row in
       let same : lent.met ≡ m.met = one_met I.core plain k.fit k.verifies.sound lent.met m.met lent.stands m.stands (lent.number ∙ number ∙ sym m.number) in
-      let kind : w.0.kind ≡ Regular = sym l.of ∙ sym lent.of ∙ ap (λ (x : Met). x.kind) same ∙ sym (ap (λ (x : Row). x.kind) m.row) ∙ regular in (
+      let kind : w.0.kind ≡ r.kind = sym l.of ∙ sym lent.of ∙ ap (λ (x : Met). x.kind) same ∙ sym (ap (λ (x : Row). x.kind) m.row) in (
         q.0,
         q.1,
         v.0,
         v.1,
-        λ p i.
+        ap (λ (x : OpenGrant). x.of) (sym one) ∙ l.of ∙ kind,
+        λ bare p i.
+            let bare' : covers_blocks w.0.kind (guard_of I w.0.ino) ≡ false =
+            ap (λ t. covers_blocks t (guard_of I w.0.ino)) kind ∙ ap (λ j. covers_blocks r.kind (guard_of I j)) (eqb-true w.0.ino n f.1) ∙ bare in
             let a : In p (sheet_numbers w.0.blocks) = subst (λ z. In p z) (ap (λ (x : OpenGrant). sheet_numbers x.blocks) (sym one) ∙ sym l.blocks) i in
             let y = map-In (λ (x : Sheet). x.page) p w.0.blocks a in
-            let u = In-uncovered s k lib b given w.0 y.0 f.0 kind y.1 in
+            let u = In-uncovered s k lib b given w.0 y.0 f.0 bare' y.1 in
             in_numbers (uncovered I b ++ b.pages) y.0 p (In-left y.0 (uncovered I b) b.pages u) y.2,
       )
 
@@ -119,20 +126,20 @@ module _ (s s' : State) (k : Kept s) (k' : Kept s') (whole : LentWhole s) (lib :
       by None at = absurd (with_pages_there (uncovered I b ++ b.pages) I.core.pages p i at)
 
   -- the listed blocks in place of the old bytes give the new ones
-  written_bytes : (n : ℕ) (r : Row) (row : row_at s.home n ≡ Some r) → is_written b n ≡ true → r.kind ≡ Regular → with_blocks n (told_blocks I J h n 0 (block_numbers J n (row_at J n))) (bytes_of I n r (writer_of s n) Regular) ≡ bytes_of J n r (writer_of s' n) Regular
-  written_bytes n r row wr regular =
+  written_bytes : (n : ℕ) (r : Row) (row : row_at s.home n ≡ Some r) → is_written b n ≡ true → covers_blocks r.kind (guard_of I n) ≡ false → with_blocks n (told_blocks I J h n 0 (block_numbers J n (row_at J n))) (data_of I n r (writer_of s n)) ≡ data_of J n r (writer_of s' n)
+  written_bytes n r row wr bare =
       let m = met_at I k.fit k.verifies n r row in
       let pl : List ℕ = m.file.chain.blocks in
       let z : ℕ = size_of I n in
-      let g = written_grant n r row wr regular in
+      let g = written_grant n r row wr in
       let gr : OpenGrant = g.0 in
       let old : List ℕ = bytes_of_sheets z gr.blocks in
       let lent : sheet_numbers gr.blocks ≡ pl = lent_is s k whole n r row gr g.2 g.3 in
-      let old_is : bytes_of I n r (writer_of s n) Regular ≡ old = ap (λ w. bytes_of_sheets z (blocks_of I n r w)) g.1 in
+      let old_is : data_of I n r (writer_of s n) ≡ old = ap (λ w. bytes_of_sheets z (blocks_of I n r w)) g.1 in
       let long : length old ≡ z = ap length (sym old_is) ∙ old_long s k whole n r row in
       let listed : (p : ℕ) → In p pl → In p (pages_of I.core m.met) = λ p i. subst (λ l. In p l) (sym (pages_are I.core m.met m.file m.read)) (In-right p m.file.chain.index pl i) in
       let core : (p : ℕ) → In p pl → is_core I.core.range p ≡ true = λ p i. listed_is_core I.core m.met m.file p m.read (listed p i) in
-      let handed : (p : ℕ) → In p pl → In p (sheet_numbers (uncovered I b ++ b.pages)) = λ p i. g.4 p (subst (λ l. In p l) (sym lent) i) in
+      let handed : (p : ℕ) → In p pl → In p (sheet_numbers (uncovered I b ++ b.pages)) = λ p i. g.5 bare p (subst (λ l. In p l) (sym lent) i) in
       let full : (p : ℕ) → In p pl → length (block_bytes J p) ≡ 4096 =
       λ p i. (let t = handed_there p (core p i) (handed p i) in ap (λ o. length (unwrap_or o [])) t.1 ∙ fitJ.full p t.0 t.1) in
       let count : Count (length pl) (length old) = subst (λ j. Count (length pl) j) (sym long) (count_is s k whole n r row) in
@@ -155,7 +162,7 @@ module _ (s s' : State) (k : Kept s) (k' : Kept s') (whole : LentWhole s) (lib :
       let bytes : block_bytes J page ≡ x.0.bytes = ap (block_bytes J) (sym at) ∙ ap (λ o. unwrap_or o []) (page_from J.core x.0.page x.0.bytes (core x.0.page inside) now) in
       chunk gr.blocks i x.0 z (λ y j. whole gr y g.2 j) x.3 ∙ ap (take (length (drop (4096 * i) old))) (sym bytes) in
       let none : writer_of s' n ≡ None = no_writer s s' k lib b given J e n wr in
-      let new_is : bytes_of J n r (writer_of s' n) Regular ≡ take z (flat_map (block_bytes J) pl) =
+      let new_is : data_of J n r (writer_of s' n) ≡ take z (flat_map (block_bytes J) pl) =
       ap (λ w. bytes_of_sheets (size_of J n) (blocks_of J n r w)) none
       ∙ ap (λ j. bytes_of_sheets j (blocks_of J n r None)) (size_stays n r row)
       ∙ ap (λ c. bytes_of_sheets z (block_sheets J.core c)) (chain_still I ps k.fit fitJ k.verifies (agree s s' k lib b given closed e) n r row ∙ chain_met I k.fit k.verifies n r row)
@@ -172,27 +179,31 @@ module _ (s s' : State) (k : Kept s) (k' : Kept s') (whole : LentWhole s) (lib :
   abbrev pub files : List RawFile
   files = raw_files I J b
 
+  -- the blocks that a file tells
+  abbrev tells : RawFile → List ToldBlock
+  tells f = told_blocks_of I J h f (not (covers_blocks f.kind f.guard))
+
   abbrev pub bs : List ToldBlock
-  bs = raw_blocks I J h files
+  bs = flat_map tells files
 
   file_is : (n : ℕ) (r : Row) → row_at s.home n ≡ Some r → is_told I J b n ≡ true → rf n ≡ Some (told_file J b n false r)
   file_is n r row t = ap (λ x. cond x (told_by I J b n (row_at s.home n) (row_at s.home n)) None) t ∙ ap (λ o. told_by I J b n o o) row
 
   -- what is put into the bytes of a file that is told
-  put_is : (n : ℕ) (r : Row) → row_at s.home n ≡ Some r → is_told I J b n ≡ true → r.kind ≡ Regular → 1 ≤ n → n < 1 + s.home.core.inodes → (x : List ℕ) → with_blocks n bs x ≡ with_blocks n (told_blocks I J h n 0 (block_numbers J n (row_at J n))) x
-  put_is n r row t regular low high x =
-      blocks_in rf (raw_number I J b) (λ f. told_blocks_of I J h f f.kind) (λ f m y d. own_blocks I J h f m y d) s.home.core.inodes 1 n low high x
-      ∙ ap (λ o. with_blocks n (part_of (λ f. told_blocks_of I J h f f.kind) o) x) (file_is n r row t)
-      ∙ ap (λ kind. with_blocks n (told_blocks_of I J h (told_file J b n false r) kind) x) regular
+  put_is : (n : ℕ) (r : Row) → row_at s.home n ≡ Some r → is_told I J b n ≡ true → (c : Bool) → covers_blocks r.kind (guard_of J n) ≡ c → 1 ≤ n → n < 1 + s.home.core.inodes → (x : List ℕ) → with_blocks n bs x ≡ with_blocks n (told_blocks_of I J h (told_file J b n false r) (not c)) x
+  put_is n r row t c e low high x =
+      blocks_in rf (raw_number I J b) tells (λ f m y d. own_blocks I J h f (not (covers_blocks f.kind f.guard)) m y d) s.home.core.inodes 1 n low high x
+      ∙ ap (λ o. with_blocks n (part_of tells o) x) (file_is n r row t)
+      ∙ ap (λ v. with_blocks n (told_blocks_of I J h (told_file J b n false r) (not v)) x) e
 
-  bytes_stay : (n : ℕ) (r : Row) (row : row_at s.home n ≡ Some r) → is_written b n ≡ false → bytes_of J n r (writer_of s' n) Regular ≡ bytes_of I n r (writer_of s n) Regular
+  bytes_stay : (n : ℕ) (r : Row) (row : row_at s.home n ≡ Some r) → is_written b n ≡ false → data_of J n r (writer_of s' n) ≡ data_of I n r (writer_of s n)
   bytes_stay n r row un =
       ap (λ z. bytes_of_sheets z (blocks_of J n r (writer_of s' n))) (size_stays n r row)
       ∙ ap (bytes_of_sheets (size_of I n)) (other_writer s s' k lib b given J e n un J r ∙ blocks_stay n r row un (writer_of s n))
 
-  put_bytes : (n : ℕ) (r : Row) (row : row_at s.home n ≡ Some r) (t : Bool) → is_written b n ≡ t → r.kind ≡ Regular → with_blocks n (told_blocks I J h n 0 (block_numbers J n (row_at J n))) (bytes_of I n r (writer_of s n) Regular) ≡ bytes_of J n r (writer_of s' n) Regular
-  put_bytes n r row true wr regular = written_bytes n r row wr regular
-  put_bytes n r row false un regular =
+  put_bytes : (n : ℕ) (r : Row) (row : row_at s.home n ≡ Some r) (t : Bool) → is_written b n ≡ t → covers_blocks r.kind (guard_of I n) ≡ false → with_blocks n (told_blocks I J h n 0 (block_numbers J n (row_at J n))) (data_of I n r (writer_of s n)) ≡ data_of J n r (writer_of s' n)
+  put_bytes n r row true wr bare = written_bytes n r row wr bare
+  put_bytes n r row false un bare =
       let m = met_at I k.fit k.verifies n r row in
       let none : told_blocks I J h n 0 (block_numbers J n (row_at J n)) ≡ [] =
       told_none I J h n 0 (block_numbers J n (row_at J n))
@@ -201,20 +212,70 @@ module _ (s s' : State) (k : Kept s) (k' : Kept s') (whole : LentWhole s) (lib :
       let at : slice_get m.file.chain.blocks i ≡ Some page = ap (λ l. slice_get l i) (sym (numbers_stay n r row)) ∙ get in
       let was : slice_get (block_numbers I n (row_at I n)) (0 + i) ≡ Some page = ap (λ l. slice_get l (0 + i)) (numbers_were n r row) ∙ ap (slice_get m.file.chain.blocks) zero_i ∙ at in
       same_told I J h n (0 + i) page was (size_stays n r row) ∙ clean_block s k lib h given n r row (unwritten n un) page (get_in m.file.chain.blocks i page at)) in
-      ap (λ l. with_blocks n l (bytes_of I n r (writer_of s n) Regular)) none ∙ sym (bytes_stay n r row un)
+      ap (λ l. with_blocks n l (data_of I n r (writer_of s n))) none ∙ sym (bytes_stay n r row un)
 
-  bytes_case : (n : ℕ) (r : Row) (row : row_at s.home n ≡ Some r) → is_told I J b n ≡ true → 1 ≤ n → n < 1 + s.home.core.inodes → (kind : Kind) → r.kind ≡ kind → raw_bytes bs (told_file J b n false r) kind (bytes_of I n r (writer_of s n) kind) ≡ bytes_of J n r (writer_of s' n) kind
-  bytes_case n r row t low high Directory is = refl
-  bytes_case n r row t low high Regular is =
-      ap (with_blocks n bs) (resized_same (size_of J n) (bytes_of I n r (writer_of s n) Regular) (old_long s k whole n r row ∙ sym (size_stays n r row)))
-      ∙ put_is n r row t is low high (bytes_of I n r (writer_of s n) Regular)
-      ∙ put_bytes n r row (is_written b n) refl is
+  -- the bytes of a guarded file are as they were
+  pub data_back : (n : ℕ) (r : Row) (row : row_at s.home n ≡ Some r) → guard_of I n ≡ true → is_directory r.kind ≡ false → data_of J n r (writer_of s' n) ≡ data_of I n r (writer_of s n)
+  data_back n r row guarded d = by (is_written b n) refl
+    where
+      by : (t : Bool) → is_written b n ≡ t → data_of J n r (writer_of s' n) ≡ data_of I n r (writer_of s n)
+      by false un = bytes_stay n r row un
+      by true wr =
+          let m = met_at I k.fit k.verifies n r row in
+          let z : ℕ = size_of I n in
+          let g = written_grant n r row wr in
+          let gr : OpenGrant = g.0 in
+          let p = and_parts (eqb gr.ino n) (is_write gr.kind) g.3 in
+          let kind : gr.kind ≡ Write = write_is gr.kind p.1 in
+          let t : guard_in gr.body ≡ true = ap guard_in (k.bodies gr g.2) ∙ ap (guard_of I) (eqb-true gr.ino n p.0) ∙ guarded in
+          let now : (x : Sheet) → In x gr.blocks → page_of J.core x.page ≡ Some x.bytes =
+          λ x a.
+          covered_back s s' k lib b given closed e x.page (guarded_covered s k gr x g.2 kind t a)
+          ∙ k.guarded gr g.2 kind (ap is_directory g.4 ∙ d) t x a in
+          let lent : sheet_numbers gr.blocks ≡ m.file.chain.blocks = lent_is s k whole n r row gr g.2 g.3 in
+          let new_is : data_of J n r (writer_of s' n) ≡ bytes_of_sheets z gr.blocks =
+          ap (λ w. bytes_of_sheets (size_of J n) (blocks_of J n r w)) (no_writer s s' k lib b given J e n wr)
+          ∙ ap (λ j. bytes_of_sheets j (blocks_of J n r None)) (size_stays n r row)
+          ∙ ap (λ c. bytes_of_sheets z (block_sheets J.core c)) (chain_still I ps k.fit fitJ k.verifies (agree s s' k lib b given closed e) n r row ∙ chain_met I k.fit k.verifies n r row)
+          ∙ ap (λ ns. bytes_of_sheets z (sheets_of J.core ns)) (sym lent)
+          ∙ ap (bytes_of_sheets z) (sheets_back J.core gr.blocks now) in
+          new_is ∙ sym (ap (λ w. bytes_of_sheets z (blocks_of I n r w)) g.1)
+
+  -- so are those of a guarded file of any kind
+  pub bytes_back : (n : ℕ) (r : Row) (row : row_at s.home n ≡ Some r) → guard_of I n ≡ true → bytes_of J n r (writer_of s' n) r.kind ≡ bytes_of I n r (writer_of s n) r.kind
+  bytes_back n r row guarded = by (is_directory r.kind) refl
+    where
+      by : (d : Bool) → is_directory r.kind ≡ d → cond d [] (data_of J n r (writer_of s' n)) ≡ cond d [] (data_of I n r (writer_of s n))
+      by true d = refl
+      by false d = data_back n r row guarded d
+
+  -- the told blocks in place of the old bytes, by whether the blocks are covered
+  put_case : (n : ℕ) (r : Row) (row : row_at s.home n ≡ Some r) → is_told I J b n ≡ true → 1 ≤ n → n < 1 + s.home.core.inodes → is_directory r.kind ≡ false → (c : Bool) → covers_blocks r.kind (guard_of J n) ≡ c → with_blocks n bs (data_of I n r (writer_of s n)) ≡ data_of J n r (writer_of s' n)
+  put_case n r row t low high d false e =
+      put_is n r row t false e low high (data_of I n r (writer_of s n))
+      ∙ put_bytes n r row (is_written b n) refl (ap (covers_blocks r.kind) (sym (guard_stays n r row)) ∙ e)
+  put_case n r row t low high d true e =
+      put_is n r row t true e low high (data_of I n r (writer_of s n))
+      ∙ sym (data_back n r row (sym (guard_stays n r row) ∙ covered_kind r.kind (guard_of J n) d e) d)
+
+  bytes_case : (n : ℕ) (r : Row) (row : row_at s.home n ≡ Some r) → is_told I J b n ≡ true → 1 ≤ n → n < 1 + s.home.core.inodes → raw_bytes bs (told_file J b n false r) r.kind (bytes_of I n r (writer_of s n) r.kind) ≡ bytes_of J n r (writer_of s' n) r.kind
+  bytes_case n r row t low high = by (is_directory r.kind) refl
+    where
+      by : (d : Bool) → is_directory r.kind ≡ d → cond d [] (with_blocks n bs (resized (size_of J n) (cond d [] (data_of I n r (writer_of s n))))) ≡ cond d [] (data_of J n r (writer_of s' n))
+      by true d = refl
+      by false d =
+          ap (with_blocks n bs) (resized_same (size_of J n) (data_of I n r (writer_of s n)) (old_long s k whole n r row ∙ sym (size_stays n r row)))
+          ∙ put_case n r row t low high d (covers_blocks r.kind (guard_of J n)) refl
 
   not_told : (n : ℕ) → is_told I J b n ≡ false → is_written b n ≡ false
   not_told n t = (or_parts (is_written b n) (is_among n b.holds) (or_parts (is_written b n || is_among n b.holds) (is_some (row_at J n) && not (bytes_eq (name_by I n (row_at I n)) (name_by J n (row_at J n)))) t).0).0
 
   node_case : (n : ℕ) (o : Option Row) → row_at s.home n ≡ o → 1 ≤ n → n < 1 + s.home.core.inodes → (t : Bool) → is_told I J b n ≡ t → node_by J n (writer_of s' n) o ≡ becomes bs (cond t (told_by I J b n o o) None) (node_by I n (writer_of s n) o)
-  node_case n o row low high h t = search (arith, same_node, not_told, bytes_case)
+  node_case n None row low high true t = refl
+  node_case n None row low high false t = refl
+  node_case n (Some r) row low high true t =
+      ap (λ x. Some (node_with r (guard_of J n) (name_of J n r) x)) (sym (bytes_case n r row t low high))
+  node_case n (Some r) row low high false t = ap Some (same_node n r row (not_told n t))
 
   pub node_settled : (n : ℕ) → node_in s' n ≡ node_by J n (writer_of s' n) (row_at s.home n)
   node_settled n = ap (λ (i : Image). node_by i n (writer_of s' n) (row_at i n)) e.settles

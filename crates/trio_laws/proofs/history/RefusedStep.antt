@@ -1,9 +1,10 @@
 -- A refused release extends the history.
-use Rattle.trio_laws.proofs.Words.{◌&&◌, ◌+◌, ◌∙◌, ◌∷◌, ◌≡◌, ◌⊎◌, AllByRecursion, BlocksAreKnown, Bool, Bundle, Directory, Ends, GivenTo, Handed, HandedFile, HasNameOf, HasPlaceOf, HasRightsOf, Image, In, In-list_any, IsMarked, IsWithinGrants, Kept, Kind, LentWhole, List, Node, Nodes, None, OpenGrant, Option, RawFile, Refused, Regular, Release, Row, SameContent, Some, Standing, State, ToldBlock, Why, Write, Written, [], and_from, and_parts, ap, arith, both_ways, bundle_handed, bytes_in, bytes_of, cond, count_up, creds_of, entry_in, eq-eqb, eqb, eqb-true, false, find-In, inl, inr, is_among, is_given, is_handed, is_others, is_told, is_written, length, list_any-In, list_any-map, node_at, node_by, node_of, nodes_of, not, not-true, or_left, raw_blocks, raw_entry, raw_file, raw_files, raw_nodes, refl, refused_image, row_at, settled, size_of, some_of, standing_of, stands, subst, sym, told_by, true, writer_of, ℕ}
+use Rattle.trio_laws.proofs.Words.{AllByRecursion, BlocksAreKnown, Bool, Bundle, Ends, GivenTo, Handed, HandedFile, HasNameOf, HasPlaceOf, HasRightsOf, Image, In, In-list_any, IsMarked, IsWithinGrants, Kept, LentWhole, List, Node, Nodes, None, OpenGrant, Option, RawFile, Refused, Release, Row, SameContent, Some, Standing, State, ToldBlock, Why, Write, Written, [], and_from, and_parts, ap, arith, both_ways, bundle_handed, bytes_in, bytes_of, cond, count_up, creds_of, data_of, entry_in, eq-eqb, eqb, eqb-true, false, find-In, guard_of, inl, inr, is_among, is_directory, is_given, is_handed, is_others, is_told, is_written, length, list_any-In, list_any-map, node_at, node_by, node_of, nodes_of, not, not-true, or_left, raw_entry, raw_file, raw_files, raw_nodes, refl, refused_image, row_at, settled, size_of, some_of, standing_of, stands, subst, sym, told_by, true, writer_of, ℕ, ◌&&◌, ◌+◌, ◌∙◌, ◌∷◌, ◌≡◌, ◌⊎◌, name_of}
 use Rattle.std.proofs.Common.{map, filter, find}
 use Rattle.trio_laws.proofs.Bundles.{Closed}
 use Rattle.trio_laws.proofs.StateFacts.{alone}
-use Rattle.trio_nodes.specs.Legal.{LegalVerdict}
+use Rattle.std.specs.Prelude.{MatchOption}
+use Rattle.trio_nodes.specs.Legal.{HasAllButBytesOf, LegalVerdict}
 use Rattle.trio_laws.specs.history.Entries.{refused_for}
 use Rattle.trio_laws.proofs.history.Extends.{Makes, past_is}
 use Rattle.trio_laws.proofs.history.Facts.{node_is}
@@ -11,7 +12,8 @@ use Rattle.trio_laws.proofs.history.OldBytes.{old_long}
 use Rattle.trio_laws.proofs.history.RawGiven.{given_grant, given_is, grants_end, handed_is, files_from}
 use Rattle.trio_laws.proofs.history.RawParts.{raw_number}
 use Rattle.trio_laws.proofs.history.ToldFiles.{tells_these}
-use Rattle.trio_laws.proofs.history.RefusedNodes.{name_stays, size_stays, same_node, node_settled, refused_nodes}
+use Rattle.trio_laws.proofs.history.RefusedNodes.{bs, bytes_back, guard_stays, name_stays, size_stays, same_node, node_settled, refused_nodes}
+use Rattle.trio_laws.proofs.history.Still.{node_with}
 
 -- what holds of each of the files
 all_files : (P : RawFile → Type 0) (xs : List RawFile) → ((f : RawFile) → In f xs → P f) → AllByRecursion P xs
@@ -35,7 +37,7 @@ module _ (s s' : State) (k : Kept s) (k' : Kept s') (whole : LentWhole s) (whole
   these = raw_files image after b
 
   abbrev blocks : List ToldBlock
-  blocks = raw_blocks image after h these
+  blocks = bs s s' k k' whole lib h given closed e marked
 
   abbrev gs : List Standing
   gs = map standing_of s.open_grants
@@ -123,15 +125,37 @@ module _ (s s' : State) (k : Kept s) (k' : Kept s') (whole : LentWhole s) (whole
 
   -- ---- bytes
 
-  length_was : (n : ℕ) (r : Row) → row_at s.home n ≡ Some r → (kind : Kind) → kind ≡ Regular → length (bytes_of image n r (writer_of s n) kind) ≡ size_of after n
-  length_was n r row Regular t = old_long s k whole n r row ∙ sym (size_stays s s' k k' whole lib h given closed e marked n r row)
-  length_was n r row Directory t = absurd cc
+  length_was : (n : ℕ) (r : Row) → row_at s.home n ≡ Some r → length (data_of image n r (writer_of s n)) ≡ size_of after n
+  length_was n r row = old_long s k whole n r row ∙ sym (size_stays s s' k k' whole lib h given closed e marked n r row)
 
-  length_same : (n : ℕ) (r : Row) → row_at s.home n ≡ Some r → (kind : Kind) → length (bytes_of after n r (writer_of s' n) kind) ≡ length (bytes_of image n r (writer_of s n) kind)
-  length_same n r row kind = search (arith, old_long, length_was)
+  length_now : (n : ℕ) (r : Row) → row_at s.home n ≡ Some r → length (data_of after n r (writer_of s' n)) ≡ size_of after n
+  length_now n r row =
+      let row' : row_at s'.home n ≡ Some r = ap (λ (i : Image). row_at i n) e.settles ∙ row in
+      ap (λ (i : Image). length (data_of i n r (writer_of s' n))) (sym e.settles) ∙ old_long s' k' whole' n r row' ∙ ap (λ (i : Image). size_of i n) e.settles
+
+  length_same : (n : ℕ) (r : Row) → row_at s.home n ≡ Some r → length (bytes_of after n r (writer_of s' n) r.kind) ≡ length (bytes_of image n r (writer_of s n) r.kind)
+  length_same n r row = by (is_directory r.kind)
+    where
+      by : (d : Bool) → length (cond d [] (data_of after n r (writer_of s' n))) ≡ length (cond d [] (data_of image n r (writer_of s n)))
+      by true = refl
+      by false = length_now n r row ∙ sym (length_was n r row)
+
+  bare_same : (n : ℕ) (r : Row) → row_at s.home n ≡ Some r → record (node_of after n (writer_of s' n) r) { bytes = [] } ≡ record (node_of image n (writer_of s n) r) { bytes = [] }
+  bare_same n r row =
+      ap (λ l. node_with r (guard_of after n) l []) (name_stays s s' k k' whole lib h given closed e marked n r row)
+      ∙ ap (λ g. node_with r g (name_of image n r) []) (guard_stays s s' k k' whole lib h given closed e marked n r row)
+
+  -- a node keeps all but bytes, and these too where it is guarded
+  judged_by : (n : ℕ) (o : Option Row) → row_at s.home n ≡ o → MatchOption (node_by image n (writer_of s n) o) (node_by after n (writer_of s' n) o ≡ None) (λ x. HasAllButBytesOf x (node_by after n (writer_of s' n) o))
+  judged_by n None row = refl
+  judged_by n (Some r) row =
+      (bare_same n r row, length_same n r row, λ guarded. bytes_back s s' k k' whole lib h given closed e marked n r row guarded)
 
   judged : (why : Why) → LegalVerdict (refused_for why) (nodes_of s) (nodes_of s')
-  judged why n = search (arith, name_stays, length_same, was, is)
+  judged why n =
+      let M : Option Node → Option Node → Type 0 = λ x y. MatchOption x (y ≡ None) (λ z. HasAllButBytesOf z y) in
+      subst (λ x. M x (node_at (nodes_of s') n)) (sym (was n))
+      (subst (λ y. M (node_by image n (writer_of s n) (row_at s.home n)) y) (sym (is n)) (judged_by n (row_at s.home n) refl))
 
   -- a file of the entry, by its row
   record Filed (m : ℕ) (f : RawFile) : Type 0 where
@@ -143,13 +167,15 @@ module _ (s s' : State) (k : Kept s) (k' : Kept s') (whole : LentWhole s) (whole
   filed : (m : ℕ) (f : RawFile) (t : Bool) (o : Option Row) → row_at s.home m ≡ o → cond t (told_by image after b m o o) None ≡ Some f → Filed m f
   filed m f t o row q = search arith
 
-  long_enough : (f : RawFile) → In f these → f.kind ≡ Regular → f.size ≡ length (bytes_in (node_at (nodes_of s) f.ino))
-  long_enough f i regular =
+  long_enough : (f : RawFile) → In f these → is_directory f.kind ≡ false → f.size ≡ length (bytes_in (node_at (nodes_of s) f.ino))
+  long_enough f i plain' =
       let q = files_from (raw_file image after b) (count_up 1 s.home.core.inodes) f i in
       let number : f.ino ≡ q.0 = raw_number image after b q.0 f q.1 in
       let r = filed q.0 f (is_told image after b q.0) (row_at s.home q.0) refl q.1 in
       let bytes : bytes_in (node_at (nodes_of s) q.0) ≡ bytes_of image q.0 r.row (writer_of s q.0) r.row.kind = ap bytes_in (was q.0 ∙ ap (node_by image q.0 (writer_of s q.0)) r.at) in
-      search (arith, length_was)
+      let kind : is_directory r.row.kind ≡ false = ap is_directory (sym r.kind) ∙ plain' in
+      let held : bytes_of image q.0 r.row (writer_of s q.0) r.row.kind ≡ data_of image q.0 r.row (writer_of s q.0) = ap (λ t. cond t [] (data_of image q.0 r.row (writer_of s q.0))) kind in
+      r.size ∙ sym (length_was q.0 r.row r.at) ∙ ap length (sym held) ∙ ap length (sym bytes) ∙ ap (λ j. length (bytes_in (node_at (nodes_of s) j))) (sym number)
 
   known : AllByRecursion (λ f. BlocksAreKnown blocks f (node_at (nodes_of s) f.ino)) these
   known = all_files (λ f. BlocksAreKnown blocks f (node_at (nodes_of s) f.ino)) these (λ f i at regular inside. inr (let z = long_enough f i regular in omega (arith, z)))

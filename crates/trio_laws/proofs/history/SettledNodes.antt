@@ -1,5 +1,5 @@
 -- Where no write grant is open a state stands for the nodes of its settled image.
-use Rattle.trio_laws.proofs.Words.{◌&&◌, ◌+◌, ◌<◌, ◌∙◌, ◌∷◌, ◌≡◌, Core, Directory, GrantKind, Image, In, Kept, Kind, Met, Node, None, OpenGrant, Option, Regular, Row, Some, State, Write, [], ap, arith, block_sheets, body_of, body_of_row, bytes_of, bytes_of_sheets, cases_eq, cond, eqb, false, get_or, inl, inr, is_write, leb, length, ltb, name_of, node_by, node_in, one_met, option_map, option_map_or, page_of, plain, reads_from, refl, root_is_met, root_of, row_at, row_in, row_of, settled, sheets_of, size_of, slot_bytes, slot_of, survey, sym, tabulated, tabulated-length, tabulated-same, take, writer_of, ℕ}
+use Rattle.trio_laws.proofs.Words.{Core, GrantKind, Image, In, Kept, Met, Node, None, OpenGrant, Option, Row, Some, State, Write, [], ap, arith, block_sheets, body_of, body_of_row, bytes_of, bytes_of_sheets, cases_eq, cond, data_of, eqb, false, get_or, guard_in, guard_of, inl, inr, is_directory, is_write, leb, length, ltb, name_of, node_by, node_in, one_met, option_map, option_map_or, page_of, plain, reads_from, refl, root_is_met, root_of, row_at, row_in, row_of, settled, sheets_of, size_of, slot_bytes, slot_of, survey, sym, tabulated, tabulated-length, tabulated-same, take, writer_of, ℕ, ◌&&◌, ◌+◌, ◌<◌, ◌∙◌, ◌∷◌, ◌≡◌, node_of}
 use Rattle.std.proofs.lemmas.Bool.{lt-leb}
 use Rattle.trio_lists.proofs.Marked.{and-false}
 use Rattle.trio_page.specs.Field.{number_at}
@@ -12,6 +12,7 @@ use Rattle.trio_laws.proofs.history.Facts.{find_none}
 use Rattle.trio_laws.proofs.history.Follows.{size_read}
 use Rattle.trio_laws.proofs.history.Listing.{body_met, chain_met, listing, met_at, name_listed}
 use Rattle.trio_laws.proofs.history.ModeNodes.{name_root}
+use Rattle.trio_laws.proofs.history.Still.{node_with}
 
 unwritten : (t : GrantKind) → (t ≡ Write → ⊥) → is_write t ≡ false
 unwritten t n = search arith
@@ -49,21 +50,30 @@ module _ (s : State) (k : Kept s) (none : (g : OpenGrant) → In g s.open_grants
   pub body_is : (n : ℕ) (r : Row) (row : row_at image n ≡ Some r) → body_of_row core n r ≡ (met_at image k.fit k.verifies n r row).met.body
   body_is n r row = ap (λ o. cond (eqb n 1) core.root (body_by_row core o)) (sym row) ∙ body_met image k.fit k.verifies n r row
 
-  content_is : (n : ℕ) (r : Row) (row : row_at image n ≡ Some r) (t : Kind) → r.kind ≡ t → content_of core t (body_of_row core n r) ≡ bytes_of image n r None t
-  content_is n r row Directory e = refl
-  content_is n r row Regular e =
+  pub guard_is : (n : ℕ) (r : Row) (row : row_at image n ≡ Some r) → guard_in (body_of_row core n r) ≡ guard_of image n
+  guard_is n r row = ap (λ o. guard_in (cond (eqb n 1) core.root (body_by_row core o))) (sym row)
+
+  data_is : (n : ℕ) (r : Row) (row : row_at image n ≡ Some r) → body_content core (body_of r.kind core.range (body_of_row core n r)) ≡ data_of image n r None
+  data_is n r row =
       let m = met_at image k.fit k.verifies n r row in
       let f = reads_from core m.met m.file m.read in
-      let kind : m.met.kind ≡ Regular = sym (ap (λ (x : Row). x.kind) m.row) ∙ e in
-      let body : body_of Regular core.range (body_of_row core n r) ≡ Some m.file.body = ap (body_of Regular core.range) (body_is n r row) ∙ ap (λ t. body_of t core.range m.met.body) (sym kind) ∙ f.body in
+      let body : body_of r.kind core.range (body_of_row core n r) ≡ Some m.file.body = ap (body_of r.kind core.range) (body_is n r row) ∙ ap (λ t. body_of t core.range m.met.body) (ap (λ (x : Row). x.kind) m.row) ∙ f.body in
       let size : size_of image n ≡ m.file.body.size = ap (size_of image) (sym m.number) ∙ size_read image k.fit k.verifies m.met m.file m.stands m.read r (ap (row_at image) m.number ∙ row) in
       ap (body_content core) body
       ∙ ap (λ c. take m.file.body.size (chain_bytes core c)) f.chain
       ∙ ap (take m.file.body.size) (sym (flat_sheets image m.file.chain.blocks))
       ∙ sym (ap (λ c. bytes_of_sheets (size_of image n) (block_sheets core c)) (chain_met image k.fit k.verifies n r row) ∙ ap (λ z. bytes_of_sheets z (sheets_of core m.file.chain.blocks)) size)
 
+  content_is : (n : ℕ) (r : Row) (row : row_at image n ≡ Some r) → content_of core r.kind (body_of_row core n r) ≡ bytes_of image n r None r.kind
+  content_is n r row = ap (λ l. cond (is_directory r.kind) [] l) (data_is n r row)
+
   one : (n : ℕ) (o : Option Row) → row_at image n ≡ o → option_map (node_by_row core n) o ≡ node_by image n (writer_of s n) o
-  one n o row = search (arith, name_is, content_is, unwriting)
+  one n None row = refl
+  one n (Some r) row =
+      ap (λ l. Some (node_with r (guard_in (body_of_row core n r)) l (content_of core r.kind (body_of_row core n r)))) (name_is n r row)
+      ∙ ap (λ g. Some (node_with r g (name_of image n r) (content_of core r.kind (body_of_row core n r)))) (guard_is n r row)
+      ∙ ap (λ l. Some (node_with r (guard_of image n) (name_of image n r) l)) (content_is n r row)
+      ∙ ap (λ w. Some (node_of image n w r)) (sym (unwriting n))
 
 pub settled_nodes : SettledNodes
 settled_nodes s k none first =

@@ -1,24 +1,47 @@
--- An image with other pages, of which all that are read are the same, has the same nodes, where the blocks of regular files are the same.
-use Rattle.trio_laws.proofs.Words.{◌∙◌, ◌∷◌, ◌≡◌, AgreeOn, Bool, Core, FileRead, Image, In, IsFit, Kind, List, Node, None, Ok, OpenGrant, Option, Pages, Regular, Row, Sheet, Some, Verifies, [], ap, arith, blocks_of, body_at, bytes_of, cond, cons_option, eq-eqb, eqb, false, file_agrees, file_of, inl, inr, name_in, name_of, node_of, one_met, option_map, option_map_or, page_of, plain, refl, row_at, settled_chain, sheets_of, size_of, sound_parts, survey, sym, true, with_other, ℕ}
+-- An image with other pages, of which all that are read are the same, has the same nodes, where the blocks of what is no directory are the same.
+use Rattle.trio_laws.proofs.Words.{AgreeOn, Bool, Core, FileRead, Image, In, IsFit, Kind, List, Node, None, Ok, OpenGrant, Option, Pages, Row, Sheet, Some, Verifies, [], ap, arith, blocks_of, body_at, bytes_of, bytes_of_sheets, cond, cons_option, data_of, eq-eqb, eqb, false, file_agrees, file_of, guard_in, guard_of, inl, inr, is_directory, name_in, name_of, node_of, one_met, option_map, option_map_or, page_of, plain, refl, row_at, settled_chain, sheet_numbers, sheets_of, size_of, sound_parts, survey, sym, true, with_other, ℕ, ◌∙◌, ◌∷◌, ◌≡◌}
 use Rattle.trio_laws.proofs.Agreeing.{image_with, verifies_still, met_still, body_still}
 use Rattle.trio_laws.proofs.history.Listing.{met_at, chain_met, listing, block_read}
 
--- a node with this name and these bytes
-abbrev pub node_with : Row → List ℕ → List ℕ → Node
-node_with r name bytes = record { parent = r.parent; name = name; kind = r.kind; mode = r.mode; uid = r.uid; gid = r.gid; bytes = bytes }
+-- a node with this guard, this name and these bytes
+abbrev pub node_with : Row → Bool → List ℕ → List ℕ → Node
+node_with r guarded name bytes = record {
+  parent = r.parent;
+  name = name;
+  kind = r.kind;
+  mode = r.mode;
+  uid = r.uid;
+  gid = r.gid;
+  guard = guarded;
+  bytes = bytes;
+}
 
-pub bytes_by : (image image' : Image) (n : ℕ) (r : Row) (w w' : Option OpenGrant) (kind : Kind) → size_of image' n ≡ size_of image n → (kind ≡ Regular → blocks_of image' n r w' ≡ blocks_of image n r w) → bytes_of image' n r w' kind ≡ bytes_of image n r w kind
-bytes_by image image' n r w w' kind size blocks = search arith
+pub bytes_by : (image image' : Image) (n : ℕ) (r : Row) (w w' : Option OpenGrant) (kind : Kind) → size_of image' n ≡ size_of image n → (is_directory kind ≡ false → blocks_of image' n r w' ≡ blocks_of image n r w) → bytes_of image' n r w' kind ≡ bytes_of image n r w kind
+bytes_by image image' n r w w' kind size blocks = by (is_directory kind) refl
+  where
+    by : (t : Bool) → is_directory kind ≡ t → cond t [] (data_of image' n r w') ≡ cond t [] (data_of image n r w)
+    by true e = refl
+    by false e = ap (λ z. bytes_of_sheets z (blocks_of image' n r w')) size ∙ ap (bytes_of_sheets (size_of image n)) (blocks e)
 
--- nodes with one name, size and blocks are one
-pub node_same : (image image' : Image) (n : ℕ) (r : Row) (w w' : Option OpenGrant) → name_of image' n r ≡ name_of image n r → size_of image' n ≡ size_of image n → (r.kind ≡ Regular → blocks_of image' n r w' ≡ blocks_of image n r w) → node_of image' n w' r ≡ node_of image n w r
-node_same image image' n r w w' name size blocks = search (arith, bytes_by)
+-- nodes with one name, size, guard and blocks are one
+pub node_same : (image image' : Image) (n : ℕ) (r : Row) (w w' : Option OpenGrant) → name_of image' n r ≡ name_of image n r → size_of image' n ≡ size_of image n → guard_of image' n ≡ guard_of image n → (is_directory r.kind ≡ false → blocks_of image' n r w' ≡ blocks_of image n r w) → node_of image' n w' r ≡ node_of image n w r
+node_same image image' n r w w' name size guard blocks =
+    ap (λ l. node_with r (guard_of image' n) l (bytes_of image' n r w' r.kind)) name
+    ∙ ap (λ g. node_with r g (name_of image n r) (bytes_of image' n r w' r.kind)) guard
+    ∙ ap (node_with r (guard_of image n) (name_of image n r)) (bytes_by image image' n r w w' r.kind size blocks)
 
 pub sheets_same : (core other : Core) (ps : List ℕ) → ((p : ℕ) → In p ps → page_of other p ≡ page_of core p) → sheets_of other ps ≡ sheets_of core ps
 sheets_same core other [] h = refl
 sheets_same core other (p ∷ ps) h =
     let K : Option (List ℕ) → List Sheet → List Sheet = λ o l. cons_option (option_map (λ bytes. record { page = p; bytes = bytes }) o) l in
     ap (λ o. K o (sheets_of other ps)) (h p (inl refl)) ∙ ap (K (page_of core p)) (sheets_same core other ps (λ q i. h q (inr i)))
+
+-- sheets whose bytes are in a core are those of their numbers
+pub sheets_back : (core : Core) (xs : List Sheet) → ((x : Sheet) → In x xs → page_of core x.page ≡ Some x.bytes) → sheets_of core (sheet_numbers xs) ≡ xs
+sheets_back core [] h = refl
+sheets_back core (x ∷ xs) h =
+    ap (λ o. cons_option (option_map (λ bytes. record { page = x.page; bytes = bytes }) o) (sheets_of core (sheet_numbers xs))) (h x (inl refl))
+    ∙ ap (λ l. x ∷ l) (sheets_back core xs (λ y i. h y (inr i)))
 
 name_cond : (b : Bool) (slot : ℕ) (o o' : Option (List ℕ)) → (b ≡ false → o' ≡ o) → cond b (45 ∷ []) (option_map_or (name_in slot) o' []) ≡ cond b (45 ∷ []) (option_map_or (name_in slot) o [])
 name_cond true slot o o' h = refl
@@ -35,6 +58,9 @@ module _ (image : Image) (pages : Pages) (fit : IsFit image.core) (fit' : IsFit 
 
   pub size_still : (n : ℕ) (r : Row) → row_at image n ≡ Some r → size_of (image_with image pages) n ≡ size_of image n
   size_still n r e = ap (λ b. (body_at b).size) (body_still image pages fit fit' v agree n r e)
+
+  pub guard_still : (n : ℕ) (r : Row) → row_at image n ≡ Some r → guard_of (image_with image pages) n ≡ guard_of image n
+  guard_still n r e = ap guard_in (body_still image pages fit fit' v agree n r e)
 
   -- the chain is the same
   pub chain_still : (n : ℕ) (r : Row) → row_at image n ≡ Some r → settled_chain (image_with image pages) r.kind n ≡ settled_chain image r.kind n

@@ -1,5 +1,5 @@
 -- The rows that a case copies are all that I1, I2, I4 and the listing look at.
-use Rattle.trio_laws.proofs.Words.{◌&&◌, ◌<◌, ◌||◌, ◌∙◌, ◌∷◌, ◌≡◌, ◌⊎◌, Bool, Bundle, Case, Core, Err, FileRead, In, In-is_among, IsJudgeable, Kind, List, Listed, Location, Met, None, Ok, Option, Result, Row, SlotRead, Some, State, Written, [], ap, arith, below_from, body_in_slot, both_ways, bundle_core, case_of, cases_Bool, cases_lt, child_parent, children_in, cond, creds_of, entries_in, entries_where, entries_within, entry_keeps_rights, file_keeps_rights, file_within, flat_map, fronts, gathered_from, get_or_past, inl, inr, is_among, is_among-In, is_kept, is_ok, is_place_of, is_written, judged_entries, list_all, listed_at, listing, map, map-In, meets_grammar, meets_owning, meets_rights, met_cases, met_in, new_entries, numbers, or_left, or_right, place_parts, plain, read_met, refl, result_then-Ok, row_at, row_in, settled, slot_bytes, slot_entries, slot_of, sorted_by, sorted_in, subst, suc, sym, tabulated-get, tabulated-past, true, unless_repeated, with_copied, within_from, written_at, written_files, written_met, ℕ}
+use Rattle.trio_laws.proofs.Words.{◌&&◌, ◌<◌, ◌||◌, ◌∙◌, ◌∷◌, ◌≡◌, ◌⊎◌, Bool, Bundle, Case, Core, Err, FileRead, In, In-is_among, IsJudgeable, Kind, List, Listed, Location, Met, None, Ok, Option, Result, Row, SlotRead, Some, State, Written, [], ap, arith, below_from, body_in_slot, both_ways, bundle_core, case_of, cases_Bool, cases_lt, child_parent, children_in, cond, creds_of, entries_in, entries_where, entries_within, entry_keeps_rights, file_keeps_rights, file_within, flat_map, fronts, gathered_from, get_or_past, inl, inr, is_among, is_among-In, is_kept, is_ok, is_place_of, is_written, judged_entries, list_all, listed_at, listing, map, map-In, meets_grammar, meets_owning, meets_rights, met_cases, met_in, new_entries, or_left, or_right, place_parts, plain, read_met, refl, result_then-Ok, row_at, row_in, settled, slot_bytes, slot_entries, slot_of, sorted_by, sorted_in, subst, suc, sym, tabulated-get, tabulated-past, true, unless_repeated, with_copied, within_from, written_at, written_files, written_met, ℕ}
 use Rattle.trio_layout.specs.Copied.{copied_row, copied_rows, is_copied}
 use Rattle.trio_layout.specs.Entries.{entries_on}
 use Rattle.trio_layout.specs.JudgedFiles.{judged_files}

@@ -112,7 +112,10 @@ module _ (s : State) (lib : ℕ) (b : Bundle) (j : IsJudgeable s lib b) (acc : i
               | inr rest ↦
                   elim rest [
                     | inr new ↦ or_right (is_kept c e || is_among e.ino b.holds) (is_among e.ino b.numbers) (In-is_among e.ino b.numbers new.0)
-                    | inl live ↦ search (arith, unheld_at, both_ways, place_from)
+                    | inl live ↦
+                        let f = unheld_at s lib b j acc e live.1 m live.2 live.0 in
+                        absurd (both_ways (is_kept c e) free
+                        (place_from e.parent e.page e.slot (row_at (settled s) e.ino) live.1 live.2 (ap (λ (x : Row). x.parent) f.2) (ap (λ (x : Row). x.page) f.2) (ap (λ (x : Row). x.slot) f.2)))
                   ]
             ]
       ]

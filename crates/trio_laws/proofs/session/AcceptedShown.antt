@@ -1,5 +1,5 @@
 -- What an accepted bundle makes of the nodes is just what it shows.
-use Rattle.trio_laws.proofs.Words.{◌∙◌, ◌≡◌, Body, Bool, Bundle, Case, Core, Ends, Image, In, In-is_among, IsFit, IsJudgeable, Kept, List, Met, Naming, Node, None, Option, Pick, Row, Some, State, [], ap, arith, body_at, both_ways, bytes_now, case_of, cases_Bool, cond, creds_of, false, inl, inr, is_accepted, is_among, is_among-In, is_among-not, is_place_of, is_sound, kept_body, made_by, met_row, name_of, naming_of, next, node_at, node_by, node_left, node_now, node_of, nodes_of, option_map, placed, proposed, proposed_pick, reads_from, refl, row_at, row_at_is, row_by, row_met, row_of, settled, some_one, subst, survey, sym, true, with_bytes, writer_of, ℕ}
+use Rattle.trio_laws.proofs.Words.{◌∙◌, ◌≡◌, Body, Bool, Bundle, Case, Core, Ends, Image, In, In-is_among, IsFit, IsJudgeable, Kept, List, Met, Naming, Node, None, Option, Pick, Row, Some, State, [], ap, arith, body_at, both_ways, bytes_now, case_of, cases_Bool, cond, creds_of, false, inl, inr, is_accepted, is_among, is_among-In, is_among-not, is_place_of, is_sound, kept_body, made_by, met_row, name_of, naming_of, next, node_at, node_by, node_left, node_now, node_of, nodes_of, option_map, placed, proposed, proposed_pick, reads_from, refl, row_at, row_at_is, row_by, row_met, row_of, settled, some_one, subst, survey, sym, true, writer_of, ℕ, guard_now, with_judged}
 use Rattle.trio_laws.specs.session.Settles.{AcceptedIsShown}
 use Rattle.trio_laws.proofs.Accepting.{accepted_kept}
 use Rattle.trio_laws.proofs.Bundles.{closed_unparted}
@@ -8,16 +8,18 @@ use Rattle.trio_laws.proofs.history.Facts.{node_is}
 use Rattle.trio_laws.proofs.history.Follows.{body_is_at}
 use Rattle.trio_laws.proofs.judgement.MeetingEdges.{met_side, same_file}
 use Rattle.trio_laws.proofs.judgement.Taking.{fit, sound}
-use Rattle.trio_laws.proofs.session.AcceptedBytes.{bytes_after, judged_bytes, live_bytes}
+use Rattle.trio_laws.proofs.session.AcceptedBytes.{bytes_after, judged_bytes, live_bytes, guard_after, judged_guard, live_guard}
 use Rattle.trio_laws.proofs.session.AcceptedNames.{row_then, named_then, unnamed_then, left_row}
 
-node_same : (x y : Node) → x.parent ≡ y.parent → x.name ≡ y.name → x.kind ≡ y.kind → x.mode ≡ y.mode → x.uid ≡ y.uid → x.gid ≡ y.gid → x.bytes ≡ y.bytes → x ≡ y
-node_same x y parent name kind mode uid gid bytes = search arith
+node_same : (x y : Node) → x.parent ≡ y.parent → x.name ≡ y.name → x.kind ≡ y.kind → x.mode ≡ y.mode → x.uid ≡ y.uid → x.gid ≡ y.gid → x.guard ≡ y.guard → x.bytes ≡ y.bytes → x ≡ y
+node_same x y parent name kind mode uid gid guard bytes = search arith
 
--- a node, once its bytes are replaced
-with_is : (o : Option (List ℕ)) (x y : Node) → y.parent ≡ x.parent → y.name ≡ x.name → y.kind ≡ x.kind → y.mode ≡ x.mode → y.uid ≡ x.uid → y.gid ≡ x.gid → y.bytes ≡ bytes_after o x.bytes → y ≡ with_bytes o x
-with_is None x y a b c d e f g = node_same y x a b c d e f g
-with_is (Some bytes) x y a b c d e f g = node_same y (record x { bytes = bytes }) a b c d e f g
+-- a node, once its bytes and its guard are replaced
+with_is : (o : Option (List ℕ)) (q : Option Bool) (x y : Node) → y.parent ≡ x.parent → y.name ≡ x.name → y.kind ≡ x.kind → y.mode ≡ x.mode → y.uid ≡ x.uid → y.gid ≡ x.gid → y.guard ≡ guard_after q x.guard → y.bytes ≡ bytes_after o x.bytes → y ≡ with_judged o q x
+with_is None None x y a b c d e f g h = node_same y x a b c d e f g h
+with_is None (Some guarded) x y a b c d e f g h = node_same y (record x { guard = guarded }) a b c d e f g h
+with_is (Some bytes) None x y a b c d e f g h = node_same y (record x { bytes = bytes }) a b c d e f g h
+with_is (Some bytes) (Some guarded) x y a b c d e f g h = node_same y (record x { bytes = bytes; guard = guarded }) a b c d e f g h
 
 module _ (s s' : State) (lib : ℕ) (b : Bundle) (j : IsJudgeable s lib b) (acc : is_accepted (settled s) (creds_of s lib) b ≡ true) (ends : Ends s lib b (next (settled s) b) s') where
   abbrev c : Case
@@ -57,7 +59,7 @@ module _ (s s' : State) (lib : ℕ) (b : Bundle) (j : IsJudgeable s lib b) (acc 
 
   -- what the bundle shows of a number, by the entry that names it and its row before
   abbrev shown : ℕ → Option Naming → Option Row → Option Node
-  shown n o p = option_map (with_bytes (bytes_now c n)) (node_left c n o (before n p))
+  shown n o p = option_map (with_judged (bytes_now c n) (guard_now c n)) (node_left c n o (before n p))
 
   -- ---- a number that has a file then
 
@@ -81,8 +83,9 @@ module _ (s s' : State) (lib : ℕ) (b : Bundle) (j : IsJudgeable s lib b) (acc 
           let rights = met_rights m.ino r (row_by m f.body) now p in
           let x : Node = placed e (node_of (settled s) m.ino (writer_of s m.ino) r) in
           let y : Node = node_of after m.ino (writer_of s' m.ino) (row_by m f.body) in
-          let is : y ≡ with_bytes (bytes_now c m.ino) x =
-          with_is (bytes_now c m.ino) x y (ap (λ (z : Met). z.parent) (sym same) ∙ T.parent) (ap (name_of after m.ino) rows ∙ T.name) rights.0 rights.1 rights.2 rights.3
+          let is : y ≡ with_judged (bytes_now c m.ino) (guard_now c m.ino) x =
+          with_is (bytes_now c m.ino) (guard_now c m.ino) x y (ap (λ (z : Met). z.parent) (sym same) ∙ T.parent) (ap (name_of after m.ino) rows ∙ T.name) rights.0 rights.1 rights.2 rights.3
+          (live_guard s s' lib b j acc ends m (row_by m f.body) i row)
           (live_bytes s s' lib b j acc ends m r (row_by m f.body) i p row refl (sym rights.0)) in
           ap (λ z. Some z) is ∙ sym (ap (λ q. shown m.ino q (row_at (settled s) m.ino)) h ∙ ap (shown m.ino (Some e)) p)
       by (Some e) None h p =
@@ -97,9 +100,13 @@ module _ (s s' : State) (lib : ℕ) (b : Bundle) (j : IsJudgeable s lib b) (acc 
           sym (body_is_at m.kind core.range m.body f.body (reads_from core m f (row_then s lib b j acc m i).1).body) ∙ ap body_at slot in
           let x : Node = made_by e in
           let y : Node = node_of after m.ino (writer_of s' m.ino) (row_by m f.body) in
-          let is : y ≡ with_bytes (bytes_now c m.ino) x =
-          with_is (bytes_now c m.ino) x y (ap (λ (z : Met). z.parent) (sym same) ∙ T.parent) (ap (name_of after m.ino) rows ∙ T.name)
+          let is : y ≡ with_judged (bytes_now c m.ino) (guard_now c m.ino) x =
+          with_is (bytes_now c m.ino) (guard_now c m.ino) x y (ap (λ (z : Met). z.parent) (sym same) ∙ T.parent) (ap (name_of after m.ino) rows ∙ T.name)
           (ap (λ (z : Met). z.kind) (sym same) ∙ T.kind) (ap (λ (z : Body). z.mode) body) (ap (λ (z : Body). z.uid) body) (ap (λ (z : Body). z.gid) body)
+          (elim (met_side s lib b j acc m i) [
+            | inl k ↦ judged_guard s s' lib b j acc ends m k (row_by m f.body) row x.guard
+            | inr o ↦ (let wrong : None ≡ Some o.row = sym p ∙ o.is_row in absurd (cc wrong))
+          ])
           (elim (met_side s lib b j acc m i) [
             | inl k ↦ judged_bytes s s' lib b j acc ends m k (row_by m f.body) row refl [] (λ d. refl)
             | inr o ↦ (let wrong : None ≡ Some o.row = sym p ∙ o.is_row in absurd (cc wrong))
@@ -115,22 +122,23 @@ module _ (s s' : State) (lib : ℕ) (b : Bundle) (j : IsJudgeable s lib b) (acc 
           let y : Node = node_of after m.ino (writer_of s' m.ino) (row_by m f.body) in
           let name : name_of after m.ino (row_by m f.body) ≡ name_of (settled s) m.ino r =
           U.name (row_by m f.body) row (rows ∙ sym same) ∙ ap (name_of (settled s) m.ino) same in
-          let is : y ≡ with_bytes (bytes_now c m.ino) x =
-          with_is (bytes_now c m.ino) x y (ap (λ (z : Row). z.parent) rows) name
+          let is : y ≡ with_judged (bytes_now c m.ino) (guard_now c m.ino) x =
+          with_is (bytes_now c m.ino) (guard_now c m.ino) x y (ap (λ (z : Row). z.parent) rows) name
           (ap (λ (z : Row). z.kind) rows) (ap (λ (z : Row). z.mode) rows) (ap (λ (z : Row). z.uid) rows) (ap (λ (z : Row). z.gid) rows)
+          (live_guard s s' lib b j acc ends m (row_by m f.body) i row)
           (live_bytes s s' lib b j acc ends m r (row_by m f.body) i p row refl (sym (ap (λ (z : Row). z.kind) rows))) in
           let free : is_among m.ino b.holds ≡ false = is_among-not m.ino b.holds U.unheld in
           ap (λ z. Some z) is
           ∙ sym (ap (λ q. shown m.ino q (row_at (settled s) m.ino)) h
-          ∙ ap (λ t. option_map (with_bytes (bytes_now c m.ino)) (cond t None (before m.ino (row_at (settled s) m.ino)))) free
-          ∙ ap (λ q. option_map (with_bytes (bytes_now c m.ino)) (before m.ino q)) p)
+          ∙ ap (λ t. option_map (with_judged (bytes_now c m.ino) (guard_now c m.ino)) (cond t None (before m.ino (row_at (settled s) m.ino)))) free
+          ∙ ap (λ q. option_map (with_judged (bytes_now c m.ino) (guard_now c m.ino)) (before m.ino q)) p)
 
   -- ---- a number that has none
 
   shown_unmet : (n : ℕ) → row_at after n ≡ None → None ≡ node_now c n (before n (row_at (settled s) n))
   shown_unmet n row = by (naming_of c n) (row_at (settled s) n) refl refl
     where
-      gone : (t : Bool) → option_map (with_bytes (bytes_now c n)) (cond {A = Option Node} t None None) ≡ None
+      gone : (t : Bool) → option_map (with_judged (bytes_now c n) (guard_now c n)) (cond {A = Option Node} t None None) ≡ None
       gone true = refl
       gone false = refl
 
@@ -143,7 +151,7 @@ module _ (s s' : State) (lib : ℕ) (b : Bundle) (j : IsJudgeable s lib b) (acc 
           elim (cases_Bool (is_among n b.holds)) [
             | inl y ↦
                 sym (ap (λ z. shown n z (row_at (settled s) n)) h
-                ∙ ap (λ t. option_map (with_bytes (bytes_now c n)) (cond t None (before n (row_at (settled s) n)))) y)
+                ∙ ap (λ t. option_map (with_judged (bytes_now c n) (guard_now c n)) (cond t None (before n (row_at (settled s) n)))) y)
             | inr no' ↦
                 let stays = left_row s lib b j acc n r q (λ k. both_ways (is_among n b.holds) no' (In-is_among n b.holds k)) in
                 let wrong : None ≡ Some r = sym row ∙ stays in absurd (cc wrong)

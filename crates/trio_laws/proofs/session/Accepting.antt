@@ -53,7 +53,7 @@ module _ (s : State) (desk : DeskSeen) (b : Parcel) (back : List Shown) (calls :
   creds = desk.creds
 
   body_of_hold : (h : HoldParts) → WasHeld s h → h.body ≡ settled_body (settled s) h.ino
-  body_of_hold h w = w.body ∙ (m.judgeable.kept.held w.grant w.is_open w.kind).1 ∙ ap (settled_body (settled s)) w.ino
+  body_of_hold h w = w.body ∙ (m.judgeable.kept.bodies w.grant w.is_open) ∙ ap (settled_body (settled s)) w.ino
 
   lent_bodies : map held_in b.holds ≡ map (held_at (settled s)) (bundle_of b).holds
   lent_bodies = search (arith, map-each, body_of_hold, map-map)

@@ -1,5 +1,5 @@
 -- A call that is noted keeps what a session would hand in ready.
-use Rattle.trio_laws.proofs.Words.{◌++◌, ◌∙◌, ◌∷◌, ◌≡◌, Apply, ArePossible, Case, Creds, DeskSeen, Done, Front, In, In-left, InHand, IsTree, LegalCalls, List, MadeFits, MayShow, Met, Node, Nodes, None, Option, Row, Shown, Shows, Some, [], ap, arith, batch_nodes, call_nodes, descend, false≢true, fronts, inl, inr, is_ok, lent_files, new_entries, option_map, parcel_case, refl, subst, suc, sym, tree_stays_through, with_bytes, zero, ℕ}
+use Rattle.trio_laws.proofs.Words.{◌++◌, ◌∙◌, ◌∷◌, ◌≡◌, Apply, ArePossible, Case, Creds, DeskSeen, Done, Front, In, In-left, InHand, IsTree, LegalCalls, List, MadeFits, MayShow, Met, Node, Nodes, None, Option, Row, Shown, Shows, Some, [], ap, arith, batch_nodes, call_nodes, descend, false≢true, fronts, inl, inr, is_ok, lent_files, new_entries, option_map, parcel_case, refl, subst, suc, sym, tree_stays_through, zero, ℕ, with_judged}
 use Rattle.trio_layout.specs.JudgedFiles.{judged_files}
 use Rattle.trio_desk.specs.Edits.{nothing}
 use Rattle.trio_laws.specs.session.Calls.{CallKeeps, LookKeeps, NothingIsReady}
@@ -36,9 +36,9 @@ no_fronts : (kids : Met → List Met) (k : ℕ) → fronts kids [] k ≡ record 
 no_fronts kids zero = refl
 no_fronts kids (suc k) = ap (descend kids) (no_fronts kids k)
 
-bytes_same : (o : Option Node) → option_map (with_bytes None) o ≡ o
-bytes_same None = refl
-bytes_same (Some x) = refl
+judged_same : (o : Option Node) → option_map (with_judged None None) o ≡ o
+judged_same None = refl
+judged_same (Some x) = refl
 
 module _ (desk : DeskSeen) (rows : List (Option Row)) where
   abbrev c0 : Case
@@ -49,7 +49,7 @@ module _ (desk : DeskSeen) (rows : List (Option Row)) where
   none_judged = ap (λ (w : Front). w.passed) (no_fronts (new_entries c0) (suc c0.inodes))
 
   nothing_shows : (nodes : Nodes) → Shows c0 nodes nodes
-  nothing_shows nodes = search (arith, is_ok, none_judged, bytes_same, false≢true)
+  nothing_shows nodes = search (arith, is_ok, none_judged, judged_same, false≢true)
 
 pub nothing_is_ready : NothingIsReady
 nothing_is_ready desk back nodes rows possible = (tt, nothing_shows desk rows nodes)

@@ -1,17 +1,18 @@
 -- How the calls on directories are decided by what a session sees.
-use Rattle.trio_laws.proofs.Words.{◌&&◌, ◌||◌, ◌∙◌, ◌∷◌, ◌≡◌, Applied, Bool, Call, Creds, Denied, DeskSeen, Directory, DoesCall, Done, Err, In-list_any, IsDir, IsDone, IsTree, LacksRoom, List, MadeFits, MatchBool, Node, Nodes, None, NotDir, NotFound, Option, Path, Regular, Reply, Result, Rights, Some, Stat, ToRead, ToWrite, Truncate, [], and_right, and_then, ap, applied, arith, bytes_eq-Decides, call_nodes, cond, dir_of, done, drop, eqb, false, false≢true, find_named, find_named-Child, inl, inr, is_directory, is_done, lacks, lacks_room, listed_in, ltb, makes_file, node_at, not, of_node, ok_or, reached, refl, refused, rights_of, subst, sym, take, true, walk, walk_into, with_node, ℕ}
+use Rattle.trio_laws.proofs.Words.{◌&&◌, ◌||◌, ◌∙◌, ◌∷◌, ◌≡◌, Applied, Bool, Call, Creds, Denied, DeskSeen, Directory, DoesCall, Done, Err, In-list_any, IsDir, IsDone, IsTree, LacksRoom, List, MadeFits, MatchBool, Node, Nodes, None, NotDir, NotFound, Ok, Option, Path, Regular, Reply, Result, Rights, Some, Stat, ToRead, ToWrite, Truncate, [], and_right, and_then, ap, applied, arith, bytes_eq-Decides, call_nodes, cond, dir_of, done, drop, eqb, false, false≢true, find_named, find_named-Child, inl, inr, is_directory, is_done, lacks, lacks_room, listed_in, ltb, makes_file, node_at, not, of_node, ok_or, reached, refl, refused, rights_of, subst, sym, take, true, walk, walk_into, with_node, ℕ}
+use Rattle.trio_rights.specs.declared.kind.Kind.TheVariants.{Link}
 use Rattle.std.proofs.Common.{is_some}
 use Rattle.trio_nodes.specs.declared.call.Answer.TheVariants.{Names}
-use Rattle.trio_nodes.specs.declared.call.Call.TheVariants.{Mkdir, Create, Write, Read, Unlink, Rmdir, Rename, List as ListNames, Chmod}
+use Rattle.trio_nodes.specs.declared.call.Call.TheVariants.{Mkdir, Create, Write, Read, Unlink, Rmdir, Rename, List as ListNames, Chmod, Symlink, Readlink, Guard}
 use Rattle.trio_nodes.specs.declared.call.Reply.TheVariants.{Exists, NotEmpty}
 use Rattle.trio_nodes.specs.Nodes.{count_in, names_in}
 use Rattle.trio_nodes.specs.Walk.{name_of, same_path}
-use Rattle.trio_nodes.specs.Apply.{in_directory, new_node}
+use Rattle.trio_nodes.specs.Apply.{in_directory, link_mode, new_node}
 use Rattle.trio_onetree.proofs.CallCases.{walk_into-Undone}
 use Rattle.trio_onetree.proofs.TreeStays.{tree_stays}
-use Rattle.trio_laws.specs.session.DirCalls.{ComesAcross, ComesInto, DoneIsTree, EntersWalked, ListRefusedByCheck, ListRefusedByWalk, ListsNames, MakesEntry, MovesEntry, NameRefusedByWalk, NeedsWrite}
+use Rattle.trio_laws.specs.session.DirCalls.{ComesAcross, ComesInto, DoneIsTree, EntersWalked, ListRefusedByCheck, ListRefusedByWalk, ListsNames, MakesEntry, MovesEntry, NameRefusedByWalk, NeedsWrite, list_refusal}
 use Rattle.trio_laws.specs.session.DirCalls.{NoRoomToMake, NoRoomToMove, RefusedAtEntry, RefusedByName, RefusedByPath, RemovesEntry, RenameRefusedByName, RenameRefusedByWalk, RetitlesEntry, ShownIsTree}
-use Rattle.trio_laws.specs.session.DirCalls.{early_refusal, entry_refusal, made_in, name_path, name_refusal, placed_as, removes_file, rename_refusal, with_name, with_place, write_paths}
+use Rattle.trio_laws.specs.session.DirCalls.{early_refusal, entry_refusal, list_refusal, made_in, name_path, name_refusal, placed_as, removes_file, rename_refusal, with_name, with_place, write_paths}
 use Rattle.trio_laws.proofs.session.FileCalls.{does_as, enters_by, first_passes, first_refuses, lacks_as, makes_nothing, three_pass, three_refuse, two_pass, two_refuse}
 use Rattle.trio_laws.proofs.session.LentNodes.{mapped}
 
@@ -63,9 +64,11 @@ at_entry nodes creds _ n x = refused nodes NotFound
 -- and of the directory that it has entered
 abbrev in_entered : Nodes → Creds → Call → ℕ → ℕ → Applied
 in_entered nodes creds (Mkdir path mode) made dir =
-    cond (is_some (find_named nodes dir (name_of path))) (refused nodes Exists) (done (with_node nodes made (Some (new_node creds Directory dir path mode))) IsDone)
+    cond (is_some (find_named nodes dir (name_of path))) (refused nodes Exists) (done (with_node nodes made (Some (new_node creds Directory dir path mode []))) IsDone)
 in_entered nodes creds (Create path mode) made dir =
-    cond (is_some (find_named nodes dir (name_of path))) (refused nodes Exists) (done (with_node nodes made (Some (new_node creds Regular dir path mode))) IsDone)
+    cond (is_some (find_named nodes dir (name_of path))) (refused nodes Exists) (done (with_node nodes made (Some (new_node creds Regular dir path mode []))) IsDone)
+in_entered nodes creds (Symlink path text) made dir =
+    cond (is_some (find_named nodes dir (name_of path))) (refused nodes Exists) (done (with_node nodes made (Some (new_node creds Link dir path link_mode text))) IsDone)
 in_entered nodes creds (Unlink path) made dir = listed_in nodes dir path (at_entry nodes creds (Unlink path))
 in_entered nodes creds (Rmdir path) made dir = listed_in nodes dir path (at_entry nodes creds (Rmdir path))
 in_entered nodes creds (Chmod path mode) made dir = listed_in nodes dir path (at_entry nodes creds (Chmod path mode))
@@ -137,6 +140,7 @@ module _ (nodes : Nodes) (creds : Creds) (made : ℕ) (path : Path) (dir : ℕ) 
       → name_refusal call found ≡ Some reply → in_entered nodes creds call made dir ≡ refused nodes reply
   name-refused (Mkdir p m) found reply on f e = search (arith, name_taken, looks_up, name_missing)
   name-refused (Create p m) found reply on f e = search (arith, name_taken, looks_up, name_missing)
+  name-refused (Symlink p text) found reply on f e = search (arith, name_taken, looks_up, name_missing)
   name-refused (Unlink p) found reply on f e = search (arith, name_taken, looks_up, name_missing)
   name-refused (Rmdir p) found reply on f e = search (arith, name_taken, looks_up, name_missing)
   name-refused (Chmod p m) found reply on f e = search (arith, name_taken, looks_up, name_missing)
@@ -146,14 +150,18 @@ module _ (nodes : Nodes) (creds : Creds) (made : ℕ) (path : Path) (dir : ℕ) 
   name-refused (Rename p q) found reply on f e = absurd (let wrong : None ≡ Some path = on in cc wrong)
   name-refused (ListNames p k) found reply on f e = absurd (let wrong : None ≡ Some path = on in cc wrong)
   name-refused (Stat p) found reply on f e = absurd (let wrong : None ≡ Some path = on in cc wrong)
+  name-refused (Readlink p) found reply on f e = absurd (let wrong : None ≡ Some path = on in cc wrong)
+  name-refused (Guard p b) found reply on f e = absurd (let wrong : None ≡ Some path = on in cc wrong)
 
   -- the name is free
   name-free : (call : Call) → name_path call ≡ Some path → makes_file call ≡ true → find_named nodes dir (name_of path) ≡ None
       → in_entered nodes creds call made dir ≡ done (with_node nodes made (made_in creds dir call)) IsDone
   name-free (Mkdir p m) on makes f =
-      ap (λ q. cond (is_some q) (refused nodes Exists) (done (with_node nodes made (Some (new_node creds Directory dir p m))) IsDone)) (looks_up nodes dir p path None on f)
+      ap (λ q. cond (is_some q) (refused nodes Exists) (done (with_node nodes made (Some (new_node creds Directory dir p m []))) IsDone)) (looks_up nodes dir p path None on f)
   name-free (Create p m) on makes f =
-      ap (λ q. cond (is_some q) (refused nodes Exists) (done (with_node nodes made (Some (new_node creds Regular dir p m))) IsDone)) (looks_up nodes dir p path None on f)
+      ap (λ q. cond (is_some q) (refused nodes Exists) (done (with_node nodes made (Some (new_node creds Regular dir p m []))) IsDone)) (looks_up nodes dir p path None on f)
+  name-free (Symlink p text) on makes f =
+      ap (λ q. cond (is_some q) (refused nodes Exists) (done (with_node nodes made (Some (new_node creds Link dir p link_mode text))) IsDone)) (looks_up nodes dir p path None on f)
   name-free (Write p at bytes) on makes f = absurd (false≢true makes)
   name-free (Read p at len) on makes f = absurd (false≢true makes)
   name-free (Truncate p size) on makes f = absurd (false≢true makes)
@@ -162,6 +170,8 @@ module _ (nodes : Nodes) (creds : Creds) (made : ℕ) (path : Path) (dir : ℕ) 
   name-free (Rename p q) on makes f = absurd (false≢true makes)
   name-free (ListNames p k) on makes f = absurd (false≢true makes)
   name-free (Stat p) on makes f = absurd (false≢true makes)
+  name-free (Readlink p) on makes f = absurd (false≢true makes)
+  name-free (Guard p b) on makes f = absurd (false≢true makes)
   name-free (Chmod p m) on makes f = absurd (false≢true makes)
 
   -- the name is there, and so is its file
@@ -179,6 +189,9 @@ module _ (nodes : Nodes) (creds : Creds) (made : ℕ) (path : Path) (dir : ℕ) 
     entry-refused (Rename p q) reply on e = absurd (let wrong : None ≡ Some reply = e in cc wrong)
     entry-refused (ListNames p k) reply on e = absurd (let wrong : None ≡ Some reply = e in cc wrong)
     entry-refused (Stat p) reply on e = absurd (let wrong : None ≡ Some reply = e in cc wrong)
+    entry-refused (Symlink p text) reply on e = absurd (let wrong : None ≡ Some reply = e in cc wrong)
+    entry-refused (Readlink p) reply on e = absurd (let wrong : None ≡ Some reply = e in cc wrong)
+    entry-refused (Guard p b) reply on e = absurd (let wrong : None ≡ Some reply = e in cc wrong)
 
     entry-goes : (call : Call) → name_path call ≡ Some path → removes_file call ≡ true → entry_refusal creds (rights_of x) (count_in nodes n) call ≡ None
         → in_entered nodes creds call made dir ≡ done (with_node nodes n None) IsDone
@@ -192,6 +205,9 @@ module _ (nodes : Nodes) (creds : Creds) (made : ℕ) (path : Path) (dir : ℕ) 
     entry-goes (Rename p q) on removes e = absurd (false≢true removes)
     entry-goes (ListNames p k) on removes e = absurd (false≢true removes)
     entry-goes (Stat p) on removes e = absurd (false≢true removes)
+    entry-goes (Symlink p text) on removes e = absurd (false≢true removes)
+    entry-goes (Readlink p) on removes e = absurd (false≢true removes)
+    entry-goes (Guard p b) on removes e = absurd (false≢true removes)
     entry-goes (Chmod p m) on removes e = absurd (false≢true removes)
 
 entry-undone : (creds : Creds) (r : Rights) (count : ℕ) (call : Call) (reply : Reply) → entry_refusal creds r count call ≡ Some reply → is_done reply ≡ false
@@ -339,7 +355,10 @@ list_refused_by_walk desk d nodes path from on w none =
 pub list_refused_by_check : ListRefusedByCheck
 list_refused_by_check desk d nodes path from n r on w has e none =
     let x = mapped rights_of (node_at nodes n) r has in
-    search (arith, refused-does, lists-none, list_goes, two_refuse)
+    let here : list_at nodes desk.creds from n x.0 ≡ refused nodes d.reply =
+    two_refuse nodes (done nodes (Names (count_in nodes n) (take 64 (drop from (names_in nodes n))))) NotDir Denied d.reply (not (is_directory x.0.kind)) (lacks desk.creds ToRead x.0) (ap (list_refusal desk.creds) x.2 ∙ e) in
+    refused-does desk d nodes none (lists-none d.call d.reply path from on)
+    (list_goes nodes desk.creds d.call d.made path from (Ok n) on w ∙ ap (λ o. of_node nodes o (list_at nodes desk.creds from n)) x.1 ∙ here)
 
 pub lists_names : ListsNames
 lists_names desk d nodes path from n r count names on w has e many named reply none =

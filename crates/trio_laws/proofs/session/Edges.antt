@@ -1,5 +1,5 @@
 -- Where a bundle shows a tree in the place of a tree, it meets rule I3.
-use Rattle.trio_laws.proofs.Words.{◌&&◌, ◌+◌, ◌<◌, ◌∙◌, ◌∷◌, ◌≡◌, ◌≤◌, ◌⊎◌, AreInodes, Bool, Case, Core, FileRead, In, In-is_among, In-map, IsAmong, IsTree, List, Listed, ListedEntry, Met, Naming, Node, Nodes, None, Ok, Option, Row, Shows, Some, [], and_from, and_parts, ap, arith, bundle_core, bytes_now, cases_Bool, cases_eq, climbs, climbs_clear, climbs_more, climbs_past, comes_to_root, cond, entries_within, entry_is_own, eqb-true, false, false_from_ne_true, false≢true, file_within, has_file, if_ok_at, inl, inr, is_among, is_among-In, is_child, is_inode, is_kept, is_listed, is_listed_kept, is_moved, is_some, judged_entries, judged_files, keeps_children, leaves_none, length, list_all, list_all-In, list_all-each, list_any-In, listing, ltb, made_by, meets_edges, naming_of, node_at, node_left, node_listed, node_says, not, not_from_false, numbers, option_map, or_cases, or_left, or_right, place_parts, placed, proposed_parent, refl, row_in, row_says, row_there, some_of, some_one, stays_listed, subst, suc, sym, true, with_bytes, within_fit, within_from, written_numbers, ℕ}
+use Rattle.trio_laws.proofs.Words.{◌&&◌, ◌+◌, ◌<◌, ◌∙◌, ◌∷◌, ◌≡◌, ◌≤◌, ◌⊎◌, AreInodes, Bool, Case, Core, FileRead, In, In-is_among, In-map, IsAmong, IsTree, List, Listed, ListedEntry, Met, Naming, Node, Nodes, None, Ok, Option, Row, Shows, Some, [], and_from, and_parts, ap, arith, bundle_core, bytes_now, cases_Bool, cases_eq, climbs, climbs_clear, climbs_more, climbs_past, comes_to_root, cond, entries_within, entry_is_own, eqb-true, false, false_from_ne_true, false≢true, file_within, has_file, if_ok_at, inl, inr, is_among, is_among-In, is_child, is_inode, is_kept, is_listed, is_listed_kept, is_moved, is_some, judged_entries, judged_files, keeps_children, leaves_none, length, list_all, list_all-In, list_all-each, list_any-In, listing, ltb, made_by, meets_edges, naming_of, node_at, node_left, node_listed, node_says, not, not_from_false, numbers, option_map, or_cases, or_left, or_right, place_parts, placed, proposed_parent, refl, row_in, row_says, row_there, some_of, some_one, stays_listed, subst, suc, sym, true, within_fit, within_from, written_numbers, ℕ, guard_now, with_judged}
 use Rattle.std.proofs.Common.{ltb-true}
 use Rattle.trio_laws.specs.session.Bundles.{EdgesFollow}
 use Rattle.trio_laws.proofs.session.Namings.{met_of, naming_is, listed_naming, parent_listed, parent_unlisted}
@@ -45,9 +45,11 @@ module _ (c : Case) (nodes nodes' : Nodes) (tree : IsTree nodes) (tree' : IsTree
 
   -- ---- what becomes of a number
 
-  parent_with : (o : Option (List ℕ)) (x : Node) → (with_bytes o x).parent ≡ x.parent
-  parent_with None x = refl
-  parent_with (Some bytes) x = refl
+  parent_with : (o : Option (List ℕ)) (g : Option Bool) (x : Node) → (with_judged o g x).parent ≡ x.parent
+  parent_with None None x = refl
+  parent_with None (Some guarded) x = refl
+  parent_with (Some bytes) None x = refl
+  parent_with (Some bytes) (Some guarded) x = refl
 
   -- what is listed is there, in the directory that lists it
   listed_left : (e : Naming) (o : Option Node) → (x : Node) × (node_listed e o ≡ Some x) × (x.parent ≡ e.directory)
@@ -57,12 +59,12 @@ module _ (c : Case) (nodes nodes' : Nodes) (tree : IsTree nodes) (tree' : IsTree
   pub listed_now : (n : ℕ) (e : Naming) → naming_of c n ≡ Some e → (x : Node) × (node_at nodes' n ≡ Some x) × (x.parent ≡ e.directory)
   listed_now n e h = search (arith, listed_left, parent_with)
 
-  pub unlisted_now : (n : ℕ) → naming_of c n ≡ None → node_at nodes' n ≡ option_map (with_bytes (bytes_now c n)) (cond (is_among n c.bundle.holds) None (node_at nodes n))
-  unlisted_now n h = s.each n ∙ ap (λ o. option_map (with_bytes (bytes_now c n)) (node_left c n o (node_at nodes n))) h
+  pub unlisted_now : (n : ℕ) → naming_of c n ≡ None → node_at nodes' n ≡ option_map (with_judged (bytes_now c n) (guard_now c n)) (cond (is_among n c.bundle.holds) None (node_at nodes n))
+  unlisted_now n h = s.each n ∙ ap (λ o. option_map (with_judged (bytes_now c n) (guard_now c n)) (node_left c n o (node_at nodes n))) h
 
   pub held_gone : (n : ℕ) → naming_of c n ≡ None → In n c.bundle.holds → node_at nodes' n ≡ None
   held_gone n h i =
-      unlisted_now n h ∙ ap (λ b. option_map (with_bytes (bytes_now c n)) (cond b None (node_at nodes n))) (In-is_among n c.bundle.holds i)
+      unlisted_now n h ∙ ap (λ b. option_map (with_judged (bytes_now c n) (guard_now c n)) (cond b None (node_at nodes n))) (In-is_among n c.bundle.holds i)
 
   pub left_now : (n : ℕ) (x : Node) → naming_of c n ≡ None → is_among n c.bundle.holds ≡ false → node_at nodes n ≡ Some x → (y : Node) × (node_at nodes' n ≡ Some y) × (y.parent ≡ x.parent)
   left_now n x h free t = search (arith, unlisted_now, parent_with)

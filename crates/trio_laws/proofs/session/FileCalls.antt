@@ -1,8 +1,9 @@
--- How a walk and the calls on a regular file are decided by what a session sees.
-use Rattle.trio_laws.proofs.Words.{◌&&◌, ◌+◌, ◌∙◌, ◌≡◌, ◌⊎◌, Applied, Bool, Call, Creds, Denied, DeskSeen, DoesCall, Done, Err, IsDir, IsDone, LacksRoom, MadeFits, MatchBool, Node, Nodes, None, NotFound, Ok, Path, Regular, Reply, Rights, Some, Stat, ToRead, ToWrite, Truncate, [], ap, applied, arith, cond, done, drop, false, false≢true, inr, is_directory, is_done, lacks, lacks_room, length, makes_file, nat_lt, node_at, refl, refused, resized, rights_of, some_one, subst, sym, take, true, walk, with_node, ℕ}
+-- How a walk and the calls on a file are decided by what a session sees.
+use Rattle.trio_laws.proofs.Words.{◌&&◌, ◌+◌, ◌∙◌, ◌≡◌, ◌⊎◌, Applied, Bool, Call, Creds, Denied, DeskSeen, DoesCall, Done, Err, IsDir, IsDone, LacksRoom, MadeFits, MatchBool, Node, Nodes, None, NotFound, Ok, Path, Reply, Rights, Some, Stat, ToRead, ToWrite, Truncate, [], ap, applied, arith, cond, done, drop, false, false≢true, inr, is_directory, is_done, lacks, lacks_room, length, makes_file, nat_lt, node_at, not, refl, refused, resized, rights_of, some_one, subst, sym, take, true, walk, with_node, ℕ}
+use Rattle.trio_rights.specs.ByKind.{is_link}
 use Rattle.trio_nodes.specs.declared.call.Answer.TheVariants.{Count, Bytes, Stat as IsStat}
-use Rattle.trio_nodes.specs.declared.call.Call.TheVariants.{Write, Read}
-use Rattle.trio_nodes.specs.declared.call.Reply.TheVariants.{TooLarge}
+use Rattle.trio_nodes.specs.declared.call.Call.TheVariants.{Write, Read, Readlink, Guard}
+use Rattle.trio_nodes.specs.declared.call.Reply.TheVariants.{TooLarge, IsLink, NotLink}
 use Rattle.trio_nodes.specs.Apply.{at_file, largest_size, put_at, size_of, wants_pages}
 use Rattle.trio_laws.specs.session.FileCalls.{DoneByBytes, EntersBy, RefusedByCheck, RefusedByWalk, RefusedForRoom, StatsDirectory, WalksBy, answer_of, changed_by, file_path, refusal}
 use Rattle.trio_laws.proofs.session.LentNodes.{mapped}
@@ -21,16 +22,24 @@ walks_by nodes creds writes passed at name names r found e f = search (arith, en
 abbrev step : Nodes → Creds → Call → ℕ → Node → Applied
 step nodes creds (Write path at bytes) n x =
     cond (is_directory x.kind) (refused nodes IsDir)
+    (cond (is_link x.kind) (refused nodes IsLink)
     (cond (lacks creds ToWrite x) (refused nodes Denied)
     (cond (nat_lt largest_size (at + length bytes)) (refused nodes TooLarge)
-    (done (with_node nodes n (Some (record x { bytes = put_at at bytes x.bytes }))) (Count (length bytes)))))
+    (done (with_node nodes n (Some (record x { bytes = put_at at bytes x.bytes }))) (Count (length bytes))))))
 step nodes creds (Read path at len) n x =
-    cond (is_directory x.kind) (refused nodes IsDir) (cond (lacks creds ToRead x) (refused nodes Denied) (done nodes (Bytes (take len (drop at x.bytes)))))
+    cond (is_directory x.kind) (refused nodes IsDir)
+    (cond (is_link x.kind) (refused nodes IsLink) (cond (lacks creds ToRead x) (refused nodes Denied) (done nodes (Bytes (take len (drop at x.bytes))))))
 step nodes creds (Truncate path size) n x =
     cond (is_directory x.kind) (refused nodes IsDir)
+    (cond (is_link x.kind) (refused nodes IsLink)
     (cond (lacks creds ToWrite x) (refused nodes Denied)
-    (cond (nat_lt largest_size size) (refused nodes TooLarge) (done (with_node nodes n (Some (record x { bytes = resized size x.bytes }))) IsDone)))
+    (cond (nat_lt largest_size size) (refused nodes TooLarge) (done (with_node nodes n (Some (record x { bytes = resized size x.bytes }))) IsDone))))
 step nodes creds (Stat path) n x = cond (lacks creds ToRead x) (refused nodes Denied) (done nodes (IsStat x.kind x.mode x.uid x.gid (size_of nodes n x)))
+step nodes creds (Readlink path) n x = cond (not (is_link x.kind)) (refused nodes NotLink) (cond (lacks creds ToRead x) (refused nodes Denied) (done nodes (Bytes x.bytes)))
+step nodes creds (Guard path on) n x =
+    cond (is_directory x.kind) (refused nodes IsDir)
+    (cond (is_link x.kind) (refused nodes IsLink)
+    (cond (lacks creds ToWrite x) (refused nodes Denied) (done (with_node nodes n (Some (record x { guard = on }))) IsDone)))
 step nodes creds _ n x = refused nodes NotFound
 
 -- a call on a file goes where its walk goes
@@ -95,18 +104,28 @@ module _ (nodes : Nodes) (good : Applied) where
   three_pass a b c true t v e = absurd (let wrong : Some a ≡ None = e in cc wrong)
   three_pass a b c false t v e = two_pass b c t v e
 
+  pub four_refuse : (a b c f reply : Reply) (s t v w : Bool) → cond s (Some a) (cond t (Some b) (cond v (Some c) (cond w (Some f) None))) ≡ Some reply
+      → cond s (refused nodes a) (cond t (refused nodes b) (cond v (refused nodes c) (cond w (refused nodes f) good))) ≡ refused nodes reply
+  four_refuse a b c f reply true t v w e = ap (refused nodes) (let k : Some a ≡ Some reply = e in cc k)
+  four_refuse a b c f reply false t v w e = three_refuse b c f reply t v w e
+
+  pub four_pass : (a b c f : Reply) (s t v w : Bool) → cond s (Some a) (cond t (Some b) (cond v (Some c) (cond w (Some f) None))) ≡ None
+      → cond s (refused nodes a) (cond t (refused nodes b) (cond v (refused nodes c) (cond w (refused nodes f) good))) ≡ good
+  four_pass a b c f true t v w e = absurd (let wrong : Some a ≡ None = e in cc wrong)
+  four_pass a b c f false t v w e = three_pass b c f t v w e
+
 -- what refuses at the file, refuses the step
 step_refused : (nodes : Nodes) (creds : Creds) (call : Call) (n : ℕ) (x : Node) (reply : Reply) → refusal creds (rights_of x) call ≡ Some reply → step nodes creds call n x ≡ refused nodes reply
-step_refused nodes creds call n x reply e = search (arith, three_refuse, two_refuse, first_refuses)
+step_refused nodes creds call n x reply e = search (arith, four_refuse, three_refuse, two_refuse, first_refuses)
 
 -- where nothing refuses, it is done
-step_done : (nodes : Nodes) (creds : Creds) (call : Call) (n : ℕ) (x : Node) (path : Path) → file_path call ≡ Some path → node_at nodes n ≡ Some x → x.kind ≡ Regular → refusal creds (rights_of x) call ≡ None
+step_done : (nodes : Nodes) (creds : Creds) (call : Call) (n : ℕ) (x : Node) (path : Path) → file_path call ≡ Some path → node_at nodes n ≡ Some x → is_directory x.kind ≡ false → refusal creds (rights_of x) call ≡ None
     → step nodes creds call n x ≡ done (changed_by call n x.bytes nodes) (answer_of (rights_of x) x.bytes (length x.bytes) call)
-step_done nodes creds call n x path is there kind e = search (arith, three_pass, two_pass, first_passes)
+step_done nodes creds call n x path is there kind e = search (arith, four_pass, three_pass, two_pass, first_passes)
 
 -- and one that wants pages would be done, were there room
 step_is_done : (nodes : Nodes) (creds : Creds) (call : Call) (n : ℕ) (x : Node) (path : Path) → file_path call ≡ Some path → wants_pages call ≡ true → refusal creds (rights_of x) call ≡ None → is_done (step nodes creds call n x).reply ≡ true
-step_is_done nodes creds call n x path is wants e = search (arith, three_pass, false≢true)
+step_is_done nodes creds call n x path is wants e = search (arith, four_pass, false≢true)
 
 -- ---- the laws
 
@@ -126,7 +145,7 @@ done_by_bytes desk d nodes path n r old is w has kind bytes e reply none =
     let y = mapped (λ (z : Node). z.bytes) (node_at nodes n) old bytes in
     let one : y.0 ≡ x.0 = some_one (node_at nodes n) y.0 x.0 y.1 x.1 in
     let content : x.0.bytes ≡ old = sym (ap (λ (z : Node). z.bytes) one) ∙ y.2 in
-    let regular : x.0.kind ≡ Regular = ap (λ (z : Rights). z.kind) x.2 ∙ kind in
+    let file : is_directory x.0.kind ≡ false = ap (λ (z : Rights). is_directory z.kind) x.2 ∙ kind in
     search (arith, does_by, comes, step_done)
 
 pub stats_directory : StatsDirectory

@@ -1,5 +1,5 @@
--- Written files by their numbers, kinds and bodies, and what a regular one reads.
-use Rattle.trio_laws.proofs.Words.{◌&&◌, ◌||◌, ◌∙◌, ◌∷◌, ◌≡◌, Body, Bool, Core, CoreRange, FileRead, Kind, List, Met, None, Ok, Option, Regular, Row, Some, Written, [], ap, arith, body_at, bytes_eq, cond, cond_some, entries_within, eq-eqb, eqb, false, file_within, find, inserted_by, is_among, is_some, leb, map, ne_eqb, refl, sorted_by, sym, true, with_body, within_from, written_at, ℕ}
+-- Written files by their numbers, kinds and bodies, and what one that is no directory reads.
+use Rattle.trio_laws.proofs.Words.{◌&&◌, ◌||◌, ◌∙◌, ◌∷◌, ◌≡◌, Body, Bool, Core, CoreRange, FileRead, Kind, List, Met, None, Ok, Option, Row, Some, Written, [], ap, arith, body_at, bytes_eq, cond, cond_some, eq-eqb, eqb, false, file_within, find, inserted_by, is_among, is_some, leb, map, ne_eqb, refl, sorted_by, sym, true, with_body, within_from, written_at, ℕ, Listed, Location, Result, entries_where, gathered, is_directory, page_of, result_then, with_names_apart}
 use Rattle.trio_layout.specs.Body.{body_bytes, body_fits, body_of}
 
 -- ---- lists
@@ -31,11 +31,12 @@ written_among (w ∷ ws) n = by (eqb w.ino n) (written_among ws n)
 
 -- ---- files
 
--- a regular file that reads has no entries
-pub regular_entries : (core : Core) (m : Met) (f : FileRead) → m.kind ≡ Regular → file_within core m ≡ Ok f → f.entries ≡ []
-regular_entries core m f kind e =
+-- what is no directory has no entries
+pub plain_entries : (core : Core) (m : Met) (f : FileRead) → is_directory m.kind ≡ false → file_within core m ≡ Ok f → f.entries ≡ []
+plain_entries core m f kind e =
     let r = within_from core m f e in
-    let none : Ok [] ≡ Ok f.entries = sym (ap (λ k. entries_within core k f.chain.blocks) kind) ∙ r.entries in
+    let read : Result (List Listed) Location = result_then with_names_apart (gathered (λ page. entries_where core.inodes page (page_of core page)) f.chain.blocks) in
+    let none : Ok [] ≡ Ok f.entries = sym (ap (λ d. cond d read (Ok [])) kind) ∙ r.entries in
     let same : [] ≡ f.entries = cc none in sym same
 
 -- the body that bytes are is the one that stands in them

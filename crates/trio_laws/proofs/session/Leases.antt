@@ -1,5 +1,5 @@
 -- What a lease shows is true of the nodes at its grant.
-use Rattle.trio_laws.proofs.Words.{◌++◌, ◌∙◌, ◌∷◌, ◌≡◌, Body, Core, Directory, FileRead, HasContent, HasFile, HasPlaces, HasRights, Hold, Image, In, In-find, IsTree, Kept, Kind, LentPage, List, Listed, Met, MetAt, Mode, Node, Nodes, None, Ok, Ok-one, Option, Read, Rights, Row, Sheet, Shown, ShownEntry, Sizes, Some, State, Write, [], ap, arith, at_page, block_sheets, body_at, both, both-Ok, cases_eq, child_has, child_met, children, cond, cons_option, entries_lent, entries_of_kind, entries_on, entries_or_none, entries_shown, entry_of_listed, entry_of_node, eq-eqb, eqb, eqb-true, file_of, find, find-In, flat_map, gathered, gathers_directory, inl, inr, is_child, is_in, is_place_of, lent_sheet, map, met_in, met_numbered, name_of, ne_eqb, no_root_listed, node_at, node_by, node_of, node_says, nodes_of, one_met, one_node, option_map, page_entries, page_of, place_from, plain, read_met, reads_from, refl, result_then-Ok, rights_in, rights_of, row_at, row_at_is, row_by, row_met, row_says, settled, settled_body, settled_chain, sheets_of, subst, survey, sym, there_or, there_or-Ok, true, writer_of, ℕ}
+use Rattle.trio_laws.proofs.Words.{◌++◌, ◌∙◌, ◌∷◌, ◌≡◌, Body, Core, Directory, FileRead, HasContent, HasFile, HasPlaces, HasRights, Hold, Image, In, In-find, IsTree, Kept, Kind, LentPage, List, Listed, Met, MetAt, Mode, Node, Nodes, None, Ok, Ok-one, Option, Read, Rights, Row, Sheet, Shown, ShownEntry, Sizes, Some, State, Write, [], ap, arith, at_page, block_sheets, body_at, both, both-Ok, cases_eq, child_has, child_met, children, cond, cons_option, entries_lent, entries_of_kind, entries_on, entries_or_none, entries_shown, entry_of_listed, entry_of_node, eq-eqb, eqb, eqb-true, file_of, find, find-In, flat_map, gathered, gathers_directory, inl, inr, is_child, is_in, is_place_of, lent_sheet, map, met_in, met_numbered, name_of, ne_eqb, no_root_listed, node_at, node_by, node_of, node_says, nodes_of, one_met, one_node, option_map, page_entries, page_of, place_from, plain, read_met, reads_from, refl, result_then-Ok, rights_in, rights_of, row_at, row_at_is, row_by, row_met, row_says, settled, settled_body, settled_chain, sheets_of, subst, survey, sym, there_or, there_or-Ok, true, writer_of, ℕ, Bool, bytes_of_sheets, data_of, false, guard_in, is_directory, is_directory-true, size_of, take}
 use Rattle.trio_laws.specs.session.Grants.{LeaseShows, HoldShows}
 use Rattle.trio_laws.proofs.history.Facts.{live, node_is}
 use Rattle.trio_laws.proofs.history.Follows.{body_is_at, name_at_entry}
@@ -163,14 +163,32 @@ module _ (s : State) (k : Kept s) (ino : ℕ) (r : Row) (row : row_at s.home ino
         ∙ ap (λ n. entries_or_none (gathered (λ (p : LentPage). entries_on n p.no.0 p.page) f.blocks)) same_sizes
         ∙ ap entries_or_none (lent_entries core file.file.chain.blocks f.blocks file.file.entries sheets (gathers directory))
 
-    content : (q : Kind) → f.kind ≡ q → HasContent sizes nodes f q
-    content q d = search (arith, entry_for, entries_are, lent_bytes, node_here)
+    content : (d : Bool) → is_directory f.kind ≡ d → HasContent sizes nodes f d
+    content true d =
+        let directory : r.kind ≡ Directory = sym kind ∙ is_directory-true f.kind d in
+        λ n.
+        ap (λ m. entry_of_node m (node_at nodes n)) number ∙ entry_for directory n
+        ∙ ap (λ es. option_map entry_of_listed (find (λ (l : Listed). eqb l.entry.ino n) es)) (sym (entries_are directory))
+    content false d =
+        ap (λ n. option_map (λ (x : Node). x.bytes) (node_at nodes n)) number
+        ∙ ap (option_map (λ (x : Node). x.bytes)) node_here
+        ∙ ap (λ t. Some (cond t [] (data_of image ino r (writer_of s ino)))) (ap is_directory (sym kind) ∙ d)
+        ∙ ap (λ w. Some (data_of image ino r w)) alone
+        ∙ ap (λ l. Some (bytes_of_sheets (size_of image ino) l)) (sym blocks)
+        ∙ ap (λ l. Some (take (size_of image ino) l)) (sym (lent_bytes f.blocks))
+        ∙ ap (λ b. Some (take (body_at b).size (flat_map (λ (p : LentPage). p.page) f.blocks))) (sym body)
+
+    guard_is : option_map (λ (x : Node). x.guard) (node_at nodes f.ino) ≡ Some (guard_in f.body)
+    guard_is =
+        ap (λ n. option_map (λ (x : Node). x.guard) (node_at nodes n)) number
+        ∙ ap (option_map (λ (x : Node). x.guard)) node_here
+        ∙ ap (λ b. Some (guard_in b)) (sym body)
 
     places : HasPlaces sizes (record { files = f ∷ []; holds = [] }) s.home.rows
     places g l h j = search (arith, place_is, entries_are)
 
     shown_true : HasFile sizes nodes f × HasPlaces sizes (record { files = f ∷ []; holds = [] }) s.home.rows
-    shown_true = (record { rights = rights_are f.ino f.kind f.body number kind body; content = content f.kind refl }, places)
+    shown_true = (record { rights = rights_are f.ino f.kind f.body number kind body; guard = guard_is; content = content (is_directory f.kind) refl }, places)
 
 pub leases_show : LeaseShows
 leases_show s lib ino Read r sizes f k row lends alone same l = shown_true s k ino r row sizes same f l.ino l.kind l.body l.blocks alone

@@ -1,5 +1,5 @@
 -- The nodes of what a lease shows.
-use Rattle.trio_laws.proofs.Words.{◌∙◌, ◌≡◌, Directory, HasContent, HasFile, In, In-find, IsTree, IsWellLent, Kind, List, Listed, Met, Node, Nodes, None, Option, Regular, Row, Shown, ShownEntry, Sizes, Some, ap, arith, cases_eq, cond, entries_lent, entries_shown, entry_of_listed, entry_of_node, eq-eqb, eqb, eqb-true, find, find-In, inl, inr, is_place_of, node_at, option_map, refl, rights_in, rights_of, row_in, some_one, subst, sym, true, ℕ}
+use Rattle.trio_laws.proofs.Words.{◌∙◌, ◌≡◌, HasContent, HasFile, In, In-find, IsTree, IsWellLent, List, Listed, Met, Node, Nodes, None, Option, Row, Shown, ShownEntry, Sizes, Some, ap, arith, cases_eq, cond, entries_shown, entry_of_listed, entry_of_node, eq-eqb, eqb, eqb-true, find, find-In, inl, inr, is_place_of, node_at, option_map, refl, rights_in, rights_of, row_in, some_one, subst, sym, true, ℕ, Bool, IsDirectory, entries_on, entries_or_none, false, gathered, is_directory, is_directory-false, [], LentPage, Rights}
 use Rattle.trio_laws.proofs.session.LentFiles.{lent_entries_are, lent_entry_one, lent_file}
 
 -- what is there under a function
@@ -36,15 +36,15 @@ module _ (sizes : Sizes) (f : Shown) (well : IsWellLent sizes f) (rows : List (O
 
   -- each entry has its node
   pub entry_node : (ns : Nodes) → HasFile sizes ns f → (l : Listed) → In l (entries_shown sizes f) → (x : Node) × (node_at ns l.entry.ino ≡ Some x) × (x.parent ≡ f.ino) × (x.name ≡ l.entry.name) × (rights_of x ≡ rights_in l.entry.kind l.body)
-  entry_node ns it l j = by f.kind refl it.content
+  entry_node ns it l j = by (is_directory f.kind) refl it.content
     where
-      by : (k : Kind) → f.kind ≡ k → HasContent sizes ns f k → (x : Node) × (node_at ns l.entry.ino ≡ Some x) × (x.parent ≡ f.ino) × (x.name ≡ l.entry.name) × (rights_of x ≡ rights_in l.entry.kind l.body)
-      by Regular t k = absurd (subst (λ z. In l z) (ap (λ z. entries_lent sizes.inodes z f.blocks) t) j)
-      by Directory t k = node_entry f.ino (node_at ns l.entry.ino) (entry_of_listed l) (k l.entry.ino ∙ ap (option_map entry_of_listed) (entry_found l j))
+      by : (d : Bool) → is_directory f.kind ≡ d → HasContent sizes ns f d → (x : Node) × (node_at ns l.entry.ino ≡ Some x) × (x.parent ≡ f.ino) × (x.name ≡ l.entry.name) × (rights_of x ≡ rights_in l.entry.kind l.body)
+      by false t k = absurd (subst (λ z. In l z) (ap (λ d. cond d (entries_or_none (gathered (λ (p : LentPage). entries_on sizes.inodes p.no.0 p.page) f.blocks)) []) t) j)
+      by true t k = node_entry f.ino (node_at ns l.entry.ino) (entry_of_listed l) (k l.entry.ino ∙ ap (option_map entry_of_listed) (entry_found l j))
 
 -- a node in the directory has an entry
 pub has_entry : (sizes : Sizes) (f : Shown) (ns : Nodes) → IsTree ns → HasFile sizes ns f → (n : ℕ) (x : Node) → node_at ns n ≡ Some x → x.parent ≡ f.ino → (l : Listed) × In l (entries_shown sizes f) × (l.entry.ino ≡ n) × (l.entry.name ≡ x.name)
-has_entry sizes f ns t it n x e at = by f.kind refl it.content
+has_entry sizes f ns t it n x e at = by (is_directory f.kind) refl it.content
   where
     found : (q : Option Listed) → find (λ (l : Listed). eqb l.entry.ino n) (entries_shown sizes f) ≡ q → Some (shown_as x) ≡ option_map entry_of_listed q → (l : Listed) × In l (entries_shown sizes f) × (l.entry.ino ≡ n) × (l.entry.name ≡ x.name)
     found None u k = absurd (let wrong : Some (shown_as x) ≡ None = k in cc wrong)
@@ -53,13 +53,15 @@ has_entry sizes f ns t it n x e at = by f.kind refl it.content
         let same : shown_as x ≡ entry_of_listed l = (let v : Some (shown_as x) ≡ Some (entry_of_listed l) = k in cc v) in
         (l, j.0, eqb-true l.entry.ino n j.1, sym (ap (λ (z : ShownEntry). z.name) same))
 
-    by : (k : Kind) → f.kind ≡ k → HasContent sizes ns f k → (l : Listed) × In l (entries_shown sizes f) × (l.entry.ino ≡ n) × (l.entry.name ≡ x.name)
-    by Directory u k =
+    by : (d : Bool) → is_directory f.kind ≡ d → HasContent sizes ns f d → (l : Listed) × In l (entries_shown sizes f) × (l.entry.ino ≡ n) × (l.entry.name ≡ x.name)
+    by true u k =
         found (find (λ (l : Listed). eqb l.entry.ino n) (entries_shown sizes f)) refl
         (sym (ap (λ v. cond v (Some (shown_as x)) None) (eq-eqb x.parent f.ino at)) ∙ sym (ap (entry_of_node f.ino) e) ∙ k n)
-    by Regular u k =
+    by false u k =
         let y = mapped rights_of (node_at ns f.ino) (rights_in f.kind f.body) it.rights in
         elim (cases_eq n 1) [
           | inl one ↦ search (arith, some_one)
-          | inr d ↦ search arith
+          | inr d ↦
+              let parent : IsDirectory (Some y.0) = subst IsDirectory (ap (node_at ns) at ∙ y.1) (t.parents n x e d) in
+              absurd (is_directory-false f.kind u (sym (ap (λ (z : Rights). z.kind) y.2) ∙ parent))
         ]

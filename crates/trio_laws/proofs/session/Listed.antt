@@ -1,5 +1,5 @@
 -- What a session reads in its own directories is true of the nodes that it shows.
-use Rattle.trio_laws.proofs.Words.{◌&&◌, ◌||◌, ◌∙◌, ◌≡◌, ◌⊎◌, Bool, Case, In, In-is_among, IsAmong, IsTree, Kind, List, Naming, Node, Nodes, None, Option, Row, Shows, Some, and_parts, ap, arith, both_ways, bytes_eq, bytes_now, cond, entry_in, entry_keeps_rights, eqb, false≢true, has_kind, is_among, is_kept, is_some, judged_entries, judged_files, lent_body, list_all, list_all-In, naming_of, ne_eqb, node_at, node_left, node_listed, not, not_from_true, numbers, option_map, or_cases, refl, row_in, subst, sym, true, with_bytes, ℕ}
+use Rattle.trio_laws.proofs.Words.{◌&&◌, ◌||◌, ◌∙◌, ◌≡◌, ◌⊎◌, Bool, Case, In, In-is_among, IsAmong, IsTree, Kind, List, Naming, Node, Nodes, None, Option, Row, Shows, Some, and_parts, ap, arith, both_ways, bytes_eq, bytes_now, cond, entry_in, entry_keeps_rights, eqb, false≢true, has_kind, is_among, is_kept, is_some, judged_entries, judged_files, lent_body, list_all, list_all-In, naming_of, ne_eqb, node_at, node_left, node_listed, not, not_from_true, numbers, option_map, or_cases, refl, row_in, subst, sym, true, ℕ, guard_now, with_judged}
 use Rattle.trio_laws.proofs.judgement.RuleParts.{has_kind_is}
 use Rattle.trio_desk.specs.Edits.{listed_now}
 use Rattle.trio_laws.specs.session.Bundles.{NowIsListed}
@@ -14,9 +14,11 @@ pub record IsListedAs (o : Option Node) (e : Naming) : Type 0 where
   pub name : node.name ≡ e.listed.entry.name
   pub kind : node.kind ≡ e.listed.entry.kind
 
-with_as : (o : Option (List ℕ)) (e : Naming) (x : Node) → x.parent ≡ e.directory → x.name ≡ e.listed.entry.name → x.kind ≡ e.listed.entry.kind → IsListedAs (Some (with_bytes o x)) e
-with_as None e x a b c = record { node = x; there = refl; parent = a; name = b; kind = c }
-with_as (Some bytes) e x a b c = record { node = record x { bytes = bytes }; there = refl; parent = a; name = b; kind = c }
+with_as : (o : Option (List ℕ)) (g : Option Bool) (e : Naming) (x : Node) → x.parent ≡ e.directory → x.name ≡ e.listed.entry.name → x.kind ≡ e.listed.entry.kind → IsListedAs (Some (with_judged o g x)) e
+with_as None None e x a b c = record { node = x; there = refl; parent = a; name = b; kind = c }
+with_as None (Some guarded) e x a b c = record { node = record x { guard = guarded }; there = refl; parent = a; name = b; kind = c }
+with_as (Some bytes) None e x a b c = record { node = record x { bytes = bytes }; there = refl; parent = a; name = b; kind = c }
+with_as (Some bytes) (Some guarded) e x a b c = record { node = record x { bytes = bytes; guard = guarded }; there = refl; parent = a; name = b; kind = c }
 
 module _ (c : Case) (nodes nodes' : Nodes) (tree : IsTree nodes) (tree' : IsTree nodes') (a : IsAmong c nodes) (s : Shows c nodes nodes') where
   keeps : (e : Naming) (n : ℕ) → naming_of c n ≡ Some e → entry_keeps_rights c (met_of e) ≡ true
@@ -39,9 +41,9 @@ module _ (c : Case) (nodes nodes' : Nodes) (tree : IsTree nodes) (tree' : IsTree
 
   pub listed_as : (e : Naming) (n : ℕ) → naming_of c n ≡ Some e → IsListedAs (node_at nodes' n) e
   listed_as e n h =
-      subst (λ o. IsListedAs o e) (sym (s.each n ∙ ap (λ o. option_map (with_bytes (bytes_now c n)) (node_left c n o (node_at nodes n))) h)) (by (node_at nodes n) refl)
+      subst (λ o. IsListedAs o e) (sym (s.each n ∙ ap (λ o. option_map (with_judged (bytes_now c n) (guard_now c n)) (node_left c n o (node_at nodes n))) h)) (by (node_at nodes n) refl)
     where
-      by : (o : Option Node) → node_at nodes n ≡ o → IsListedAs (option_map (with_bytes (bytes_now c n)) (node_listed e o)) e
+      by : (o : Option Node) → node_at nodes n ≡ o → IsListedAs (option_map (with_judged (bytes_now c n) (guard_now c n)) (node_listed e o)) e
       by o t = search (arith, with_as, node_row, kind_kept)
 
   listed_in : (directory n : ℕ) → is_among directory (numbers (judged_files c)) ≡ true → (o : Option Naming) → naming_of c n ≡ o → entry_in directory (node_at nodes' n) ≡ listed_now directory o

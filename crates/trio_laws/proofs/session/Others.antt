@@ -1,5 +1,5 @@
 -- What leases show as lent stays true over entries of others.
-use Rattle.trio_laws.proofs.Words.{◌&&◌, ◌∙◌, ◌∷◌, ◌≡◌, Agrees, AllStand, Bool, Creds, Directory, Done, Entry, Err, GrantKind, HasContent, HasFile, HasHeld, HasRights, HasRightsOf, HasStanding, Hold, HoldParts, In, In-filter, In-left, In-list_any, IsTree, IsWithinGrants, KeepsRights, Kind, Leases, LegalCalls, List, NoHoldOnRoot, Node, Nodes, None, Ok, Option, Past, Raw, Regular, Rights, SameContent, Shown, ShownEntry, Sizes, Some, SparesOthers, Standing, [], and_from, and_parts, ap, arith, batch_nodes, bytes_in, cases_eq, cond, creds_in, entry_in, entry_of_node, eq-eqb, eqb, eqb-true, event_of, false, false≢true, inl, inr, is_in, is_others, is_owner, library_of, list_any-In, moded_node, moded_nodes, ne_eqb, node_at, not, not_from_false, option_map, parent_in, past_after, refl, rights_in, rights_of, same_kind, stands_on, subst, sym, tree_stays_through, true, with_node-else, with_node-same, ℕ}
+use Rattle.trio_laws.proofs.Words.{◌&&◌, ◌∙◌, ◌∷◌, ◌≡◌, Agrees, AllStand, Bool, Creds, Done, Entry, Err, GrantKind, HasContent, HasFile, HasHeld, HasRights, HasRightsOf, HasStanding, Hold, HoldParts, In, In-filter, In-left, In-list_any, IsTree, IsWithinGrants, KeepsRights, Kind, Leases, LegalCalls, List, NoHoldOnRoot, Node, Nodes, None, Ok, Option, Past, Raw, Rights, SameContent, Shown, ShownEntry, Sizes, Some, SparesOthers, Standing, [], and_from, and_parts, ap, arith, batch_nodes, bytes_in, cases_eq, cond, creds_in, entry_in, entry_of_node, eq-eqb, eqb, eqb-true, event_of, false, false≢true, inl, inr, is_in, is_others, is_owner, library_of, list_any-In, moded_node, moded_nodes, ne_eqb, node_at, not, not_from_false, option_map, parent_in, past_after, refl, rights_in, rights_of, same_kind, stands_on, subst, sym, tree_stays_through, true, with_node-else, with_node-same, ℕ, is_directory, is_guarded}
 use Rattle.std.proofs.Common.{is_some}
 use Rattle.trio_nodes.specs.declared.entry.Entry.TheVariants.{Grant, Allot, Back, Batch, Mode as ModeSet}
 use Rattle.trio_nodes.specs.Standing.{grants_after}
@@ -60,13 +60,23 @@ bytes_same_in None o' bytes e h t = absurd (let wrong : None ≡ Some bytes = t 
 bytes_same_in (Some x) None bytes e h t = absurd (h x refl)
 bytes_same_in (Some x) (Some y) bytes e h t = ap (λ l. Some l) e ∙ t
 
+guard_same_in : (o o' : Option Node) (guarded : Bool) → is_guarded o' ≡ is_guarded o → ((x : Node) → o ≡ Some x → HasRightsOf x o')
+    → option_map (λ (x : Node). x.guard) o ≡ Some guarded → option_map (λ (x : Node). x.guard) o' ≡ Some guarded
+guard_same_in None o' guarded e h t = absurd (let wrong : None ≡ Some guarded = t in cc)
+guard_same_in (Some x) None guarded e h t = absurd (h x refl)
+guard_same_in (Some x) (Some y) guarded e h t = ap (λ g. Some g) e ∙ t
+
 module _ (nodes nodes' : Nodes) where
-  content_on : (sizes : Sizes) (f : Shown) (kind : Kind) → IsSpared nodes nodes' f.ino → SameEntries nodes nodes' f.ino → HasContent sizes nodes f kind → HasContent sizes nodes' f kind
-  content_on sizes f Directory s e c = λ n. e n ∙ c n
-  content_on sizes f Regular s e c = bytes_same_in (node_at nodes f.ino) (node_at nodes' f.ino) _ s.content.bytes s.rights c
+  content_on : (sizes : Sizes) (f : Shown) (d : Bool) → IsSpared nodes nodes' f.ino → SameEntries nodes nodes' f.ino → HasContent sizes nodes f d → HasContent sizes nodes' f d
+  content_on sizes f true s e c = λ n. e n ∙ c n
+  content_on sizes f false s e c = bytes_same_in (node_at nodes f.ino) (node_at nodes' f.ino) _ s.content.bytes s.rights c
 
   pub file_on : (sizes : Sizes) (f : Shown) → IsSpared nodes nodes' f.ino → SameEntries nodes nodes' f.ino → HasFile sizes nodes f → HasFile sizes nodes' f
-  file_on sizes f s e h = search (arith, has_rights, content_on)
+  file_on sizes f s e h = record {
+    rights = has_rights (rights_in f.kind f.body) (node_at nodes f.ino) (node_at nodes' f.ino) s.rights h.rights;
+    guard = guard_same_in (node_at nodes f.ino) (node_at nodes' f.ino) _ s.content.guard s.rights h.guard;
+    content = content_on sizes f (is_directory f.kind) s e h.content;
+  }
 
   pub held_on : (h : HoldParts) → IsSpared nodes nodes' h.ino → HasHeld nodes h → HasHeld nodes' h
   held_on h s w = search (arith, has_rights, count_pair, in_by)

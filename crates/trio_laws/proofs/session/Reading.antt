@@ -1,5 +1,5 @@
 -- A file reads the same where the pages that it lists are the same; and which bytes a page of a bundle has.
-use Rattle.trio_laws.proofs.Words.{◌++◌, ◌-◌, ◌<◌, ◌∙◌, ◌∷◌, ◌≡◌, Chain, Core, CoreRange, Directory, FileRead, In, In-left, In-map, In-right, Index, Kind, List, Met, None, Ok, Option, Pages, Regular, Sheet, Some, [], and_parts, ap, are_new, arith, both, cases_Bool, chain_within, entries_where, entries_within, eqb, file_within, flat_map-same, gathered, index_within, inl, inr, is_core, leb, length, length-replicate, ltb, ltb-true, map-In, min, one_keyed, page_from, page_of, pages_bytes, place_there, refl, replicate, rest_of, result_map-Ok, result_then, result_then-Ok, sheet_numbers, suc, sym, true, with_names_apart, with_other, with_pages, with_pages_known, within_from, within_to, zero, ℕ}
+use Rattle.trio_laws.proofs.Words.{◌++◌, ◌-◌, ◌<◌, ◌∙◌, ◌∷◌, ◌≡◌, Chain, Core, CoreRange, FileRead, In, In-left, In-map, In-right, Index, Kind, List, Met, None, Ok, Option, Pages, Sheet, Some, [], and_parts, ap, are_new, arith, both, cases_Bool, chain_within, entries_where, entries_within, eqb, file_within, flat_map-same, gathered, index_within, inl, inr, is_core, leb, length, length-replicate, ltb, ltb-true, map-In, min, one_keyed, page_from, page_of, pages_bytes, place_there, refl, replicate, rest_of, result_map-Ok, result_then, result_then-Ok, sheet_numbers, suc, sym, true, with_names_apart, with_other, with_pages, with_pages_known, within_from, within_to, zero, ℕ, cond, is_directory}
 use Rattle.std.specs.Option.{unwrap_or}
 use Rattle.trio_surveys.proofs.SheetLaws.{page_of_at}
 
@@ -28,8 +28,7 @@ module _ (core : Core) (pages : Pages) where
       ∙ ap (both (entries_where core.inodes b (page_of core b))) (gathered_same bs (λ p i. h p (inr i)))
 
   entries_same : (kind : Kind) (blocks : List ℕ) → ((p : ℕ) → In p blocks → Same p) → entries_within other kind blocks ≡ entries_within core kind blocks
-  entries_same Regular blocks h = refl
-  entries_same Directory blocks h = ap (result_then with_names_apart) (gathered_same blocks h)
+  entries_same kind blocks h = ap (λ r. cond (is_directory kind) (result_then with_names_apart r) (Ok [])) (gathered_same blocks h)
 
   -- a file reads as before where the pages that it lists are as before
   pub file_as_before : (m : Met) (f : FileRead) → file_within core m ≡ Ok f → ((p : ℕ) → In p (f.chain.index ++ f.chain.blocks) → page_of (with_other core pages) p ≡ page_of core p) → file_within (with_other core pages) m ≡ Ok f

@@ -1,6 +1,6 @@
 -- A bundle that differs from one that shows nodes in one file, in what it holds or in what it was allotted: rules I1, I2 and I4 hold
 -- of it, and its namings and bytes are those of the other but for that file.
-use Rattle.trio_laws.proofs.Words.{◌++◌, ◌||◌, ◌∙◌, ◌≡◌, ◌⊎◌, Bundle, Case, Creds, Directory, FileRead, Held, In, In-find, In-flat, In-is_among, In-map, In-right, Kind, List, Listed, Location, Met, Naming, Node, Nodes, None, Ok, Option, Regular, Result, Row, Shows, Sizes, Some, [], and_from, and_parts, ap, are_new, arith, bundle_core, bundle_pages, bytes_now, bytes_read, children_in, each_new, entries_in, entry_in_grammar, entry_is_own, entry_keeps_rights, eq-eqb, eqb, eqb-true, file_keeps_rights, file_within, find, find-In, flat_map, flat_map-In, gathered_new, has_kind, inl, inr, is_among, is_among-In, is_kept, is_ok, is_ok-Ok, is_some, is_written, judged_entries, judged_files, judged_pages, list_all, list_all-In, list_all-each, map, map-In, map-map, meets_grammar, meets_owning, meets_rights, met_in, naming_of, namings, namings_in, node_at, node_now, numbers, numbers-flat, one_keyed, one_of, option_and_then, or_left, page_of, pages_in, pages_within, plain, refl, row_in, same_met, subst, sym, true, ℕ}
+use Rattle.trio_laws.proofs.Words.{◌++◌, ◌||◌, ◌∙◌, ◌≡◌, ◌⊎◌, Bundle, Case, Creds, FileRead, Held, In, In-find, In-flat, In-is_among, In-map, In-right, Kind, List, Listed, Location, Met, Naming, Node, Nodes, None, Ok, Option, Result, Row, Shows, Sizes, Some, [], and_from, and_parts, ap, are_new, arith, bundle_core, bundle_pages, bytes_now, bytes_read, children_in, each_new, entries_in, entry_in_grammar, entry_is_own, entry_keeps_rights, eq-eqb, eqb, eqb-true, file_keeps_rights, file_within, find, find-In, flat_map, flat_map-In, gathered_new, has_kind, inl, inr, is_among, is_among-In, is_kept, is_ok, is_ok-Ok, is_some, is_written, judged_entries, judged_files, judged_pages, list_all, list_all-In, list_all-each, map, map-In, map-map, meets_grammar, meets_owning, meets_rights, met_in, naming_of, namings, namings_in, node_at, node_now, numbers, numbers-flat, one_keyed, one_of, option_and_then, or_left, page_of, pages_in, pages_within, plain, refl, row_in, same_met, subst, sym, true, ℕ, cond, guard_in, guard_now, is_directory, option_map, bytes_eq, lent_body, not, Bool, ◌&&◌}
 use Rattle.std.specs.Prelude.{take}
 use Rattle.trio_laws.proofs.session.Namings.{met_of, judged_named}
 use Rattle.trio_laws.proofs.session.Reading.{bytes_as_before, file_as_before}
@@ -227,7 +227,10 @@ module _ (sizes : Sizes) (creds : Creds) (rows : List (Option Row)) (b b' : Bund
         and_from (list_all (entry_keeps_rights c') (judged_entries c')) (list_all (λ m. file_keeps_rights c' m (file_within (bundle_core c') m)) (judged_files c'))
         (list_all-each (entry_keeps_rights c') (judged_entries c')
         (λ e i. elim (entry_from e i) [
-          | inl q ↦ search arith
+          | inl q ↦
+              let named : Bool = has_kind e.kind (row_in rows e.ino) in
+              ap (λ t. cond t named (not (is_among e.ino b'.holds) || (named && bytes_eq e.body (lent_body c' e.ino)))) ((g.new q.0 q.1).kept e q.2)
+              ∙ (g.new q.0 q.1).kind e q.2
           | inr before ↦ search (arith, own_before, list_all-In, and_parts)
         ]))
         (list_all-each (λ m. file_keeps_rights c' m (file_within (bundle_core c') m)) (judged_files c') (λ m i. file_keeps m (g.from m i)))
@@ -284,7 +287,7 @@ module _ (sizes : Sizes) (creds : Creds) (rows : List (Option Row)) (b b' : Bund
               | inr gone ↦ absurd (subst (λ l. In e l) gone.3 q.2)
             ]
 
-    -- ---- bytes
+    -- ---- bytes and guards
 
     judged_one : (m x : Met) → In m (judged_files c') → In x (judged_files c') → m.ino ≡ x.ino → m ≡ x
     judged_one m x i k e = same_met (judged_files c') m x g.once i k e
@@ -301,12 +304,14 @@ module _ (sizes : Sizes) (creds : Creds) (rows : List (Option Row)) (b b' : Bund
         ∙ ap (bytes_read (bundle_core c') m.kind) (g.new m n).read
 
     bytes_of_read : (k : Kind) (f : FileRead) → ((p : ℕ) → In p f.chain.blocks → page_of (bundle_core c') p ≡ page_of (bundle_core c) p) → bytes_read (bundle_core c') k (Ok f) ≡ bytes_read (bundle_core c) k (Ok f)
-    bytes_of_read Directory f same = refl
-    bytes_of_read Regular f same = ap (λ l. Some (take f.body.size l)) (bytes_as_before (bundle_core c) (bundle_core c').pages f.chain.blocks same)
+    bytes_of_read k f same = ap (λ l. cond (is_directory k) None (Some (take f.body.size l))) (bytes_as_before (bundle_core c) (bundle_core c').pages f.chain.blocks same)
 
-    -- of any other number the bundle has the bytes of before
-    pub bytes_same : (n : ℕ) → ((m : Met) → New m → m.ino ≡ n → ⊥) → bytes_now c' n ≡ bytes_now c n
-    bytes_same n out = by (find (λ (m : Met). eqb m.ino n) (judged_files c)) refl
+    pub guard_new : (m : Met) → New m → guard_now c' m.ino ≡ Some (guard_in m.body)
+    guard_new m n = ap (option_map (λ (x : Met). guard_in x.body)) (found m (g.new_to m n))
+
+    -- of any other number the judged file is that of before
+    find_same : (n : ℕ) → ((m : Met) → New m → m.ino ≡ n → ⊥) → find (λ (m : Met). eqb m.ino n) (judged_files c') ≡ find (λ (m : Met). eqb m.ino n) (judged_files c)
+    find_same n out = by (find (λ (m : Met). eqb m.ino n) (judged_files c)) refl
       where
         still : (o : Option Met) → find (λ (m : Met). eqb m.ino n) (judged_files c') ≡ o → find (λ (m : Met). eqb m.ino n) (judged_files c) ≡ None → find (λ (m : Met). eqb m.ino n) (judged_files c') ≡ None
         still None h none = h
@@ -319,10 +324,29 @@ module _ (sizes : Sizes) (creds : Creds) (rows : List (Option Row)) (b b' : Bund
                   let wrong : None ≡ Some r.0 = sym none ∙ r.1 in absurd (cc wrong)
             ]
 
-        by : (o : Option Met) → find (λ (m : Met). eqb m.ino n) (judged_files c) ≡ o → bytes_now c' n ≡ bytes_now c n
-        by None h =
-            ap (option_and_then (λ m. bytes_read (bundle_core c') m.kind (file_within (bundle_core c') m))) (still (find (λ (m : Met). eqb m.ino n) (judged_files c')) refl h)
-            ∙ sym (ap (option_and_then (λ m. bytes_read (bundle_core c) m.kind (file_within (bundle_core c) m))) h)
+        by : (o : Option Met) → find (λ (m : Met). eqb m.ino n) (judged_files c) ≡ o → find (λ (m : Met). eqb m.ino n) (judged_files c') ≡ find (λ (m : Met). eqb m.ino n) (judged_files c)
+        by None h = still (find (λ (m : Met). eqb m.ino n) (judged_files c')) refl h ∙ sym h
+        by (Some m) h =
+            let f = find-In (λ (x : Met). eqb x.ino n) (judged_files c) m h in
+            let number : m.ino ≡ n = eqb-true m.ino n f.1 in
+            elim (g.left m f.0) [
+              | inr gone ↦ absurd (out gone.0 gone.1 (gone.2 ∙ number))
+              | inl o ↦ ap (λ i. find (λ (x : Met). eqb x.ino i) (judged_files c')) (sym number) ∙ found m (g.old_to m o) ∙ sym h
+            ]
+
+    pub guard_same : (n : ℕ) → ((m : Met) → New m → m.ino ≡ n → ⊥) → guard_now c' n ≡ guard_now c n
+    guard_same n out = ap (option_map (λ (m : Met). guard_in m.body)) (find_same n out)
+
+    -- and the bundle has the bytes of before
+    pub bytes_same : (n : ℕ) → ((m : Met) → New m → m.ino ≡ n → ⊥) → bytes_now c' n ≡ bytes_now c n
+    bytes_same n out =
+        ap (option_and_then (λ m. bytes_read (bundle_core c') m.kind (file_within (bundle_core c') m))) (find_same n out)
+        ∙ by (find (λ (m : Met). eqb m.ino n) (judged_files c)) refl
+      where
+        by : (o : Option Met) → find (λ (m : Met). eqb m.ino n) (judged_files c) ≡ o
+            → option_and_then (λ m. bytes_read (bundle_core c') m.kind (file_within (bundle_core c') m)) o
+            ≡ option_and_then (λ m. bytes_read (bundle_core c) m.kind (file_within (bundle_core c) m)) o
+        by None h = refl
         by (Some m) h =
             let f = find-In (λ (x : Met). eqb x.ino n) (judged_files c) m h in
             let number : m.ino ≡ n = eqb-true m.ino n f.1 in
@@ -330,12 +354,9 @@ module _ (sizes : Sizes) (creds : Creds) (rows : List (Option Row)) (b b' : Bund
               | inr gone ↦ absurd (out gone.0 gone.1 (gone.2 ∙ number))
               | inl o ↦
                   let r = old_read m o in
-                  ap (bytes_now c') (sym number)
-                  ∙ ap (option_and_then (λ m. bytes_read (bundle_core c') m.kind (file_within (bundle_core c') m))) (found m (g.old_to m o))
-                  ∙ ap (bytes_read (bundle_core c') m.kind) (old_again m o)
+                  ap (bytes_read (bundle_core c') m.kind) (old_again m o)
                   ∙ bytes_of_read m.kind r.0 (λ p i. g.page m p o (subst (λ w. In p (pages_in w)) (sym r.1) (In-right p r.0.chain.index r.0.chain.blocks i)))
                   ∙ ap (bytes_read (bundle_core c) m.kind) (sym r.1)
-                  ∙ sym (ap (option_and_then (λ m. bytes_read (bundle_core c) m.kind (file_within (bundle_core c) m))) h)
             ]
 
     -- ---- all

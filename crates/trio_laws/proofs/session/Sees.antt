@@ -1,5 +1,5 @@
 -- What a session sees of the nodes that it shows.
-use Rattle.trio_laws.proofs.Words.{◌&&◌, ◌++◌, ◌∙◌, ◌≡◌, ArePossible, Body, Bundle, Case, DeskSeen, FileRead, HasContent, HasFile, HasRights, HasRightsOf, Held, In, In-find, In-flat, In-is_among, In-left, In-map, InHand, IsAmong, IsForeign, IsInOrder, IsTree, IsView, IsWellLent, Kind, LentFile, List, Listed, MayShow, Met, Naming, Node, Nodes, None, Ok, Option, Regular, Rights, Row, Said, Sheet, Shown, Shows, Some, Written, [], and_parts, ap, are_new, arith, bare_file, body_at, body_of, bundle_core, bundle_of, bundle_sheets, bytes_eq, bytes_eq-Decides, bytes_in, bytes_listed, bytes_now, bytes_read, bytes_shown, case_in_hand, children_in, cond, core_in_hand, each_new, entries_in, entries_shown, entry_in, entry_keeps_rights, entry_of_node, eq-eqb, eqb, eqb-true, false, false_from_ne_true, false≢true, file_keeps_rights, file_within, find, find-In, find_named, find_named-Child, flat_map, has_rights, is_among, is_among-In, is_in, is_place_of, is_some, is_written, judged_entries, judged_files, length-map, lent_files, lent_numbers, lent_sheet, list_all, list_all-In, map, map-In, map-append, map-map, met_in, naming_of, namings_in, node_at, node_left, node_says, numbers, numbers-flat, option_and_then, option_map, placed, plain, read_in_hand, refl, rights_in, rights_of, row_in, row_says, same_met, some_of, some_one, subst, sym, true, with_bytes, within_from, written_at, written_in, written_met, ℕ}
+use Rattle.trio_laws.proofs.Words.{◌&&◌, ◌++◌, ◌∙◌, ◌≡◌, ArePossible, Body, Bundle, Case, DeskSeen, FileRead, HasFile, HasRights, HasRightsOf, Held, In, In-find, In-flat, In-is_among, In-left, In-map, InHand, IsAmong, IsForeign, IsInOrder, IsTree, IsView, IsWellLent, Kind, LentFile, List, Listed, MayShow, Met, Naming, Node, Nodes, None, Ok, Option, Rights, Row, Said, Sheet, Shown, Shows, Some, Written, [], and_parts, ap, are_new, arith, bare_file, body_at, body_of, bundle_core, bundle_of, bundle_sheets, bytes_eq, bytes_eq-Decides, bytes_listed, bytes_now, bytes_read, bytes_shown, case_in_hand, children_in, cond, core_in_hand, each_new, entries_in, entries_shown, entry_in, entry_keeps_rights, entry_of_node, eq-eqb, eqb, eqb-true, false, false_from_ne_true, false≢true, file_keeps_rights, file_within, find, find-In, find_named, find_named-Child, flat_map, has_rights, is_among, is_among-In, is_in, is_place_of, is_some, is_written, judged_entries, judged_files, length-map, lent_files, lent_numbers, lent_sheet, list_all, list_all-In, map, map-In, map-append, map-map, met_in, naming_of, namings_in, node_at, node_left, node_says, numbers, numbers-flat, option_and_then, option_map, placed, plain, read_in_hand, refl, rights_in, rights_of, row_in, row_says, same_met, some_of, some_one, subst, sym, true, within_from, written_at, written_in, written_met, ℕ, Bool, guard_now, is_directory, with_judged}
 use Rattle.trio_laws.proofs.session.Counts.{count_numbers}
 use Rattle.trio_laws.proofs.judgement.JudgedFacts.{written_body_at, written_ino, written_ino_at, written_kind_at}
 use Rattle.trio_onetree.proofs.Children.{Child, Child-find_named}
@@ -16,6 +16,7 @@ use Rattle.trio_laws.proofs.session.Stands.{Read, judged_there, written_alike}
 use Rattle.trio_laws.proofs.session.Starts.{judged_once, start_judged, start_to}
 use Rattle.trio_laws.proofs.session.TakenHold.{held_by}
 use Rattle.trio_laws.proofs.session.LentNodes.{entry_node, has_entry, mapped}
+use Rattle.trio_laws.proofs.session.Others.{IsSpared, file_on}
 
 -- the rights of two nodes, by their parts
 rights_same : (x y : Node) → HasRightsOf x (Some y) → rights_of y ≡ rights_of x
@@ -66,6 +67,11 @@ lists_by nodes tree d entries each only new = record {
         let child : Child nodes d name l.entry.ino = record { node = x.0; at = x.1; parent = x.2; name = x.3 ∙ (bytes_eq-Decides l.entry.name name).0 f.1 } in
         Child-find_named nodes tree.names d name l.entry.ino child ∙ sym (ap (option_map (λ (l : Listed). l.entry.ino)) e)
 
+-- the bytes of a node that the bundle has bytes of
+bytes_with : (bytes : List ℕ) (g : Option Bool) (x : Node) → (with_judged (Some bytes) g x).bytes ≡ bytes
+bytes_with bytes None x = refl
+bytes_with bytes (Some guarded) x = refl
+
 module _ (desk : DeskSeen) (h h' : InHand) (nodes nodes' : Nodes) (rows : List (Option Row)) (v : IsView desk h h' nodes nodes' rows) where
   abbrev b : Bundle
   b = bundle_of h.parcel
@@ -113,25 +119,23 @@ module _ (desk : DeskSeen) (h h' : InHand) (nodes nodes' : Nodes) (rows : List (
       foreign : IsForeign c f.ino
       foreign = (λ j. alone.0 (subst (λ l. In f.ino l) (map-map (λ (x : Written). x.ino) (λ (x : LentFile). written_in x.stands) h.parcel.writes) j), alone.1)
 
-      spared : (y : Node) × (node_at nodes' f.ino ≡ Some y) × (rights_of y ≡ rights_of node.0) × (y.bytes ≡ node.0.bytes)
+      spared : IsSpared nodes nodes' f.ino
       spared =
           let q = (shown_spares c nodes nodes' tree may.tree a s).1 f.ino node.0 node.1 foreign in
-          by (node_at nodes' f.ino) refl q.0 (q.2.bytes ∙ ap bytes_in node.1)
-        where
-          by : (p : Option Node) → node_at nodes' f.ino ≡ p → HasRightsOf node.0 p → bytes_in (node_at nodes' f.ino) ≡ node.0.bytes → (y : Node) × (node_at nodes' f.ino ≡ Some y) × (rights_of y ≡ rights_of node.0) × (y.bytes ≡ node.0.bytes)
-          by None e r k = absurd r
-          by (Some y) e r k = (y, e, rights_same node.0 y r, sym (ap bytes_in e) ∙ k)
+          record {
+            rights = λ x e.
+                let one : node.0 ≡ x = some_one (node_at nodes f.ino) node.0 x node.1 e in
+                subst (λ (z : Node). HasRightsOf z (node_at nodes' f.ino)) one q.0;
+            content = q.2;
+          }
 
       listed_alike : (n : ℕ) → entry_of_node f.ino (node_at nodes' n) ≡ entry_of_node f.ino (node_at nodes n)
       listed_alike n =
           let q = (shown_spares c nodes nodes' tree may.tree a s).1 f.ino node.0 node.1 foreign in
           entry_same f.ino (node_at nodes' n) (node_at nodes n) (q.2.entries n) (λ x y e t. kept_rights n y x t e)
 
-      content : (k : Kind) → HasContent desk.sizes nodes f k → HasContent desk.sizes nodes' f k
-      content k t = search (arith, listed_alike, node, spared)
-
       lease_seen : HasFile desk.sizes nodes' f
-      lease_seen = search (arith, spared, node, content, has)
+      lease_seen = file_on nodes nodes' desk.sizes f spared listed_alike has
 
     -- ---- its entries
 
@@ -237,23 +241,28 @@ module _ (desk : DeskSeen) (h h' : InHand) (nodes nodes' : Nodes) (rows : List (
         ∙ ap (λ k. bytes_read (bundle_core c) k (Ok file)) (written_kind_at (written_in f.stands) (row_in rows f.stands.ino))
 
     -- the node that is shown
-    now : (y : Node) × (node_at nodes' f.stands.ino ≡ Some (with_bytes (bytes_now c f.stands.ino) y))
+    now : (y : Node) × (node_at nodes' f.stands.ino ≡ Some (with_judged (bytes_now c f.stands.ino) (guard_now c f.stands.ino) y))
     now =
-        let at : node_at nodes' f.stands.ino ≡ option_map (with_bytes (bytes_now c f.stands.ino)) (node_left c f.stands.ino (naming_of c f.stands.ino) (Some was.0)) =
-        s.each f.stands.ino ∙ ap (λ q. option_map (with_bytes (bytes_now c f.stands.ino)) (node_left c f.stands.ino (naming_of c f.stands.ino) q)) was.1 in
+        let at : node_at nodes' f.stands.ino ≡ option_map (with_judged (bytes_now c f.stands.ino) (guard_now c f.stands.ino)) (node_left c f.stands.ino (naming_of c f.stands.ino) (Some was.0)) =
+        s.each f.stands.ino ∙ ap (λ q. option_map (with_judged (bytes_now c f.stands.ino) (guard_now c f.stands.ino)) (node_left c f.stands.ino (naming_of c f.stands.ino) q)) was.1 in
         by (naming_of c f.stands.ino) at
       where
-        by : (q : Option Naming) → node_at nodes' f.stands.ino ≡ option_map (with_bytes (bytes_now c f.stands.ino)) (node_left c f.stands.ino q (Some was.0)) → (y : Node) × (node_at nodes' f.stands.ino ≡ Some (with_bytes (bytes_now c f.stands.ino) y))
+        by : (q : Option Naming) → node_at nodes' f.stands.ino ≡ option_map (with_judged (bytes_now c f.stands.ino) (guard_now c f.stands.ino)) (node_left c f.stands.ino q (Some was.0)) → (y : Node) × (node_at nodes' f.stands.ino ≡ Some (with_judged (bytes_now c f.stands.ino) (guard_now c f.stands.ino) y))
         by (Some g) e = (placed g was.0, e)
-        by None e = (was.0, e ∙ ap (λ t. option_map (with_bytes (bytes_now c f.stands.ino)) (cond t None (Some was.0))) unheld)
+        by None e = (was.0, e ∙ ap (λ t. option_map (with_judged (bytes_now c f.stands.ino) (guard_now c f.stands.ino)) (cond t None (Some was.0))) unheld)
 
-    written_bytes : f.stands.kind ≡ Regular → option_map (λ x. x.bytes) (node_at nodes' f.stands.ino) ≡ Some (bytes_listed (core_in_hand desk h) file)
-    written_bytes t = search (arith, bytes_have, now)
+    written_bytes : is_directory f.stands.kind ≡ false → option_map (λ x. x.bytes) (node_at nodes' f.stands.ino) ≡ Some (bytes_listed (core_in_hand desk h) file)
+    written_bytes t =
+        let have : bytes_now c f.stands.ino ≡ Some (bytes_listed (core_in_hand desk h) file) =
+        bytes_have ∙ ap (λ d. cond d None (Some (bytes_listed (core_in_hand desk h) file))) t in
+        ap (option_map (λ (x : Node). x.bytes)) now.1
+        ∙ ap (λ q. Some (with_judged q (guard_now c f.stands.ino) now.0).bytes) have
+        ∙ ap Some (bytes_with (bytes_listed (core_in_hand desk h) file) (guard_now c f.stands.ino) now.0)
 
     written_rights : HasRights (rights_in f.stands.kind f.stands.body) (node_at nodes' f.stands.ino)
     written_rights =
         let x : Node = was.0 in
-        let y : Node = with_bytes (bytes_now c f.stands.ino) now.0 in
+        let y : Node = with_judged (bytes_now c f.stands.ino) (guard_now c f.stands.ino) now.0 in
         let r = node_row c nodes nodes' tree may.tree a s f.stands.ino x was.1 in
         let said : row_says r.0 ≡ node_says x = said_alike rows nodes f.stands.ino r.0 x a.same r.1 was.1 in
         let keeps : file_keeps_rights c here (Ok file) ≡ true =
@@ -298,7 +307,7 @@ module _ (desk : DeskSeen) (h : InHand) (f : LentFile) (o : IsInOrder desk h) (i
       × (file.body ≡ body_at f.lent.body)
       × (file.chain ≡ record { index = lent_numbers f.lent.index; blocks = lent_numbers f.lent.blocks })
       × (file.entries ≡ entries_shown desk.sizes f.lent)
-      × (f.lent.kind ≡ Regular → bytes_listed (core_in_hand desk h) file ≡ bytes_shown f.lent)
+      × (is_directory f.lent.kind ≡ false → bytes_listed (core_in_hand desk h) file ≡ bytes_shown f.lent)
   untouched_reads_here =
       let m : Met = written_at (bare_file f.stands) None in
       let sheets : List Sheet = bundle_sheets (bundle_of h.parcel) in (

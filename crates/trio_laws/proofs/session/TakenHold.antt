@@ -1,5 +1,5 @@
 -- A hold is taken on a file that a directory in hand lists: the same nodes are shown.
-use Rattle.trio_laws.proofs.Words.{◌&&◌, ◌++◌, ◌||◌, ◌∙◌, ◌∷◌, ◌≡◌, ◌⊎◌, ArePossible, Bool, Bundle, Case, DeskSeen, Done, Held, HoldParts, In, In-cases, In-flat, In-is_among, In-left, In-map, In-right, InHand, IsAmong, IsDirectory, IsInOrder, IsTree, LentFile, List, Met, Naming, Node, Nodes, None, Option, Row, Said, Shows, Some, Takes, Written, [], ap, are_new, arith, batch_nodes, both_ways, bundle_of, bytes_eq, bytes_now, case_as_stands, case_in_hand, cases_eq, cond, entries_in, entry_is_own, entry_keeps_rights, entry_listed, eqb, false, file_numbers, flat_map-In, fronts_listed, has_kind, hold_numbers, inl, inr, is_among, is_among-In, is_among-push, is_kept, is_some, judged_entries, lent_body, map, map-append, map-map, naming_of, ne_eqb, new_entries, node_at, node_left, node_now, node_says, not, numbers, option_map, option_map_or, or_cases, or_left, or_right, refl, rights_in, row_in, row_says, some_of, some_one, subst, sym, tree_stays_through, true, with_bytes, written_files, written_in, written_numbers, ℕ}
+use Rattle.trio_laws.proofs.Words.{◌&&◌, ◌++◌, ◌||◌, ◌∙◌, ◌∷◌, ◌≡◌, ◌⊎◌, ArePossible, Bool, Bundle, Case, DeskSeen, Done, Held, HoldParts, In, In-cases, In-flat, In-is_among, In-left, In-map, In-right, InHand, IsAmong, IsDirectory, IsInOrder, IsTree, LentFile, List, Met, Naming, Node, Nodes, None, Option, Row, Said, Shows, Some, Takes, Written, [], ap, are_new, arith, batch_nodes, both_ways, bundle_of, bytes_eq, bytes_now, case_as_stands, case_in_hand, cases_eq, cond, entries_in, entry_is_own, entry_keeps_rights, entry_listed, eqb, false, file_numbers, flat_map-In, fronts_listed, has_kind, hold_numbers, inl, inr, is_among, is_among-In, is_among-push, is_kept, is_some, judged_entries, lent_body, map, map-append, map-map, naming_of, ne_eqb, new_entries, node_at, node_left, node_now, node_says, not, numbers, option_map, option_map_or, or_cases, or_left, or_right, refl, rights_in, row_in, row_says, some_of, some_one, subst, sym, tree_stays_through, true, written_files, written_in, written_numbers, ℕ, guard_now, with_judged}
 use Rattle.trio_layout.specs.JudgedFiles.{judged_files}
 use Rattle.trio_laws.proofs.judgement.JudgedFacts.{written_ino}
 use Rattle.trio_desk.specs.Ready.{ComesToShown}
@@ -7,7 +7,7 @@ use Rattle.trio_laws.specs.session.Takes.{TakesHold, with_hold}
 use Rattle.trio_laws.proofs.session.Again.{hand_files_once, possible_with_less}
 use Rattle.trio_laws.proofs.session.Edges.{kept_parent, listed_now, new_dead, own}
 use Rattle.trio_laws.proofs.session.Namings.{listed_naming, met_of, naming_is}
-use Rattle.trio_laws.proofs.session.Ruled.{IsFurther, bytes_same, case_with, naming_same, shows_by}
+use Rattle.trio_laws.proofs.session.Ruled.{IsFurther, bytes_same, case_with, naming_same, shows_by, guard_same}
 use Rattle.trio_laws.proofs.session.Spares.{judged_own}
 use Rattle.trio_laws.proofs.session.Stands.{named_alike}
 use Rattle.trio_laws.proofs.session.Starts.{judged_once, new_entry, start_from}
@@ -200,9 +200,10 @@ module _ (desk : DeskSeen) (h : InHand) (calls : List Done) (k : HoldParts) (o :
     each : (n : ℕ) → node_at nodes' n ≡ node_now c2 n (node_at nodes n)
     each n =
         s.each n
-        ∙ ap (option_map (with_bytes (bytes_now c n))) (left_same n (naming_of c n) (node_at nodes n) refl)
-        ∙ ap (λ q. option_map (with_bytes (bytes_now c n)) (node_left c2 n q (node_at nodes n))) (sym (named_same n))
-        ∙ ap (λ q. option_map (with_bytes q) (node_left c2 n (naming_of c2 n) (node_at nodes n))) (sym (bytes_same desk.sizes desk.creds rows hand more lent lent2 New Old further nodes nodes' s n (λ m e q. e)))
+        ∙ ap (option_map (with_judged (bytes_now c n) (guard_now c n))) (left_same n (naming_of c n) (node_at nodes n) refl)
+        ∙ ap (λ q. option_map (with_judged (bytes_now c n) (guard_now c n)) (node_left c2 n q (node_at nodes n))) (sym (named_same n))
+        ∙ ap (λ q. option_map (with_judged q (guard_now c n)) (node_left c2 n (naming_of c2 n) (node_at nodes n))) (sym (bytes_same desk.sizes desk.creds rows hand more lent lent2 New Old further nodes nodes' s n (λ m e q. e)))
+        ∙ ap (λ g. option_map (with_judged (bytes_now c2 n) g) (node_left c2 n (naming_of c2 n) (node_at nodes n))) (sym (guard_same desk.sizes desk.creds rows hand more lent lent2 New Old further nodes nodes' s n (λ m e q. e)))
 
     shown : Shows c2 nodes nodes'
     shown =

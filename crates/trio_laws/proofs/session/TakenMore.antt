@@ -1,9 +1,9 @@
 -- Pages, numbers and read leases are taken: the same nodes are shown. And a session begins in order.
-use Rattle.trio_laws.proofs.Words.{◌++◌, ◌||◌, ◌∙◌, ◌≡◌, Allotted, ArePossible, Bundle, Case, DeskSeen, Held, In, In-cases, In-flat, In-is_among, In-left, In-right, InHand, IsAmong, IsInOrder, List, MayShow, Met, Node, Nodes, None, Option, Row, Sheet, Shows, Some, Takes, Written, [], and_from, ap, append_assoc, are_new, are_new-append, arith, bundle_core, bundle_of, bundle_pages, bundle_sheets, bytes_now, entries_in, entry_is_own, file_within, filter, filter-same, flat_map, flat_map-same, fresh_sheet, inl, ino_numbers, inr, is_among, is_among-In, is_kept, is_some, judged_entries, judged_files, judged_pages, map, map-append, map-map, naming_of, new_entries, node_at, node_left, node_says, numbers, option_map, or_cases, or_left, or_right, page_numbers, pages_in, pages_within, place_parts, refl, row_in, row_says, some_of, subst, sym, true, with_allotment, with_bytes, ℕ}
+use Rattle.trio_laws.proofs.Words.{◌++◌, ◌||◌, ◌∙◌, ◌≡◌, Allotted, ArePossible, Bundle, Case, DeskSeen, Held, In, In-cases, In-flat, In-is_among, In-left, In-right, InHand, IsAmong, IsInOrder, List, MayShow, Met, Node, Nodes, None, Option, Row, Sheet, Shows, Some, Takes, Written, [], and_from, ap, append_assoc, are_new, are_new-append, arith, bundle_core, bundle_of, bundle_pages, bundle_sheets, bytes_now, entries_in, entry_is_own, file_within, filter, filter-same, flat_map, flat_map-same, fresh_sheet, inl, ino_numbers, inr, is_among, is_among-In, is_kept, is_some, judged_entries, judged_files, judged_pages, map, map-append, map-map, naming_of, new_entries, node_at, node_left, node_says, numbers, option_map, or_cases, or_left, or_right, page_numbers, pages_in, pages_within, place_parts, refl, row_in, row_says, some_of, subst, sym, true, with_allotment, ℕ, guard_now, with_judged}
 use Rattle.trio_laws.specs.session.Takes.{BecomesThrough, NothingIsInOrder, TakesAllotment, TakesReads}
 use Rattle.trio_laws.proofs.session.Again.{hand_files_once, entries_again, entry_own, page_again, pages_more, possible_with_less, read_again}
 use Rattle.trio_laws.proofs.session.Calls.{fewer}
-use Rattle.trio_laws.proofs.session.Ruled.{IsFurther, bytes_same, case_with, naming_same, shows_by}
+use Rattle.trio_laws.proofs.session.Ruled.{IsFurther, bytes_same, case_with, naming_same, shows_by, guard_same}
 use Rattle.trio_laws.proofs.session.Starts.{Share, among_alike, judged_once, shared, start_judged}
 use Rattle.trio_laws.proofs.session.TakenHold.{held_by}
 
@@ -151,8 +151,9 @@ module _ (desk : DeskSeen) (h : InHand) (given : Allotted) (o : IsInOrder desk h
         shows_by desk.sizes desk.creds rows hand more lent lent New Old further nodes nodes' s nodes'
         (λ n.
         s.each n
-        ∙ ap (λ q. option_map (with_bytes (bytes_now c n)) (node_left c2 n q (node_at nodes n))) (sym (named_same n))
-        ∙ ap (λ q. option_map (with_bytes q) (node_left c2 n (naming_of c2 n) (node_at nodes n))) (sym (bytes_same desk.sizes desk.creds rows hand more lent lent New Old further nodes nodes' s n (λ m e q. e))))
+        ∙ ap (λ q. option_map (with_judged (bytes_now c n) (guard_now c n)) (node_left c2 n q (node_at nodes n))) (sym (named_same n))
+        ∙ ap (λ q. option_map (with_judged q (guard_now c n)) (node_left c2 n (naming_of c2 n) (node_at nodes n))) (sym (bytes_same desk.sizes desk.creds rows hand more lent lent New Old further nodes nodes' s n (λ m e q. e)))
+        ∙ ap (λ g. option_map (with_judged (bytes_now c2 n) g) (node_left c2 n (naming_of c2 n) (node_at nodes n))) (sym (guard_same desk.sizes desk.creds rows hand more lent lent New Old further nodes nodes' s n (λ m e q. e))))
         (λ n x e i. ap is_some (named_same n) ∙ s.whole n x e (subst (λ l. is_among x.parent (numbers l) ≡ true) judged_same i))
 
   takes_here : Takes desk h (with_allotment h given)

@@ -1,5 +1,5 @@
 -- A write lease is taken, untouched: the same nodes are shown.
-use Rattle.trio_laws.proofs.Words.{◌++◌, ◌∙◌, ◌∷◌, ◌≡◌, ◌⊎◌, ArePossible, Bool, Bundle, Case, DeskSeen, Directory, Err, FileRead, HasContent, HasFile, Held, HoldParts, In, In-cases, In-find, In-flat, In-is_among, In-left, In-map, In-right, InHand, IsAmong, IsForeign, IsInOrder, IsUntouched, Kind, LentFile, List, Listed, Location, MayShow, Met, Naming, Node, Nodes, None, Ok, Option, Regular, Result, Rights, Row, Sheet, Shown, Shows, Some, Takes, Written, [], and_from, ap, append-nil, are_new, are_new-append, arith, bundle_core, bundle_of, bundle_pages, bundle_sheets, bytes_now, bytes_read, bytes_shown, case_in_hand, cases_eq, children_in, cond, entries_in, entries_shown, entry_in, eq-eqb, eqb, eqb-true, false, false_from_ne_true, file_keeps_rights, file_numbers, file_within, filter, filter-none, find, find-In, flat_map, flat_map-In, flat_map-append, flat_map-same, has_kind, inl, inr, is_among, is_among-In, is_kept, is_place_of, is_some, is_written, judged_files, judged_pages, lent_files, map, map-In, map-append, map-map, met_in, naming_of, ne_eqb, new_beside, new_entries, node_at, node_left, node_now, node_says, numbers, numbers_of_file, option_map, or_cases, pages_in, pages_within, place_parts, placed, plain, refl, rights_in, rights_of, row_in, row_says, sheet_numbers, some_one, subst, sym, true, with_bytes, with_write, written_files, written_in, written_met, written_numbers, ℕ}
+use Rattle.trio_laws.proofs.Words.{◌++◌, ◌∙◌, ◌∷◌, ◌≡◌, ◌⊎◌, ArePossible, Bool, Bundle, Case, DeskSeen, Err, FileRead, HasContent, HasFile, Held, HoldParts, In, In-cases, In-find, In-flat, In-is_among, In-left, In-map, In-right, InHand, IsAmong, IsForeign, IsInOrder, IsUntouched, LentFile, List, Listed, Location, MayShow, Met, Naming, Node, Nodes, None, Ok, Option, Result, Rights, Row, Sheet, Shown, Shows, Some, Takes, Written, [], and_from, ap, append-nil, are_new, are_new-append, arith, bundle_core, bundle_of, bundle_pages, bundle_sheets, bytes_now, bytes_read, bytes_shown, case_in_hand, cases_eq, children_in, cond, entries_in, entries_shown, entry_in, eq-eqb, eqb, eqb-true, false, false_from_ne_true, file_keeps_rights, file_numbers, file_within, filter, filter-none, find, find-In, flat_map, flat_map-In, flat_map-append, flat_map-same, has_kind, inl, inr, is_among, is_among-In, is_kept, is_place_of, is_some, is_written, judged_files, judged_pages, lent_files, map, map-In, map-append, map-map, met_in, naming_of, ne_eqb, new_beside, new_entries, node_at, node_left, node_now, node_says, numbers, numbers_of_file, option_map, or_cases, pages_in, pages_within, place_parts, placed, plain, refl, rights_in, rights_of, row_in, row_says, sheet_numbers, some_one, subst, sym, true, with_bytes, with_write, written_files, written_in, written_met, written_numbers, ℕ, guard_in, guard_now, is_directory, pages_bytes, take, with_guard, with_judged}
 use Rattle.trio_laws.specs.session.Takes.{TakesWrite}
 use Rattle.trio_laws.proofs.judgement.JudgedFacts.{written_body, written_ino, written_kind}
 use Rattle.trio_laws.proofs.judgement.RuleParts.{same_kind_from}
@@ -8,8 +8,8 @@ use Rattle.trio_laws.proofs.session.Edges.{new_dead, node_row}
 use Rattle.trio_laws.proofs.session.LentFiles.{lent_bytes, lent_entries_are, lent_file, lent_file-body, lent_file-pages, lent_numbers_new, lent_reads, lent_sheet_numbers, lent_sheets}
 use Rattle.trio_laws.proofs.session.LentNodes.{entry_node, has_entry, mapped}
 use Rattle.trio_laws.proofs.session.Namings.{naming_is}
-use Rattle.trio_laws.proofs.session.Ruled.{IsFurther, IsNewFile, bytes_new, bytes_same, case_with, listed_pages, met_entries, naming_new, naming_same, shows_by}
-use Rattle.trio_laws.proofs.session.Spares.{judged_own, no_bytes, shown_spares}
+use Rattle.trio_laws.proofs.session.Ruled.{IsFurther, IsNewFile, bytes_new, bytes_same, case_with, listed_pages, met_entries, naming_new, naming_same, shows_by, guard_new, guard_same}
+use Rattle.trio_laws.proofs.session.Spares.{judged_own, no_bytes, shown_spares, no_guard}
 use Rattle.trio_laws.proofs.session.Starts.{Share, among_alike, judged_once, number_start, shared, sorted-cut, start_from, start_judged, start_number, start_to}
 
 module _ (desk : DeskSeen) (h : InHand) (f : LentFile) (o : IsInOrder desk h) (u : IsUntouched desk h f) where
@@ -346,39 +346,66 @@ module _ (desk : DeskSeen) (h : InHand) (f : LentFile) (o : IsInOrder desk h) (u
   file_of_new m w =
       let same : Ok (further.new m w).file ≡ Ok F = sym (further.new m w).read ∙ ap (file_within (bundle_core c2)) w ∙ reads in cc same
 
-  -- the bytes that the bundle has of the file are those of the node, or it has none
+  -- the bytes that the bundle has of the file are those of the node, or it has none; and so is the guard
   file_bytes : (bytes_now c2 taken.ino ≡ None) ⊎ (bytes_now c2 taken.ino ≡ Some node.0.bytes)
-  file_bytes = by f.lent.kind refl has.content
+  file_bytes = by (is_directory f.lent.kind) refl has.content
     where
       now : bytes_now c2 taken.ino ≡ bytes_read (bundle_core c2) M.kind (Ok F)
       now = ap (bytes_now c2) (sym number) ∙ bytes_new desk.sizes desk.creds rows hand more lent lent New Old further nodes nodes' s M refl ∙ ap (λ z. bytes_read (bundle_core c2) M.kind (Ok z)) (file_of_new M refl)
 
-      by : (k : Kind) → f.lent.kind ≡ k → HasContent desk.sizes nodes f.lent k → (bytes_now c2 taken.ino ≡ None) ⊎ (bytes_now c2 taken.ino ≡ Some node.0.bytes)
-      by Directory t content = inl (now ∙ ap (λ k. bytes_read (bundle_core c2) k (Ok F)) (written_kind c2 taken ∙ t))
-      by Regular t content =
+      have : Bool → Option (List ℕ)
+      have d = cond d None (Some (take F.body.size (pages_bytes (bundle_core c2) F.chain.blocks)))
+
+      by : (d : Bool) → is_directory f.lent.kind ≡ d → HasContent desk.sizes nodes f.lent d → (bytes_now c2 taken.ino ≡ None) ⊎ (bytes_now c2 taken.ino ≡ Some node.0.bytes)
+      by true t content = inl (now ∙ ap have (ap is_directory (written_kind c2 taken) ∙ t))
+      by false t content =
           let same : Some node.0.bytes ≡ Some (bytes_shown f.lent) = sym (ap (option_map (λ (x : Node). x.bytes)) node.1) ∙ content in
-          inr (now ∙ ap (λ k. bytes_read (bundle_core c2) k (Ok F)) (written_kind c2 taken ∙ t)
+          inr (now ∙ ap have (ap is_directory (written_kind c2 taken) ∙ t)
           ∙ lent_bytes desk.sizes f.lent u.well M (written_kind c2 taken) (written_body c2 taken) (bundle_sheets more) (pages_once desk h f o u) (lent_sub desk h f o u) ∙ sym same)
 
-  bytes_fit : (n : ℕ) (z : Option Node) → ((y : Node) → z ≡ Some y → n ≡ taken.ino → y.bytes ≡ node.0.bytes) → option_map (with_bytes (bytes_now c n)) z ≡ option_map (with_bytes (bytes_now c2 n)) z
-  bytes_fit n z fit =
+  file_guard : guard_now c2 taken.ino ≡ Some node.0.guard
+  file_guard =
+      ap (guard_now c2) (sym number)
+      ∙ guard_new desk.sizes desk.creds rows hand more lent lent New Old further nodes nodes' s M refl
+      ∙ ap (λ b. Some (guard_in b)) (written_body c2 taken)
+      ∙ sym (sym (ap (option_map (λ (x : Node). x.guard)) node.1) ∙ has.guard)
+
+  -- a node with the bytes and the guard of the lent one
+  abbrev Fits : Node → Type 0
+  Fits y = (y.bytes ≡ node.0.bytes) × (y.guard ≡ node.0.guard)
+
+  judged_fit : (n : ℕ) (z : Option Node) → ((y : Node) → z ≡ Some y → n ≡ taken.ino → Fits y) → option_map (with_judged (bytes_now c n) (guard_now c n)) z ≡ option_map (with_judged (bytes_now c2 n) (guard_now c2 n)) z
+  judged_fit n z fit =
       elim (cases_eq n taken.ino) [
         | inr d ↦
-            ap (λ q. option_map (with_bytes q) z)
-            (sym (bytes_same desk.sizes desk.creds rows hand more lent lent New Old further nodes nodes' s n (λ m e k. d (sym k ∙ ap (λ (x : Met). x.ino) e ∙ number))))
+            let out : (m : Met) → New m → m.ino ≡ n → ⊥ = λ m e k. d (sym k ∙ ap (λ (x : Met). x.ino) e ∙ number) in
+            ap (λ q. option_map (with_judged q (guard_now c n)) z) (sym (bytes_same desk.sizes desk.creds rows hand more lent lent New Old further nodes nodes' s n out))
+            ∙ ap (λ g. option_map (with_judged (bytes_now c2 n) g) z) (sym (guard_same desk.sizes desk.creds rows hand more lent lent New Old further nodes nodes' s n out))
         | inl same ↦
-            ap (λ q. option_map (with_bytes q) z) (ap (bytes_now c) same ∙ no_bytes c nodes nodes' p.tree may.tree a s taken.ino node.0 node.1 row.0 row.1 row.2 foreign)
-            ∙ by z (λ y e. fit y e same) (bytes_now c2 n) (elim file_bytes [ inl e ↦ inl (ap (bytes_now c2) same ∙ e) | inr e ↦ inr (ap (bytes_now c2) same ∙ e) ])
+            ap (λ q. option_map (with_judged q (guard_now c n)) z) (ap (bytes_now c) same ∙ no_bytes c nodes nodes' p.tree may.tree a s taken.ino node.0 node.1 row.0 row.1 row.2 foreign)
+            ∙ ap (λ g. option_map (with_judged None g) z) (ap (guard_now c) same ∙ no_guard c nodes nodes' p.tree may.tree a s taken.ino node.0 node.1 row.0 row.1 row.2 foreign)
+            ∙ by z (λ y e. fit y e same) (bytes_now c2 n) (guard_now c2 n) (elim file_bytes [ inl e ↦ inl (ap (bytes_now c2) same ∙ e) | inr e ↦ inr (ap (bytes_now c2) same ∙ e) ])
+            (ap (guard_now c2) same ∙ file_guard)
       ]
     where
-      by : (z : Option Node) → ((y : Node) → z ≡ Some y → y.bytes ≡ node.0.bytes) → (q : Option (List ℕ)) → (q ≡ None) ⊎ (q ≡ Some node.0.bytes) → option_map (with_bytes None) z ≡ option_map (with_bytes q) z
-      by None fit q e = refl
-      by (Some y) fit q (inl e) = ap (λ r. Some (with_bytes r y)) (sym e)
-      by (Some y) fit q (inr e) =
-          ap (λ l. Some (record y { bytes = l })) (fit y refl) ∙ ap (λ r. Some (with_bytes r y)) (sym e)
+      bytes_by : (y : Node) → Fits y → (q : Option (List ℕ)) → (q ≡ None) ⊎ (q ≡ Some node.0.bytes) → y ≡ with_bytes q y
+      bytes_by y fit q (inl e) = ap (λ r. with_bytes r y) (sym e)
+      bytes_by y fit q (inr e) = ap (λ l. record y { bytes = l }) fit.0 ∙ ap (λ r. with_bytes r y) (sym e)
 
-  left_bytes : (g : Option Naming) (y : Node) → node_left c taken.ino g (Some node.0) ≡ Some y → y.bytes ≡ node.0.bytes
-  left_bytes g y e = search (arith, node)
+      by : (z : Option Node) → ((y : Node) → z ≡ Some y → Fits y) → (q : Option (List ℕ)) (g : Option Bool) → (q ≡ None) ⊎ (q ≡ Some node.0.bytes) → g ≡ Some node.0.guard → option_map (with_judged None None) z ≡ option_map (with_judged q g) z
+      by None fit q g e h = refl
+      by (Some y) fit q g e h =
+          ap (λ b. Some (record y { guard = b })) (fit y refl).1
+          ∙ ap (λ r. Some (with_guard r y)) (sym h)
+          ∙ ap (λ x. Some (with_guard g x)) (bytes_by y (fit y refl) q e)
+
+  left_fits : (g : Option Naming) (y : Node) → node_left c taken.ino g (Some node.0) ≡ Some y → Fits y
+  left_fits (Some g) y e = (let t : Some (placed g node.0) ≡ Some y = e in let one : placed g node.0 ≡ y = cc t in (ap (λ (x : Node). x.bytes) (sym one), ap (λ (x : Node). x.guard) (sym one)))
+  left_fits None y e = by (is_among taken.ino c.bundle.holds) e
+    where
+      by : (t : Bool) → cond t None (Some node.0) ≡ Some y → Fits y
+      by true e = absurd cc
+      by false e = (let one : node.0 ≡ y = cc e in (ap (λ (x : Node). x.bytes) (sym one), ap (λ (x : Node). x.guard) (sym one)))
 
   named : (n : ℕ) → ((l : Listed) × In l F.entries × (l.entry.ino ≡ n)) ⊎ ((l : Listed) → In l F.entries → l.entry.ino ≡ n → ⊥)
   named n = by (find (λ (l : Listed). eqb l.entry.ino n) F.entries) refl
@@ -413,17 +440,17 @@ module _ (desk : DeskSeen) (h : InHand) (f : LentFile) (o : IsInOrder desk h) (u
       let free : is_among n hand.holds ≡ false = false_from_ne_true (is_among n hand.holds) (λ t. entry_unheld l i (is_among-In n hand.holds t)) in
       let there : placed g x.0 ≡ x.0 = placed_there g x.0 (number ∙ sym x.2) (sym x.3) in
       s.each n
-      ∙ ap (λ q. option_map (with_bytes (bytes_now c n)) (node_left c n q (node_at nodes n))) (unnamed l i)
-      ∙ ap (λ t. option_map (with_bytes (bytes_now c n)) (cond t None (node_at nodes n))) free
-      ∙ ap (option_map (with_bytes (bytes_now c n))) x.1
-      ∙ bytes_fit n (Some x.0)
+      ∙ ap (λ q. option_map (with_judged (bytes_now c n) (guard_now c n)) (node_left c n q (node_at nodes n))) (unnamed l i)
+      ∙ ap (λ t. option_map (with_judged (bytes_now c n) (guard_now c n)) (cond t None (node_at nodes n))) free
+      ∙ ap (option_map (with_judged (bytes_now c n) (guard_now c n))) x.1
+      ∙ judged_fit n (Some x.0)
       (λ y e same.
       let one : x.0 ≡ y = (let t : Some x.0 ≡ Some y = e in cc t) in
       let two : x.0 ≡ node.0 = some_one (node_at nodes taken.ino) x.0 node.0 (ap (node_at nodes) (sym same) ∙ x.1) node.1 in
-      ap (λ (z : Node). z.bytes) (sym one ∙ two))
-      ∙ ap (λ z. option_map (with_bytes (bytes_now c2 n)) (Some z)) (sym there)
-      ∙ ap (λ q. option_map (with_bytes (bytes_now c2 n)) (node_left c2 n (Some g) q)) (sym x.1)
-      ∙ ap (λ q. option_map (with_bytes (bytes_now c2 n)) (node_left c2 n q (node_at nodes n))) (sym (naming_taken l i))
+      (ap (λ (z : Node). z.bytes) (sym one ∙ two), ap (λ (z : Node). z.guard) (sym one ∙ two)))
+      ∙ ap (λ z. option_map (with_judged (bytes_now c2 n) (guard_now c2 n)) (Some z)) (sym there)
+      ∙ ap (λ q. option_map (with_judged (bytes_now c2 n) (guard_now c2 n)) (node_left c2 n (Some g) q)) (sym x.1)
+      ∙ ap (λ q. option_map (with_judged (bytes_now c2 n) (guard_now c2 n)) (node_left c2 n q (node_at nodes n))) (sym (naming_taken l i))
 
   out_of : (n : ℕ) → ((l : Listed) → In l F.entries → l.entry.ino ≡ n → ⊥) → naming_of c2 n ≡ naming_of c n
   out_of n out =
@@ -433,11 +460,11 @@ module _ (desk : DeskSeen) (h : InHand) (f : LentFile) (o : IsInOrder desk h) (u
   each_other : (n : ℕ) → ((l : Listed) → In l F.entries → l.entry.ino ≡ n → ⊥) → node_at nodes' n ≡ node_now c2 n (node_at nodes n)
   each_other n out =
       s.each n
-      ∙ bytes_fit n (node_left c n (naming_of c n) (node_at nodes n))
+      ∙ judged_fit n (node_left c n (naming_of c n) (node_at nodes n))
       (λ y e same.
-      left_bytes (naming_of c n) y
+      left_fits (naming_of c n) y
       (ap (λ q. node_left c taken.ino (naming_of c n) q) (sym node.1) ∙ ap (λ k. node_left c k (naming_of c n) (node_at nodes k)) (sym same) ∙ e))
-      ∙ ap (λ q. option_map (with_bytes (bytes_now c2 n)) (node_left c2 n q (node_at nodes n))) (sym (out_of n out))
+      ∙ ap (λ q. option_map (with_judged (bytes_now c2 n) (guard_now c2 n)) (node_left c2 n q (node_at nodes n))) (sym (out_of n out))
 
   each : (n : ℕ) → node_at nodes' n ≡ node_now c2 n (node_at nodes n)
   each n =

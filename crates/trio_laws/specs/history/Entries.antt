@@ -3,8 +3,7 @@ use Rattle.std.specs.Prelude.{ℕ, ◌+◌, ◌*◌, ◌==◌, nat_lt, min, Bool
 use Rattle.std.specs.List.{filter_map, flat_map, list_any}
 use Rattle.std.specs.Option.{option_map_or, unwrap_or}
 use Rattle.std.specs.Str.{bytes_eq}
-use Rattle.trio_rights.specs.declared.kind.Kind.{Kind}
-use Rattle.trio_rights.specs.declared.kind.Kind.TheVariants.{Regular, Directory}
+use Rattle.trio_rights.specs.ByKind.{covers_blocks, is_directory}
 use Rattle.trio_rights.specs.Row.{Row}
 use Rattle.trio_nodes.specs.declared.grant.GrantKind.{GrantKind}
 use Rattle.trio_nodes.specs.declared.answers.GrantFault.{GrantFault}
@@ -40,7 +39,7 @@ use Rattle.trio_nodes.specs.declared.entry.AllotAnswer.{AllotAnswer}
 use Rattle.trio_nodes.specs.declared.entry.AllotAnswer.TheVariants.{Given, Refused as NotGiven}
 use Rattle.trio_nodes.specs.declared.entry.Entry.{Entry}
 use Rattle.trio_nodes.specs.declared.entry.Entry.TheVariants.{Grant, Allot, Back, Raw, Batch, Mode}
-use Rattle.trio_laws.specs.history.Stands.{name_of, size_of}
+use Rattle.trio_laws.specs.history.Stands.{guard_of, name_of, size_of}
 
 -- ---- a bundle as it is handed in
 
@@ -74,7 +73,7 @@ is_told before after b n =
     is_written b n || is_among n b.holds
     || (is_some (row_at after n) && not (bytes_eq (name_by before n (row_at before n)) (name_by after n (row_at after n))))
 
--- a file as it is told: with its row, its name and its size in this image
+-- a file as it is told: with its row, its name, its size and its guard in this image
 abbrev pub told_file : Image → Bundle → ℕ → Bool → Row → RawFile
 told_file image b n gone r = record {
   ino = n;
@@ -87,6 +86,7 @@ told_file image b n gone r = record {
   uid = r.uid;
   gid = r.gid;
   size = size_of image n;
+  guard = guard_of image n;
 }
 
 -- by the rows before and after: a file as it stands after the release; one that is gone as it stood before
@@ -134,20 +134,25 @@ told_blocks before after h n at (page ∷ pages) =
     then record { ino = n; at = at; bytes = unwrap_or (page_of after.core page) [] } ∷ rest
     else rest
 
--- those of a regular file that isn't gone
-abbrev pub told_blocks_of : Image → Image → Handed → RawFile → Kind → List ToldBlock
-told_blocks_of before after h f Regular = if f.gone then [] else told_blocks before after h f.ino 0 (block_numbers after f.ino (row_at after f.ino))
-told_blocks_of before after h f Directory = []
+-- Blocks of a file are told at all: not of a directory, and after a refusal not of a guarded file, whose blocks are back.
+abbrev pub tells_blocks : ReleaseAnswer → RawFile → Bool
+tells_blocks Accepted f = not (is_directory f.kind)
+tells_blocks (Refused rule ino page slot) f = not (covers_blocks f.kind f.guard)
 
--- the blocks that are told of these files
-abbrev pub raw_blocks : Image → Image → Handed → List RawFile → List ToldBlock
-raw_blocks before after h files = flat_map (λ f. told_blocks_of before after h f f.kind) files
+-- those of a file that isn't gone, if any are told
+abbrev pub told_blocks_of : Image → Image → Handed → RawFile → Bool → List ToldBlock
+told_blocks_of before after h f true = if f.gone then [] else told_blocks before after h f.ino 0 (block_numbers after f.ino (row_at after f.ino))
+told_blocks_of before after h f false = []
+
+-- the blocks that are told of these files after this verdict
+abbrev pub raw_blocks : ReleaseAnswer → Image → Image → Handed → List RawFile → List ToldBlock
+raw_blocks verdict before after h files = flat_map (λ f. told_blocks_of before after h f (tells_blocks verdict f)) files
 
 -- the entry of a release after which the second image is settled
 abbrev pub raw_entry : Image → ℕ → Handed → ReleaseAnswer → Image → Entry
 raw_entry before lib h verdict after =
     let files = raw_files before after (bundle_handed h) in
-    Raw (record { 0 = lib }) verdict files (record { handed = h; blocks = raw_blocks before after h files })
+    Raw (record { 0 = lib }) verdict files (record { handed = h; blocks = raw_blocks verdict before after h files })
 
 -- ---- entries
 

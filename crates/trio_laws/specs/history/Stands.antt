@@ -1,12 +1,12 @@
 -- The nodes for which a state stands.
-use Rattle.std.specs.Prelude.{◌≡◌, ℕ, ◌+◌, ◌==◌, ◌&&◌, List, [], ◌∷◌, map, take, Option, None, Some, if◌then◌else◌}
+use Rattle.std.specs.Prelude.{◌≡◌, ℕ, ◌+◌, ◌==◌, Bool, ◌&&◌, List, [], ◌∷◌, map, take, Option, None, Some, if◌then◌else◌}
 use Rattle.std.specs.List.{find, flat_map}
 use Rattle.std.specs.Option.{option_map_or}
 use Rattle.trio_rights.specs.declared.kind.Kind.{Kind}
-use Rattle.trio_rights.specs.declared.kind.Kind.TheVariants.{Regular, Directory}
+use Rattle.trio_rights.specs.ByKind.{is_directory}
 use Rattle.trio_rights.specs.Row.{Row}
 use Rattle.trio_lists.specs.Lists.{tabulated}
-use Rattle.trio_layout.specs.Body.{body_at}
+use Rattle.trio_layout.specs.Body.{body_at, guard_in}
 use Rattle.trio_layout.specs.Slot.{entry_at}
 use Rattle.trio_layout.specs.Core.{page_of}
 use Rattle.trio_layout.specs.Entries.{slot_bytes}
@@ -32,6 +32,10 @@ name_of image n r = if n == 1 then 45 ∷ [] else option_map_or (name_in r.slot)
 abbrev pub size_of : Image → ℕ → ℕ
 size_of image n = (body_at (settled_body image n)).size
 
+-- whether it says that the file is guarded
+abbrev pub guard_of : Image → ℕ → Bool
+guard_of image n = guard_in (settled_body image n)
+
 -- the open write grant on a file
 abbrev pub writer_of : State → ℕ → Option OpenGrant
 writer_of s n = find (λ g. g.ino == n && is_write g.kind) s.open_grants
@@ -45,10 +49,13 @@ blocks_of image n r (Some g) = g.blocks
 abbrev pub bytes_of_sheets : ℕ → List Sheet → List ℕ
 bytes_of_sheets size sheets = take size (flat_map (λ x. x.bytes) sheets)
 
--- the bytes of a regular file are those of its blocks up to its size; a directory has none
+-- the bytes of a file's blocks, up to its size
+abbrev pub data_of : Image → ℕ → Row → Option OpenGrant → List ℕ
+data_of image n r writer = bytes_of_sheets (size_of image n) (blocks_of image n r writer)
+
+-- those are the bytes of a file; a directory has none
 abbrev pub bytes_of : Image → ℕ → Row → Option OpenGrant → Kind → List ℕ
-bytes_of image n r writer Regular = bytes_of_sheets (size_of image n) (blocks_of image n r writer)
-bytes_of image n r writer Directory = []
+bytes_of image n r writer kind = if is_directory kind then [] else data_of image n r writer
 
 -- the node of a live number, by its row and the open write grant on it
 abbrev pub node_of : Image → ℕ → Option OpenGrant → Row → Node
@@ -59,6 +66,7 @@ node_of image n writer r = record {
   mode = r.mode;
   uid = r.uid;
   gid = r.gid;
+  guard = guard_of image n;
   bytes = bytes_of image n r writer r.kind;
 }
 
@@ -75,7 +83,7 @@ node_in s n = node_by (settled s) n (writer_of s n) (row_at s.home n)
 abbrev pub nodes_of : State → Nodes
 nodes_of s = tabulated (node_in s) (s.home.core.inodes + 1)
 
--- The state stands for these nodes: tree, names and rights are the settled image's, and so are the bytes, but that those of a file
+-- The state stands for these nodes: tree, names, rights and guards are the settled image's, and so are the bytes, but that those of a file
 -- that is out for writing are as they were lent.
 abbrev pub Stands : State → Nodes → Type 0
 Stands s nodes = nodes ≡ nodes_of s

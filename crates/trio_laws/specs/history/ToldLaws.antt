@@ -8,7 +8,6 @@ use Rattle.trio_layout.specs.Image.{Image, IsFit, row_at}
 use Rattle.trio_layout.specs.Verifies.{Verifies}
 use Rattle.trio_layout.specs.Accept.{is_accepted, next}
 use Rattle.trio_layout.specs.Listing.{listing}
-use Rattle.trio_nodes.specs.declared.answers.ReleaseAnswer.{ReleaseAnswer}
 use Rattle.trio_nodes.specs.declared.answers.ReleaseAnswer.TheVariants.{Accepted}
 use Rattle.trio_nodes.specs.declared.entry.Entry.TheVariants.{Raw}
 use Rattle.trio_nodes.specs.Handed.{Handed}
@@ -21,14 +20,14 @@ use Rattle.trio_state.specs.Listed.{Notes, accepted_blocks, accepted_files, note
 use Rattle.trio_state.specs.Run.{start, IsWhole}
 use Rattle.trio_state.specs.State.{State, settled, creds_of}
 use Rattle.trio_state.specs.Step.{Event, Release, Settle, CtlAnswer, Step}
-use Rattle.trio_state.specs.Tells.{case_in}
+use Rattle.trio_state.specs.Tells.{Why, case_in}
 use Rattle.trio_laws.specs.RuleLaws.{IsJudgeable}
-use Rattle.trio_laws.specs.history.Entries.{bundle_handed, raw_entry, raw_files}
-use Rattle.trio_laws.specs.history.Stands.{name_of, size_of}
+use Rattle.trio_laws.specs.history.Entries.{bundle_handed, raw_entry, raw_files, refused_for}
+use Rattle.trio_laws.specs.history.Stands.{guard_of, name_of, size_of}
 
 -- what is noted of a live file of an image
 abbrev pub note_of : Image → ℕ → Row → Note
-note_of image n r = record { name = name_of image n r; size = size_of image n }
+note_of image n r = record { name = name_of image n r; size = size_of image n; guard = guard_of image n }
 
 -- of each number from 0 on
 abbrev pub notes_of : Image → Notes
@@ -44,14 +43,14 @@ AcceptedIsListed =
     raw_entry (settled s) lib h Accepted (next (settled s) (bundle_handed h))
     ≡ Raw (record { 0 = lib }) Accepted files (record { handed = h; blocks = accepted_blocks c (listing c) (notes_of (settled s)) h files })
 
--- So is that of one that is refused, without a listing.
+-- So is that of one that is refused, without a listing, whatever the cause.
 abbrev pub RefusedIsListed : Type 0
 RefusedIsListed =
-    (s : State) (lib : ℕ) (h : Handed) (verdict : ReleaseAnswer) → IsJudgeable s lib (bundle_handed h)
+    (s : State) (lib : ℕ) (h : Handed) (why : Why) → IsJudgeable s lib (bundle_handed h)
     → let c = case_in s lib (bundle_handed h) in
     let files = refused_files c (notes_of (settled s)) in
-    raw_entry (settled s) lib h verdict (refused_image (settled s) (bundle_handed h))
-    ≡ Raw (record { 0 = lib }) verdict files (record { handed = h; blocks = refused_blocks c (notes_of (settled s)) h files })
+    raw_entry (settled s) lib h (refused_for why) (refused_image (settled s) (bundle_handed h))
+    ≡ Raw (record { 0 = lib }) (refused_for why) files (record { handed = h; blocks = refused_blocks c (notes_of (settled s)) h files })
 
 -- After a release that is accepted the notes are those that its files tell; after one that is refused they are as before.
 abbrev pub ReleaseNotes : Type 0

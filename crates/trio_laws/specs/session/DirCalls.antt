@@ -3,7 +3,8 @@ use Rattle.std.specs.Prelude.{◌≡◌, ◌≢◌, ℕ, ◌==◌, nat_lt, Bool,
 use Rattle.std.specs.Option.{option_map}
 use Rattle.trio_rights.specs.Row.{Row}
 use Rattle.trio_rights.specs.declared.kind.Kind.{Kind}
-use Rattle.trio_rights.specs.declared.kind.Kind.TheVariants.{Regular, Directory}
+use Rattle.trio_rights.specs.declared.kind.Kind.TheVariants.{Regular, Directory, Link}
+use Rattle.trio_rights.specs.ByKind.{is_directory}
 use Rattle.trio_rights.specs.declared.rights.Creds.{Creds}
 use Rattle.trio_rights.specs.declared.rights.Need.TheVariants.{Read as ToRead, Write as ToWrite}
 use Rattle.trio_lists.specs.Lists.{In}
@@ -12,13 +13,13 @@ use Rattle.trio_layout.specs.Entries.{Listed}
 use Rattle.trio_nodes.specs.declared.node.Node.{Node}
 use Rattle.trio_nodes.specs.declared.call.Answer.TheVariants.{Done as IsDone, Names}
 use Rattle.trio_nodes.specs.declared.call.Call.{Call}
-use Rattle.trio_nodes.specs.declared.call.Call.TheVariants.{Mkdir, Create, Unlink, Rmdir, Rename, List as ListNames, Chmod}
+use Rattle.trio_nodes.specs.declared.call.Call.TheVariants.{Mkdir, Create, Unlink, Rmdir, Rename, List as ListNames, Chmod, Symlink}
 use Rattle.trio_nodes.specs.declared.call.Done.{Done}
 use Rattle.trio_nodes.specs.declared.call.Reply.{Reply}
 use Rattle.trio_nodes.specs.declared.call.Reply.TheVariants.{Ok as Replied, NotFound, Exists, NotDir, IsDir, NotEmpty, Denied, IntoItself}
 use Rattle.trio_nodes.specs.Nodes.{Nodes, node_at, with_node, find_named, count_in, entry_name, names_in}
-use Rattle.trio_nodes.specs.Walk.{Path, and_then, dir_of, name_of, is_above, is_directory, is_root, need_at, walk, walk_into}
-use Rattle.trio_nodes.specs.Apply.{LacksRoom, makes_file, new_node}
+use Rattle.trio_nodes.specs.Walk.{Path, and_then, dir_of, name_of, is_above, is_root, need_at, walk, walk_into}
+use Rattle.trio_nodes.specs.Apply.{LacksRoom, link_mode, makes_file, new_node}
 use Rattle.trio_nodes.specs.Tree.{IsTree}
 use Rattle.trio_desk.specs.Contents.{Rights}
 use Rattle.trio_desk.specs.Agrees.{HasRights}
@@ -36,6 +37,7 @@ write_paths (Create path mode) = dir_of path ∷ []
 write_paths (Unlink path) = dir_of path ∷ []
 write_paths (Rmdir path) = dir_of path ∷ []
 write_paths (Rename from to) = dir_of from ∷ dir_of to ∷ []
+write_paths (Symlink path text) = dir_of path ∷ []
 write_paths _ = []
 
 -- how the directory of a path is entered, by how the walk to it ends
@@ -67,6 +69,7 @@ early_refusal (Rename from to) =
     else (if is_root to then Some Exists
     else (if is_above from to then Some IntoItself else None))
 early_refusal (Chmod path mode) = if is_root path then Some Denied else None
+early_refusal (Symlink path text) = if is_root path then Some Exists else None
 early_refusal _ = None
 
 -- The paths refuse the call before any walk: nothing changes.
@@ -77,13 +80,14 @@ RefusedByPath =
 
 -- ---- calls on one name of a directory
 
--- the path of a call on one name: Mkdir, Create, Unlink, Rmdir and Chmod
+-- the path of a call on one name: Mkdir, Create, Symlink, Unlink, Rmdir and Chmod
 abbrev pub name_path : Call → Option Path
 name_path (Mkdir path mode) = Some path
 name_path (Create path mode) = Some path
 name_path (Unlink path) = Some path
 name_path (Rmdir path) = Some path
 name_path (Chmod path mode) = Some path
+name_path (Symlink path text) = Some path
 name_path _ = None
 
 -- The walk into the directory of the path is refused: so is the call, and nothing changes.
@@ -132,8 +136,9 @@ RefusedAtEntry =
 
 -- what a call makes in this directory
 abbrev pub made_in : Creds → ℕ → Call → Option Node
-made_in creds dir (Mkdir path mode) = Some (new_node creds Directory dir path mode)
-made_in creds dir (Create path mode) = Some (new_node creds Regular dir path mode)
+made_in creds dir (Mkdir path mode) = Some (new_node creds Directory dir path mode [])
+made_in creds dir (Create path mode) = Some (new_node creds Regular dir path mode [])
+made_in creds dir (Symlink path text) = Some (new_node creds Link dir path link_mode text)
 made_in creds dir _ = None
 
 -- The name is free, and so is a number: there is a new file.

@@ -1,26 +1,26 @@
--- How a walk and the calls on a regular file are decided by what a session sees.
-use Rattle.std.specs.Prelude.{◌≡◌, ℕ, ◌+◌, ◌<◌, nat_lt, Bool, not, List, ◌∷◌, ◌++◌, [], length, take, drop, Option, None, Some, Result, Ok, Err, if◌then◌else◌, IsTrue}
+-- How a walk and the calls on a file are decided by what a session sees.
+use Rattle.std.specs.Prelude.{◌≡◌, ℕ, ◌+◌, ◌<◌, nat_lt, Bool, false, not, List, ◌∷◌, ◌++◌, [], length, take, drop, Option, None, Some, Result, Ok, Err, if◌then◌else◌, IsTrue}
 use Rattle.std.specs.Option.{ok_or, option_map}
 use Rattle.trio_rights.specs.Rights.{permits}
-use Rattle.trio_rights.specs.declared.kind.Kind.TheVariants.{Regular}
+use Rattle.trio_rights.specs.ByKind.{is_directory, is_link}
 use Rattle.trio_rights.specs.declared.rights.Creds.{Creds}
 use Rattle.trio_rights.specs.declared.rights.Need.{Need}
 use Rattle.trio_rights.specs.declared.rights.Need.TheVariants.{Read as ToRead, Write as ToWrite}
 use Rattle.trio_nodes.specs.declared.call.Answer.{Answer}
 use Rattle.trio_nodes.specs.declared.call.Answer.TheVariants.{Done as IsDone, Count, Bytes, Stat as IsStat}
 use Rattle.trio_nodes.specs.declared.call.Call.{Call}
-use Rattle.trio_nodes.specs.declared.call.Call.TheVariants.{Write, Read, Truncate, Stat}
+use Rattle.trio_nodes.specs.declared.call.Call.TheVariants.{Write, Read, Truncate, Stat, Readlink, Guard}
 use Rattle.trio_nodes.specs.declared.call.Done.{Done}
 use Rattle.trio_nodes.specs.declared.call.Reply.{Reply}
-use Rattle.trio_nodes.specs.declared.call.Reply.TheVariants.{Ok as Replied, NotFound, NotDir, IsDir, Denied, NoSpace, TooLarge}
+use Rattle.trio_nodes.specs.declared.call.Reply.TheVariants.{Ok as Replied, NotFound, NotDir, IsDir, Denied, NoSpace, TooLarge, IsLink, NotLink}
 use Rattle.trio_nodes.specs.Nodes.{Nodes, node_at, count_in, find_named}
-use Rattle.trio_nodes.specs.Walk.{Path, and_then, enter, is_directory, need_at, walk, walk_from}
+use Rattle.trio_nodes.specs.Walk.{Path, and_then, enter, need_at, walk, walk_from}
 use Rattle.trio_nodes.specs.Apply.{largest_size, put_at, resized, wants_pages}
 use Rattle.trio_desk.specs.Contents.{Rights}
 use Rattle.trio_desk.specs.Agrees.{HasRights}
 use Rattle.trio_desk.specs.Call.{DeskSeen}
 use Rattle.trio_desk.specs.Edits.{DoesCall}
-use Rattle.trio_laws.specs.session.FileEdits.{with_content}
+use Rattle.trio_laws.specs.session.FileEdits.{with_content, with_guarded}
 
 -- ---- walks
 
@@ -50,27 +50,39 @@ WalksBy =
 
 -- ---- calls on a file
 
--- the path of a call on a file that is there: Write, Read, Truncate and Stat
+-- the path of a call on a file that is there: Write, Read, Truncate, Stat, Readlink and Guard
 abbrev pub file_path : Call → Option Path
 file_path (Write path at bytes) = Some path
 file_path (Read path at len) = Some path
 file_path (Truncate path size) = Some path
 file_path (Stat path) = Some path
+file_path (Readlink path) = Some path
+file_path (Guard path on) = Some path
 file_path _ = None
 
 -- why such a call is refused at a file of this kind and these rights, if it is
 abbrev pub refusal : Creds → Rights → Call → Option Reply
 refusal creds r (Write path at bytes) =
     if is_directory r.kind then Some IsDir
+    else (if is_link r.kind then Some IsLink
     else (if not (gives creds ToWrite r) then Some Denied
-    else (if nat_lt largest_size (at + length bytes) then Some TooLarge else None))
+    else (if nat_lt largest_size (at + length bytes) then Some TooLarge else None)))
 refusal creds r (Read path at len) =
-    if is_directory r.kind then Some IsDir else (if not (gives creds ToRead r) then Some Denied else None)
+    if is_directory r.kind then Some IsDir
+    else (if is_link r.kind then Some IsLink
+    else (if not (gives creds ToRead r) then Some Denied else None))
 refusal creds r (Truncate path size) =
     if is_directory r.kind then Some IsDir
+    else (if is_link r.kind then Some IsLink
     else (if not (gives creds ToWrite r) then Some Denied
-    else (if nat_lt largest_size size then Some TooLarge else None))
+    else (if nat_lt largest_size size then Some TooLarge else None)))
 refusal creds r (Stat path) = if not (gives creds ToRead r) then Some Denied else None
+refusal creds r (Readlink path) =
+    if not (is_link r.kind) then Some NotLink else (if not (gives creds ToRead r) then Some Denied else None)
+refusal creds r (Guard path on) =
+    if is_directory r.kind then Some IsDir
+    else (if is_link r.kind then Some IsLink
+    else (if not (gives creds ToWrite r) then Some Denied else None))
 refusal creds r _ = None
 
 -- what it is replied else, of a file with these rights, bytes and size
@@ -78,12 +90,14 @@ abbrev pub answer_of : Rights → List ℕ → ℕ → Call → Answer
 answer_of r old size (Write path at bytes) = Count (length bytes)
 answer_of r old size (Read path at len) = Bytes (take len (drop at old))
 answer_of r old size (Stat path) = IsStat r.kind r.mode r.uid r.gid size
+answer_of r old size (Readlink path) = Bytes old
 answer_of r old size _ = IsDone
 
 -- and what becomes of the nodes
 abbrev pub changed_by : Call → ℕ → List ℕ → Nodes → Nodes
 changed_by (Write path at bytes) n old nodes = with_content n (put_at at bytes old) nodes
 changed_by (Truncate path size) n old nodes = with_content n (resized size old) nodes
+changed_by (Guard path on) n old nodes = with_guarded n on nodes
 changed_by _ n old nodes = nodes
 
 -- The walk is refused: so is the call, and nothing changes.
@@ -104,7 +118,7 @@ abbrev pub DoneByBytes : Type 0
 DoneByBytes =
     (desk : DeskSeen) (d : Done) (nodes : Nodes) (path : Path) (n : ℕ) (r : Rights) (old : List ℕ)
     → file_path d.call ≡ Some path → walk nodes desk.creds [] path ≡ Ok n → HasRights r (node_at nodes n)
-    → r.kind ≡ Regular → option_map (λ x. x.bytes) (node_at nodes n) ≡ Some old
+    → is_directory r.kind ≡ false → option_map (λ x. x.bytes) (node_at nodes n) ≡ Some old
     → refusal desk.creds r d.call ≡ None → d.reply ≡ Replied (answer_of r old (length old) d.call) → d.made ≡ 0
     → DoesCall desk d nodes (changed_by d.call n old nodes)
 

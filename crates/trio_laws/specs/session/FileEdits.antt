@@ -1,5 +1,5 @@
--- A file as it stands in hand, and nodes with other bytes of a file.
-use Rattle.std.specs.Prelude.{ℕ, ◌==◌, List, [], take, None, if◌then◌else◌, Result}
+-- A file as it stands in hand, and nodes with other bytes or another guard of a file.
+use Rattle.std.specs.Prelude.{ℕ, ◌==◌, Bool, List, [], take, None, if◌then◌else◌, Result}
 use Rattle.std.specs.Option.{option_map}
 use Rattle.trio_rights.specs.Bundle.{Written}
 use Rattle.trio_layout.specs.Core.{Core, Location}
@@ -42,6 +42,14 @@ node_with bytes x = record x { bytes = bytes }
 -- the nodes with these bytes of one file
 abbrev pub with_content : ℕ → List ℕ → Nodes → Nodes
 with_content ino bytes nodes = with_node nodes ino (option_map (node_with bytes) (node_at nodes ino))
+
+-- a node that is guarded or isn't
+abbrev pub node_guarded : Bool → Node → Node
+node_guarded on x = record x { guard = on }
+
+-- the nodes with this guard of one file
+abbrev pub with_guarded : ℕ → Bool → Nodes → Nodes
+with_guarded ino on nodes = with_node nodes ino (option_map (node_guarded on) (node_at nodes ino))
 
 -- the file with this body, where it has this number
 abbrev pub with_body : ℕ → List ℕ → Written → Written

@@ -1,5 +1,5 @@
 -- What a session sees of the nodes that it shows: what its leases and its own pages say is true of them.
-use Rattle.std.specs.Prelude.{◌≡◌, ℕ, not, List, length, Option, None, Some, Ok}
+use Rattle.std.specs.Prelude.{◌≡◌, ℕ, false, not, List, length, Option, None, Some, Ok}
 use Rattle.std.specs.List.{find}
 use Rattle.std.specs.Option.{option_map}
 use Rattle.std.specs.Str.{bytes_eq}
@@ -7,7 +7,7 @@ use Rattle.trio_rights.specs.Row.{Row, row_in}
 use Rattle.trio_rights.specs.May.{ancestors, row_permits}
 use Rattle.trio_rights.specs.declared.rights.Creds.{Creds}
 use Rattle.trio_rights.specs.declared.rights.Need.TheVariants.{Read as ToRead}
-use Rattle.trio_rights.specs.declared.kind.Kind.TheVariants.{Regular}
+use Rattle.trio_rights.specs.ByKind.{is_directory}
 use Rattle.trio_lists.specs.Lists.{In}
 use Rattle.trio_layout.specs.Body.{body_at}
 use Rattle.trio_layout.specs.Entries.{Listed}
@@ -107,7 +107,7 @@ UntouchedReads =
     × (file.body ≡ body_at f.lent.body)
     × (file.chain ≡ record { index = lent_numbers f.lent.index; blocks = lent_numbers f.lent.blocks })
     × (file.entries ≡ entries_shown desk.sizes f.lent)
-    × (f.lent.kind ≡ Regular → bytes_listed (core_in_hand desk h) file ≡ bytes_shown f.lent)
+    × (is_directory f.lent.kind ≡ false → bytes_listed (core_in_hand desk h) file ≡ bytes_shown f.lent)
 
 -- An entry of such a directory that names a file that was made has, as a node, the rights of its slot.
 abbrev pub SeesMade : Type 0
@@ -126,7 +126,7 @@ AboveIsOpen nodes creds n =
 
 -- ---- written files
 
--- A written file has the rights of its body as it stands, and a regular one the bytes that it reads as it stands.
+-- A written file has the rights of its body as it stands, and what is no directory the bytes that it reads as it stands.
 abbrev pub SeesWritten : Type 0
 SeesWritten =
     (desk : DeskSeen) (h h' : InHand) (nodes nodes' : Nodes) (rows : List (Option Row)) (f : LentFile) (file : FileRead)
@@ -134,4 +134,4 @@ SeesWritten =
     → In f h.parcel.writes → f.stands.ino ≡ f.lent.ino → f.stands.kind ≡ f.lent.kind
     → read_in_hand desk h (bare_file f.stands) ≡ Ok file
     → HasRights (rights_in f.stands.kind f.stands.body) (node_at nodes' f.stands.ino)
-    × (f.stands.kind ≡ Regular → option_map (λ x. x.bytes) (node_at nodes' f.stands.ino) ≡ Some (bytes_listed (core_in_hand desk h) file))
+    × (is_directory f.stands.kind ≡ false → option_map (λ x. x.bytes) (node_at nodes' f.stands.ino) ≡ Some (bytes_listed (core_in_hand desk h) file))

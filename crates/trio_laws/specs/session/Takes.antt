@@ -75,7 +75,7 @@ pub record IsUntouched (desk : DeskSeen) (h : InHand) (f : LentFile) : Type 0 wh
   pub unheld : In f.lent.ino (hold_numbers h.parcel.holds) → ⊥
   pub apart : (page : ℕ) → In page (numbers_of_file f.lent) → In page (pages_in_hand h) → ⊥
 
--- A write lease is taken, of a regular file or of a directory.
+-- A write lease is taken, of a file of any kind.
 abbrev pub TakesWrite : Type 0
 TakesWrite = (desk : DeskSeen) (h : InHand) (f : LentFile) → IsInOrder desk h → IsUntouched desk h f → Takes desk h (with_write h f)
 
