@@ -1,5 +1,5 @@
 -- An accepted bundle whose library's state is kept in a store: all that `commit` requires holds.
-use Rattle.trio_ctl.proofs.Words.{◌++◌, ◌+◌, ◌-◌, ◌<◌, ◌==◌, ◌∙◌, ◌≡◌, ◌≤◌, AreOutTo, Bool, Bundle, Case, Checkpointed, Core, Directory, FileRead, In, In-filter, In-flat, In-is_among, In-list_any, In-map, IsFit, IsJudgeable, IsTrue, Kind, LibNo, List, ListedEntry, ListedFile, Listing, Met, Ok, Ok-one, OpenGrant, Pick, Row, Sheet, Some, State, Store, Write, Written, [], all_below, all_listed, and_from, and_parts, ap, arith, both_ways, bundle_pages, case_in, cases_lt, checkpoint_at, children, cond, covers_blocks, creds_of, entry_met, eq-eqb, false, file_listed, file_of, filter, filter-In, flat_map, flat_map-In, has_file, has_file_at, has_file_by, has_parent, inl, inr, is_accepted, is_among, is_among-In, is_core, is_some, is_sound, judged_files, judged_from, judged_met, le-leb, leb, length, lent_met, listed_from, listed_is_core, listed_no_root, listed_placed, listing, lt-ltb, ltb, map-In, map-append, met_numbered, ne_eqb, new_from, new_not_live, not, not-true, one_met, owner_at, owner_listed, owner_of, pages_are, pages_of, placed_files, plain, proposed, proposed_pick, read_met, reads, refl, row_at, row_in, row_of, row_of_met, settled, sheet_numbers, slice_index, some_one, state_of, subst, superblock_at_home, superblock_facts, survey, sym, tables, tabulated-length, true, with_checkpoint, written_at, written_ino, written_judged, written_met, written_row, written_same, ℕ}
+use Rattle.trio_ctl.proofs.Words.{AreOutTo, Bool, Bundle, Case, Checkpointed, Core, Directory, FileRead, In, In-filter, In-flat, In-is_among, In-list_any, In-map, IsFit, IsJudgeable, IsTrue, Kind, LibNo, List, ListedEntry, ListedFile, Listing, Met, Ok, Ok-one, OpenGrant, Pick, Row, Sheet, Some, State, Store, Write, Written, [], all_below, all_listed, and_from, and_parts, ap, arith, both_ways, bundle_pages, case_in, cases_lt, checkpoint_at, children, cond, covers_blocks, creds_of, entry_met, eq-eqb, false, file_listed, file_of, filter, filter-In, flat_map, flat_map-In, guard_in, has_file, has_file_at, has_file_by, has_parent, inl, inr, is_accepted, is_among, is_among-In, is_core, is_some, is_sound, judged_files, judged_from, judged_met, le-leb, leb, length, lent_met, listed_from, listed_is_core, listed_no_root, listed_placed, listing, lt-ltb, ltb, map-In, map-append, met_numbered, ne_eqb, new_from, new_not_live, not, not-true, one_met, owner_at, owner_listed, owner_of, pages_are, pages_of, placed_files, plain, proposed, proposed_pick, read_met, reads, refl, row_at, row_in, row_of, row_of_met, settled, sheet_numbers, slice_index, some_one, state_of, subst, superblock_at_home, superblock_facts, survey, sym, tables, tabulated-length, true, with_checkpoint, written_at, written_ino, written_judged, written_met, written_row, written_same, ℕ, ◌++◌, ◌+◌, ◌-◌, ◌<◌, ◌==◌, ◌∙◌, ◌≡◌, ◌≤◌}
 use Rattle.trio_layout.specs.Case.{bundle_core}
 use Rattle.trio_layout.specs.Within.{file_within}
 use Rattle.trio_surveys.proofs.Trees.{image_is_tree}
@@ -144,7 +144,7 @@ module _ (e : AcceptedBundle) where
       let block : In r.page (sheet_numbers g.blocks) =
       subst (λ ns. In r.page ns) (sym l.blocks) (subst (λ (f : FileRead). In r.page f.chain.blocks) (sym file) h.block) in
       let c = e.handed.stored.covers g i kind in
-      let all : sheet_numbers c.0.blocks ≡ sheet_numbers g.blocks = c.2.blocks ∙ ap (λ (t : Kind). cond (covers_blocks t) (sheet_numbers g.blocks) []) of in
+      let all : sheet_numbers c.0.blocks ≡ sheet_numbers g.blocks = c.2.blocks ∙ ap (λ (t : Kind). cond (covers_blocks t (guard_in g.body)) (sheet_numbers g.blocks) []) of in
       (c.0, c.1, subst (λ ns. In r.page ns) (sym all) block)
 
   places : (m : Met) → In m (placed_files e.handed.store.rows e.handed.bundle) → IsPlaced e.handed.store.checkpoints.items m

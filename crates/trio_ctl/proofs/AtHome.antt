@@ -95,10 +95,12 @@ module _ (s : Store) (first : ℕ) (table : List Keyed) (files : List Opened) (c
       fit = subst (λ (x : Image). IsFit x.core) (sym same_settled) k.stored.kept.fit;
       verifies = subst (λ (x : Image). Verifies x) (sym same_settled) k.stored.kept.verifies;
       live = λ g i. absurd i;
+      bodies = λ g i. absurd i;
       apart = λ i j d a b. absurd (omega arith);
       held = λ g i kind. absurd i;
       lent = λ g i kind. absurd i;
       checkpoints = λ g i. absurd i;
+      guarded = λ g i kind other on. absurd i;
       absent = λ page gone core. elim (k.stored.kept.absent page gone core) [
         | inl lent ↦ absurd (not_lent page lent)
         | inr out ↦ inr out

@@ -56,7 +56,7 @@ module _ (s : State) where
   pub held_bodies : (lib : ℕ) (hs : List HoldParts) → Kept s → WereHeld s lib hs → HaveBodies s hs
   held_bodies lib hs kept held h i =
       let q = held h i in
-      sym q.body ∙ (kept.held q.grant q.is_open q.kind).1 ∙ ap (settled_body (settled s)) q.ino
+      sym q.body ∙ kept.bodies q.grant q.is_open ∙ ap (settled_body (settled s)) q.ino
 
   -- the case of a bundle that was given
   pub made_is : (lib : LibNo) (b : Bundled) → Kept s → WereHeld s lib.0 b.holds → case_shown (case_made s lib b) ≡ with_copied (case_in s lib.0 (bundle_in b))

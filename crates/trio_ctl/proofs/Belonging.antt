@@ -1,9 +1,7 @@
 -- What belongs to a library is what it was given.
-use Rattle.trio_ctl.proofs.Words.{◌&&◌, ◌++◌, ◌∙◌, ◌∷◌, ◌≡◌, Bundled, Checkpointed, Creds, Entries, FreshParts, GivenTo, Hold, HoldParts, In, In-cases, In-find, In-list_any, In-map, InoParts, IsControlled, IsSomeAnd, IsTrue, Keyed, Kind, LentFile, LentPage, LibNo, List, None, OpenGrant, Opened, Option, Outline, Row, Sheet, Shown, Some, State, Store, TableGrant, WasLent, WereHeld, Write, Written, [], and_from, and_parts, ap, are_given_by, are_new, bundle_in, bytes_eq, bytes_eq-Decides, checkpoint_at, eq-eqb, eqb-true, false≢true, find-In, first_with, flat_map, flat_map-In, fresh_sheet, grants_in, has_kind, hold_kind, hold_of, holder, inl, inr, is_hold, is_write, keyed, length, lent_sheet, lib_at, list_all, list_all-In, list_all-each, list_any-In, map, map-In, option_map, refl, row_in, same_kind, sheet_numbers, state_of, subst, sym, true, with_checkpoint, write_alone, write_is, written_in, ℕ}
+use Rattle.trio_ctl.proofs.Words.{Bundled, Checkpointed, Creds, Entries, FreshParts, GivenTo, Hold, HoldParts, In, In-cases, In-find, In-list_any, In-map, InoParts, IsControlled, IsSomeAnd, IsTrue, Keyed, Kind, LentFile, LentPage, LibNo, List, None, OpenGrant, Opened, Option, Outline, Row, Sheet, Shown, Some, State, Store, TableGrant, WasLent, WereHeld, Write, Written, [], and_from, and_parts, ap, are_given_by, are_new, bundle_in, bytes_eq, bytes_eq-Decides, checkpoint_at, eq-eqb, eqb-true, false≢true, find-In, first_with, flat_map, flat_map-In, fresh_sheet, grants_in, has_kind, hold_kind, hold_of, holder, inl, inr, is_hold, is_write, keyed, length, lent_sheet, lib_at, list_all, list_all-In, list_all-each, list_any-In, map, map-In, option_map, refl, row_in, same_kind, same_kind-self, same_kind-true, sheet_numbers, state_of, subst, sym, true, with_checkpoint, write_alone, write_is, written_in, ℕ, ◌&&◌, ◌++◌, ◌∙◌, ◌∷◌, ◌≡◌}
 use Rattle.std.specs.Prelude.{◌==◌}
 use Rattle.trio_grants.specs.Grants.{is_on}
-use Rattle.trio_surveys.proofs.Alike.{same_kind_is}
-use Rattle.trio_laws.proofs.judgement.RuleParts.{same_kind_from}
 use Rattle.trio_open.specs.Belonging.{Belongs, IsHoldOf, IsLeaseOf, IsNumberOf, IsPageOf, lent_numbers}
 use Rattle.trio_ctl.specs.inner.Belonging.{is_lease_by}
 use Rattle.trio_open.proofs.Given.{numbered_back, numbered_from, whole_sheets}
@@ -54,7 +52,7 @@ hold_from lib h g e =
       is =
           ap (λ l. H l g.ino g.of g.entry g.parent g.body g.children) named
           ∙ ap (λ i. H h.lib.0 i g.of g.entry g.parent g.body g.children) (eqb-true g.ino h.ino p3.1)
-          ∙ ap (λ k. H h.lib.0 h.ino k g.entry g.parent g.body g.children) (same_kind_is g.of h.kind p4.1)
+          ∙ ap (λ k. H h.lib.0 h.ino k g.entry g.parent g.body g.children) (same_kind-true g.of h.kind p4.1)
           ∙ ap (λ n. H h.lib.0 h.ino h.kind n g.parent g.body g.children) (eqb-true g.entry h.entry p5.1)
           ∙ ap (λ p. H h.lib.0 h.ino h.kind h.entry p g.body g.children) (eqb-true g.parent h.parent p6.1)
           ∙ ap (λ b. H h.lib.0 h.ino h.kind h.entry h.parent b g.children) ((bytes_eq-Decides g.body h.body).0 p7.1)
@@ -82,7 +80,7 @@ hold_same lib g kind own =
     (and_from a1 a2 (ap is_hold kind) (eq-eqb g.lib lib.0 own))
     (eq-eqb g.lib lib.0 own))
     (eq-eqb g.ino g.ino refl))
-    (same_kind_from g.of g.of refl))
+    (same_kind-self g.of g.of refl))
     (eq-eqb g.entry g.entry refl))
     (eq-eqb g.parent g.parent refl))
     ((bytes_eq-Decides g.body g.body).1 refl))
@@ -114,11 +112,11 @@ writer_back lib entry g w =
 
 kind_from : (kind of : Kind) (o : Option Row) → has_kind kind o ≡ true → IsSomeAnd o (λ (r : Row). r.kind ≡ of) → of ≡ kind
 kind_from kind of None e some = absurd (false≢true e)
-kind_from kind of (Some r) e some = sym some ∙ sym (same_kind_is kind r.kind e)
+kind_from kind of (Some r) e some = sym some ∙ sym (same_kind-true kind r.kind e)
 
 kind_back : (kind of : Kind) (o : Option Row) → of ≡ kind → IsSomeAnd o (λ (r : Row). r.kind ≡ of) → has_kind kind o ≡ true
 kind_back kind of None e some = absurd some
-kind_back kind of (Some r) e some = same_kind_from kind r.kind (sym (some ∙ e))
+kind_back kind of (Some r) e some = same_kind-self kind r.kind (sym (some ∙ e))
 
 module _ (s : Store) (first : ℕ) (table : List Keyed) (files : List Opened) (creds : List Creds) (entries : Entries) (begun : List (Option Outline)) (k : IsControlled s first table files creds entries begun) (lib : LibNo) where
   abbrev st : State

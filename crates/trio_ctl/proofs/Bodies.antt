@@ -54,14 +54,14 @@ module _ (s : Store) (first : ℕ) (files : List Opened) (creds : List Creds) (m
   bodies_stand holds e h i =
       let o = list_any-In (λ (o : Opened). is_held_so lib h o.grant) files (list_all-In (λ h. is_body_of files lib h) h holds e i) in
       let t = so_from lib h o.0.grant o.2 in
-      sym t.body ∙ (kept.held (with_checkpoint cs o.0.grant) (open_of o.0 o.1) t.kind).1 ∙ ap (settled_body (settled st)) t.ino
+      sym t.body ∙ kept.bodies (with_checkpoint cs o.0.grant) (open_of o.0 o.1) ∙ ap (settled_body (settled st)) t.ino
 
   pub stand_held : (b : Bundled) → GivenTo st lib.0 (bundle_in b) → HaveBodies st b.holds → list_all (λ h. is_body_of files lib h) b.holds ≡ true
   stand_held b given bodies = list_all-each (λ h. is_body_of files lib h) b.holds
       (λ h i.
       let q = given.holds h.ino (In-map (λ (h : HoldParts). h.ino) h b.holds i) in
       let o = kept_of q.grant q.is_open in
-      let stands = (kept.held q.grant q.is_open q.kind).1 in
+      let stands = kept.bodies q.grant q.is_open in
       In-list_any (λ (o : Opened). is_held_so lib h o.grant) o.0 files o.1 (so_back lib h o.0.grant (record {
         lib_is = sym (ap (λ (x : OpenGrant). x.lib) o.2) ∙ q.lib;
         kind = sym (ap (λ (x : OpenGrant). x.kind) o.2) ∙ q.kind;

@@ -1,5 +1,5 @@
 -- The case of a bundle that was given to a library of the controller.
-use Rattle.trio_ctl.proofs.Words.{◌&&◌, ◌++◌, ◌+◌, ◌-◌, ◌<◌, ◌∙◌, ◌∷◌, ◌≡◌, ◌≤◌, Bundle, Bundled, CaseShown, CoreRange, Creds, Directory, Entries, GivenTo, HoldParts, In, In-map, InoParts, IsControlled, Keyed, Kind, LentFile, LibNo, List, OpenGrant, Opened, Option, Outline, Regular, Some, State, Store, WereHeld, Written, [], and_from, ap, are_new, are_new-append, arith, bundle_in, bundle_pages, case_made, creds_of, grants_in, has_kind, is_core, is_some, le-leb, leb, length, lib_at, list_all, list_all-each, lt-ltb, ltb, map, map-In, new_beside, parted_hold, refl, row_in, same_kind, state_of, subst, suc, superblock_at_home, superblock_facts, sym, true, with_checkpoint, within_some, written_in, written_row, zero, ℕ}
+use Rattle.trio_ctl.proofs.Words.{Bundle, Bundled, CaseShown, CoreRange, Creds, Entries, GivenTo, HoldParts, In, In-map, InoParts, IsControlled, Keyed, LentFile, LibNo, List, OpenGrant, Opened, Option, Outline, Some, State, Store, WereHeld, Written, [], and_from, ap, are_new, are_new-append, arith, bundle_in, bundle_pages, case_made, creds_of, grants_in, has_kind, is_core, is_some, le-leb, leb, length, lib_at, list_all, list_all-each, lt-ltb, ltb, map, map-In, new_beside, parted_hold, refl, row_in, same_kind-self, state_of, subst, suc, superblock_at_home, superblock_facts, sym, true, with_checkpoint, within_some, written_in, written_row, zero, ℕ, ◌&&◌, ◌++◌, ◌+◌, ◌-◌, ◌<◌, ◌∙◌, ◌∷◌, ◌≡◌, ◌≤◌}
 use Rattle.std.specs.Prelude.{None, is_none}
 use Rattle.trio_layout.specs.Copied.{copied_rows}
 use Rattle.trio_laws.proofs.Bundles.{held_unwritten}
@@ -8,10 +8,6 @@ use Rattle.trio_case.specs.Cases.{IsJudgeable, is_free_number}
 use Rattle.trio_ctl.proofs.ChildRows.{few_children}
 use Rattle.trio_ctl.proofs.Concluding.{judgeable, some_and}
 use Rattle.trio_ctl.proofs.Judging.{pages_core, pages_new, parents}
-
-pub same_self : (kind other : Kind) → kind ≡ other → same_kind kind other ≡ true
-same_self Regular other e = ap (same_kind Regular) (sym e)
-same_self Directory other e = ap (same_kind Directory) (sym e)
 
 written_inos : (fs : List LentFile) → map (λ f. f.stands.ino) fs ≡ map (λ w. w.ino) (map (λ f. written_in f.stands) fs)
 written_inos [] = refl
@@ -43,7 +39,7 @@ module _ (s : Store) (first : ℕ) (table : List Keyed) (files : List Opened) (c
       let number : o.0.grant.ino ≡ h.ino = sym (ap (λ (x : OpenGrant). x.ino) o.2) ∙ sym (ap (λ (x : OpenGrant). x.ino) g.2) ∙ q.ino in
       let of : o.0.grant.of ≡ h.kind = sym (ap (λ (x : OpenGrant). x.of) o.2) ∙ sym (ap (λ (x : OpenGrant). x.of) g.2) ∙ q.of in
       let r = some_and (row_in s.rows o.0.grant.ino) (λ r. r.kind ≡ o.0.grant.of) kinds in
-      ap (has_kind h.kind) (ap (row_in s.rows) (sym number) ∙ r.1) ∙ same_self h.kind r.0.kind (sym of ∙ sym r.2)
+      ap (has_kind h.kind) (ap (row_in s.rows) (sym number) ∙ r.1) ∙ same_kind-self h.kind r.0.kind (sym of ∙ sym r.2)
 
   -- no file is both written and held
   numbers_once : are_new [] (map (λ f. f.stands.ino) bundle.writes ++ map (λ h. h.ino) bundle.holds) ≡ true
@@ -70,7 +66,7 @@ module _ (s : Store) (first : ℕ) (table : List Keyed) (files : List Opened) (c
         written = list_all-each (λ f. has_kind f.stands.kind (row_in s.rows f.stands.ino)) bundle.writes
             (λ f i.
             let q = written_row st lib.0 b j (written_in f.stands) (In-map (λ (x : LentFile). written_in x.stands) f bundle.writes i) in
-            ap (has_kind f.stands.kind) q.1 ∙ same_self f.stands.kind q.0.kind q.2);
+            ap (has_kind f.stands.kind) q.1 ∙ same_kind-self f.stands.kind q.0.kind q.2);
         held = list_all-each (λ h. has_kind h.kind (row_in s.rows h.ino)) bundle.holds held_kind;
         once = numbers_once;
         numbers = list_all-each (λ n. is_free_number s.rows inodes n.no) bundle.inodes

@@ -1,5 +1,5 @@
 -- How many files stand in the directories that a bundle writes: at most 16 for each page of the bundle.
-use Rattle.trio_ctl.proofs.Words.{◌*◌, ◌++◌, ◌+◌, ◌∙◌, ◌∷◌, ◌≡◌, ◌≤◌, Bool, Bundle, Core, Directory, FileRead, IfOk, In, In-find, In-flat, In-map, IsJudgeable, Kind, List, Listed, Met, None, Ok, Option, Regular, Row, Sheet, Some, State, Written, [], ap, are_new, arith, at_page, bundle_pages, bundle_sheets, child_from, children, children_in, cond, entries_of_kind, entries_on, eq-eqb, eqb-true, false, false≢true, file_of, find, find-In, flat_map, flat_map-In, gathered, gathers_directory, get_or, inl, inr, is_written, length, length-map, map, met_in, new_beside, one_met, option_map_or, page_entries, page_of, plain, reads_from, refl, root_or_listed, row_at, settled, subst, suc, sum_by-cons, survey, sym, there_or, true, written_find, ℕ}
+use Rattle.trio_ctl.proofs.Words.{Bool, Bundle, Core, FileRead, IfOk, In, In-find, In-flat, In-map, IsJudgeable, Kind, List, Listed, Met, None, Ok, Option, Row, Sheet, Some, State, Written, [], ap, are_new, arith, at_page, bundle_pages, bundle_sheets, child_from, children, children_in, cond, entries_of, entries_of_kind, entries_on, eq-eqb, eqb-true, false, false≢true, file_of, find, find-In, flat_map, flat_map-In, gathered, gathers_directory, get_or, inl, inr, is_written, kind_cases, length, length-map, map, met_in, new_beside, one_met, option_map_or, page_entries, page_of, plain, reads_from, refl, root_or_listed, row_at, settled, subst, suc, sum_by-cons, survey, sym, there_or, true, written_find, ℕ, ◌*◌, ◌++◌, ◌+◌, ◌∙◌, ◌∷◌, ◌≡◌, ◌≤◌}
 use Rattle.std.proofs.Common.{eqb}
 use Rattle.std.specs.List.{count_by}
 use Rattle.std.proofs.lemmas.List.{length-append}
@@ -54,10 +54,17 @@ page_most core page =
     if_ok_then (there_or (at_page page) (page_of core page)) (entries_on core.inodes page) (AtMost 16) (λ bytes e. entries_on_most core.inodes page bytes)
 
 entries_most : (core : Core) (kind : Kind) (blocks : List ℕ) (es : List Listed) → entries_of_kind core kind blocks ≡ Ok es → length es ≤ 16 * length blocks
-entries_most core Regular blocks es e = (let none : [] ≡ es = cc in let long = ap length none in omega (arith, long))
-entries_most core Directory blocks es e =
-    if_ok_at (gathered (page_entries core) blocks) es (AtMost (16 * length blocks)) (gathers_directory core blocks es e).0
-    (gathered_most 16 (page_entries core) (page_most core) blocks)
+entries_most core kind blocks es e =
+    elim (kind_cases kind) [
+      | inl directory ↦
+          if_ok_at (gathered (page_entries core) blocks) es (AtMost (16 * length blocks)) (gathers_directory core blocks es (ap (λ k. entries_of_kind core k blocks) (sym directory) ∙ e)).0
+          (gathered_most 16 (page_entries core) (page_most core) blocks)
+      | inr other ↦
+          let said : Ok [] ≡ Ok es = sym (ap (λ t. cond t (entries_of core blocks) (Ok [])) other) ∙ e in
+          let none : [] ≡ es = cc said in
+          let long = ap length none in
+          omega (arith, long)
+    ]
 
 children_most : (core : Core) (m : Met) (f : FileRead) → file_of core m ≡ Ok f → length (numbers (children core plain m)) ≤ 16 * length f.chain.blocks
 children_most core m f e =

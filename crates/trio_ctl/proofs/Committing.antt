@@ -1,5 +1,5 @@
 -- An accepted bundle that is put in place in the store: its end is that of an accepted one.
-use Rattle.trio_ctl.proofs.Words.{if◌then◌else◌, ◌&&◌, ◌++◌, ◌+◌, ◌-◌, ◌<◌, ◌==◌, ◌∙◌, ◌∷◌, ◌≡◌, ◌⊎◌, Bool, Bundle, Checkpointed, Commits, Core, CoversLent, Creds, Ends, Image, In, In-cases, In-filter, In-flat, In-is_among, In-left, In-list_any, In-map, In-right, IsStored, IsTrue, List, ListedFile, Met, None, OpenGrant, Option, OutByNumber, Row, Sheet, Some, State, Store, Unwritten, Write, Written, [], among_cases, and_from, and_parts, ap, arith, both_ways, bundle_pages, bundle_sheets, cases_Bool, cases_lt, checkpoint_at, checkpoint_at-others, checkpoints_of, closed_unparted, cond, covered_at, covered_pages, covers_blocks, creds_of, eq-eqb, eqb-true, false, false_from_ne_true, filter, filter-In, find, find-In, flat_map-In, get_or, grants_after, grants_staying, has_file, has_file_at, has_file_by, in_numbers, inl, inr, is_among, is_among-In, is_in_bundle, is_some, is_write, is_written, judged_from, le-leb, leb, leb-true, length, length-with_all, length-with_pages, lent_file, lent_met, lent_part, list_any-In, lt-ltb, ltb, map, map-In, map-append, new_from, new_not_live, next, not, not-true, not_among, option_map, option_map_or, owner_at, owner_of, page_there, pages_are, pages_of, place_there, plain, put_on, reads, refl, row_at, row_in, row_of, settled, sheet_numbers, slice_get, slice_index, some_of, sound_parts, state_of, subst, suc, superblock_fits, survey, sym, tabulated-length, true, with_all, with_all-read, with_bodies, with_checkpoint, with_pages, with_pages_known, within_some, write_is, written_find, written_ino, written_judged, zero, ℕ}
+use Rattle.trio_ctl.proofs.Words.{Bool, Bundle, Checkpointed, Commits, Core, CoversLent, Creds, Ends, Image, In, In-cases, In-filter, In-flat, In-is_among, In-left, In-list_any, In-map, In-right, IsStored, IsTrue, List, ListedFile, Met, None, OpenGrant, Option, OutByNumber, Row, Sheet, Some, State, Store, Unwritten, Write, Written, [], among_cases, and_from, and_parts, ap, arith, both_ways, bundle_pages, bundle_sheets, cases_Bool, cases_lt, checkpoint_at, checkpoint_at-others, checkpoints_of, closed_unparted, cond, covered_at, covered_pages, covers_blocks, creds_of, eq-eqb, eqb-true, false, false_from_ne_true, filter, filter-In, find, find-In, flat_map-In, get_or, grants_after, grants_staying, guard_in, has_file, has_file_at, has_file_by, if◌then◌else◌, in_numbers, inl, inr, is_among, is_among-In, is_in_bundle, is_some, is_write, is_written, judged_from, le-leb, leb, leb-true, length, length-with_all, length-with_pages, lent_file, lent_met, lent_part, list_any-In, lt-ltb, ltb, map, map-In, map-append, new_from, new_not_live, next, not, not-true, not_among, option_map, option_map_or, owner_at, owner_of, page_there, pages_are, pages_of, place_there, plain, put_on, reads, refl, row_at, row_in, row_of, settled, sheet_numbers, slice_get, slice_index, some_of, sound_parts, state_of, subst, suc, superblock_fits, survey, sym, tabulated-length, true, with_all, with_all-read, with_bodies, with_checkpoint, with_pages, with_pages_known, within_some, write_is, written_find, written_ino, written_judged, zero, ℕ, ◌&&◌, ◌++◌, ◌+◌, ◌-◌, ◌<◌, ◌==◌, ◌∙◌, ◌∷◌, ◌≡◌, ◌⊎◌}
 use Rattle.std.proofs.lemmas.Bool.{or_cases}
 use Rattle.trio_layout.specs.Edges.{is_listed}
 use Rattle.trio_layout.specs.Tables.{gives_up, owner_after}
@@ -238,7 +238,7 @@ module _ (e : AcceptedBundle) (s' : Store) (is : Commits e.handed.store s' e.han
   index_lent g c p v a = subst (λ ns. In p ns) v.index a
 
   block_lent : (g : OpenGrant) (c : Checkpointed) (p : ℕ) → CoversLent g c → In p (sheet_numbers c.blocks) → In p (sheet_numbers g.blocks)
-  block_lent g c p v a = by (covers_blocks g.of) (subst (λ ns. In p ns) v.blocks a)
+  block_lent g c p v a = by (covers_blocks g.of (guard_in g.body)) (subst (λ ns. In p ns) v.blocks a)
     where
       by : (t : Bool) → In p (if t then sheet_numbers g.blocks else []) → In p (sheet_numbers g.blocks)
       by true i = i
@@ -529,7 +529,7 @@ module _ (e : AcceptedBundle) (s' : Store) (is : Commits e.handed.store s' e.han
           (g.0, unwritten_stays e.handed.store e.handed.first_core e.handed.grants e.handed.creds e.handed.entries e.handed.stored e.handed.lib b e.handed.given g.0 g.1 g.2 (ap (is_written b) g.3 ∙ unjudged_unwritten n l.2), g.2, g.3);
       covers = λ g i w.
           let t = stays g i w in
-          (with_own_blocks g.ino (placed e) t.was, t.then', record { chain = t.covers.chain; index = t.covers.index; blocks = own_numbers g.ino (placed e) t.was.blocks ∙ t.covers.blocks });
+          (with_own_blocks g.ino (placed e) t.was, t.then', record { body = t.covers.body; chain = t.covers.chain; index = t.covers.index; blocks = own_numbers g.ino (placed e) t.was.blocks ∙ t.covers.blocks });
       kept = accepted_kept (now e) after e.handed.stored.kept e.handed.lib.0 (creds_of (now e) e.handed.lib.0) b e.handed.given (closed_unparted (now e) e.handed.lib.0 b e.handed.closed) e.accepted ends;
     };
   }

@@ -606,7 +606,7 @@ pub holds_stand : HoldsStand
 holds_stand s lib h k told i =
     let w = behind hold_of is_hold s lib h i in
     let kind = hold_is w.grant.kind w.kind in
-    by w.grant (ap (λ (x : HoldParts). x.parent) w.is) w.lib (row_at s.home w.grant.ino) (told w.grant w.is_open kind) (k.held w.grant w.is_open kind).0
+    by w.grant (ap (λ (x : HoldParts). x.parent) w.is) w.lib (row_at s.home w.grant.ino) (told w.grant w.is_open kind) (k.held w.grant w.is_open kind)
   where
     by : (g : OpenGrant) → h.parent ≡ g.parent → g.lib ≡ lib.0 → (o : Option Row) → IsSomeAnd o (λ r. g.parent ≡ r.parent) → has_parent_grant s g.lib o ≡ true → In h.parent (map (λ w. w.ino) (out_of s lib).writes)
     by g is mine None t has = absurd t

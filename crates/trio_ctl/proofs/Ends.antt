@@ -1,12 +1,11 @@
 -- The two moves of a release, in the words of the acts.
-use Rattle.trio_ctl.proofs.Words.{◌+◌, ◌∙◌, ◌≡◌, ◌≤◌, Accepted, Acts, Answered, AreMine, Begin, Bundle, Bundled, CaseShown, ComesBack, CtlAnswer, End, HasBegun, HasHistory, HasNoRoom, Image, In-map, IsAwaited, IsFull, IsJudgeable, IsRecorded, IsTaken, KeptUnderway, LentFile, LentIsTrue, List, Logged, NoMemory, None, Notes, Option, Outline, Refused, Release, ReleaseAnswer, ReleaseFault, Row, Some, State, Step, Underway, ap, arith, begun_by, bundle_in, case_shown, has_kind, inl, inr, length, list_all, list_all-each, notes_of, outline_of, recorded, refl, release_fault_answer, row_in, settled, sizes_of, subst, sym, true, verdict_of, with_begun, written_in, written_row, ℕ}
+use Rattle.trio_ctl.proofs.Words.{Accepted, Acts, Answered, AreMine, Begin, Bundle, Bundled, CaseShown, ComesBack, CtlAnswer, End, HasBegun, HasHistory, HasNoRoom, Image, In-map, IsAwaited, IsFull, IsJudgeable, IsRecorded, IsTaken, KeptUnderway, LentFile, LentIsTrue, List, Logged, NoMemory, None, Notes, Option, Outline, Refused, Release, ReleaseAnswer, ReleaseFault, Row, Some, State, Step, Underway, ap, arith, begun_by, bundle_in, case_shown, has_kind, inl, inr, length, list_all, list_all-each, notes_of, outline_of, recorded, refl, release_fault_answer, row_in, same_kind-self, settled, sizes_of, subst, sym, true, verdict_of, with_begun, written_in, written_row, ℕ, ◌+◌, ◌∙◌, ◌≡◌, ◌≤◌}
 use Rattle.trio_state.specs.Moves.{ActAnswer, GivenAct}
 use Rattle.trio_state.specs.Step.{ReleaseEnd}
 use Rattle.trio_state.specs.State.{IsLibrary}
 use Rattle.trio_laws.specs.ActLaws.{AtOnce, InARow}
 use Rattle.trio_laws.proofs.acts.TwoMoves.{release_is_two_moves}
 use Rattle.trio_laws.proofs.acts.Underways.{begun_here, begun_within}
-use Rattle.trio_ctl.proofs.Cases.{same_self}
 
 -- a verdict is no want of memory
 with_memory : (v : ReleaseAnswer) → verdict_of v ≡ NoMemory → ⊥
@@ -54,7 +53,7 @@ written_live s lib b rows same j =
     list_all-each (λ f. has_kind f.stands.kind (row_in rows f.stands.ino)) b.writes
     (λ f i.
     let q = written_row s lib (bundle_in b) j (written_in f.stands) (In-map (λ (x : LentFile). written_in x.stands) f b.writes i) in
-    ap (λ rs. has_kind f.stands.kind (row_in rs f.stands.ino)) same ∙ ap (has_kind f.stands.kind) q.1 ∙ same_self f.stands.kind q.0.kind q.2)
+    ap (λ rs. has_kind f.stands.kind (row_in rs f.stands.ino)) same ∙ ap (has_kind f.stands.kind) q.1 ∙ same_kind-self f.stands.kind q.0.kind q.2)
 
 -- ---- the two moves in a row
 

@@ -1,5 +1,5 @@
 -- A write grant of the controller is the step that the definitions say.
-use Rattle.trio_ctl.proofs.Words.{if◌then◌else◌, ◌&&◌, ◌*◌, ◌++◌, ◌+◌, ◌-◌, ◌<◌, ◌||◌, ◌∙◌, ◌∷◌, ◌≡◌, ◌≢◌, ◌⊎◌, AllBelow, Bool, Busy, Chain, Checkpointed, Core, CoreRange, CoversLent, Creds, Denied, Entries, Grant, GrantFault, GrantKind, Granted, HaveKinds, Hold, Holder, HoldsAreTold, In, In-cases, In-find, In-flat, In-left, In-map, In-right, IsControlled, IsLendable, IsSomeAnd, IsStored, Kept, Keyed, LibNo, List, NoParent, None, NotGranted, NotLive, OnErr, OpenGrant, Opened, Option, Outcome, Outline, Read, Row, Sheet, Some, State, Step, Store, Superblock, TableGrant, Write, [], and_from, ap, are_new, arith, begun_among, block_sheets, body_by_row, body_in_slot, body_of, body_stands, chain_in, chain_of, checkpoint_at, checkpoint_settled, core_of, covered_at, covered_pages, covers_blocks, creds_of, denial, denied_or, eq-eqb, eqb-true, excludes_kind, excluding, false, false≢true, filter, find, find-In, first_with, get_or, get_or-set_other, get_or-set_same, grant_fault, grant_fault_answer, grant_on, grant_under, granted_to, grants_in, has_parent_grant, holder, holder_of, index_sheets, inl, inr, is_among, is_core, is_read, is_some, is_write, keyed, lease_of, lendable_is_home, length, length-set, length-without, lib_at, list_all-each, list_any, logged, logged_kept, map, map-In, map-append, not, opened, opens, option_and_then, option_map, option_map_or, page_at, page_count, page_from, page_of, reads_among, refl, result_then, result_then-Ok, row_at, row_in, settled, settled_body, settled_chain, sheet_numbers, sheets_all, sheets_of, slice_set, state_of, step_kept, subst, suc, superblock_at_home, superblock_fits, sym, there_or, true, with_checkpoint, with_core_pages, without_checkpoint, without_pages, write_is, zero, ℕ}
+use Rattle.trio_ctl.proofs.Words.{AllBelow, Bool, Busy, Chain, Checkpointed, Core, CoreRange, CoversLent, Creds, Denied, Entries, Grant, GrantFault, GrantKind, Granted, HaveKinds, Hold, Holder, HoldsAreTold, In, In-cases, In-find, In-flat, In-left, In-map, In-right, IsControlled, IsLendable, IsSomeAnd, IsStored, Kept, Keyed, LibNo, List, NoParent, None, NotGranted, NotLive, OnErr, OpenGrant, Opened, Option, Outcome, Outline, Read, Row, Sheet, Some, State, Step, Store, Superblock, TableGrant, Write, [], and_from, ap, are_new, arith, begun_among, block_sheets, body_by_row, body_in_slot, body_of, body_stands, chain_in, chain_of, checkpoint_at, checkpoint_settled, core_of, covered_at, covered_pages, covers_blocks, creds_of, denial, denied_or, eq-eqb, eqb-true, excludes_kind, excluding, false, false≢true, filter, find, find-In, first_with, get_or, get_or-set_other, get_or-set_same, grant_fault, grant_fault_answer, grant_on, grant_under, granted_to, grants_in, guard_in, has_parent_grant, holder, holder_of, if◌then◌else◌, index_sheets, inl, inr, is_among, is_core, is_read, is_some, is_write, keyed, lease_of, lendable_is_home, length, length-set, length-without, lib_at, list_all-each, list_any, logged, logged_kept, map, map-In, map-append, not, opened, opens, option_and_then, option_map, option_map_or, page_at, page_count, page_from, page_of, reads_among, refl, result_then, result_then-Ok, row_at, row_in, settled, settled_body, settled_chain, sheet_numbers, sheets_all, sheets_of, slice_set, state_of, step_kept, subst, suc, superblock_at_home, superblock_fits, sym, there_or, true, with_checkpoint, with_core_pages, without_checkpoint, without_pages, write_is, zero, ℕ, ◌&&◌, ◌*◌, ◌++◌, ◌+◌, ◌-◌, ◌<◌, ◌||◌, ◌∙◌, ◌∷◌, ◌≡◌, ◌≢◌, ◌⊎◌}
 use Rattle.std.proofs.Common.{slice_get}
 use Rattle.std.specs.Prelude.{◌==◌, Ok, Err, Result, IsTrue}
 use Rattle.std.proofs.lemmas.List.Elements.{All-cons}
@@ -279,7 +279,7 @@ module _ (s : Store) (first : ℕ) (table : List Keyed) (files : List Opened) (c
         sheets_same (core_of pages range) core c.index (λ p i. page_same p (In-left p c.index c.blocks i)) ∙ ap (index_sheets core) (sym home.1) in
         let blocks : sheets_of (core_of pages range) c.blocks ≡ block_sheets core (settled_chain (settled st) r.kind ino) =
         sheets_same (core_of pages range) core c.blocks (λ p i. page_same p (In-right p c.index c.blocks i)) ∙ ap (block_sheets core) (sym home.1) in
-        let G : List ℕ → List Sheet → List Sheet → OpenGrant = λ b xs ys. record { lib = lib.0; ino = ino; kind = kind; of = r.kind; entry = entries.made; body = b; index = lent_sheets kind xs; blocks = lent_sheets kind ys; parent = 0; children = 0; checkpoint = covered kind r.kind (lent_sheets kind xs) (lent_sheets kind ys) } in
+        let G : List ℕ → List Sheet → List Sheet → OpenGrant = λ b xs ys. record { lib = lib.0; ino = ino; kind = kind; of = r.kind; entry = entries.made; body = b; index = lent_sheets kind xs; blocks = lent_sheets kind ys; parent = 0; children = 0; checkpoint = covered kind r.kind (guard_in b) (lent_sheets kind xs) (lent_sheets kind ys) } in
         ap (λ b. G b (sheets_of (core_of pages range) c.index) (sheets_of (core_of pages range) c.blocks)) is
         ∙ ap (λ xs. G (settled_body (settled st) ino) xs (sheets_of (core_of pages range) c.blocks)) index
         ∙ ap (G (settled_body (settled st) ino) (index_sheets core (settled_chain (settled st) r.kind ino))) blocks
@@ -385,7 +385,7 @@ module _ (s : Store) (first : ℕ) (table : List Keyed) (files : List Opened) (c
     -- the file is lent, and its checkpoint kept
     module _ (key : ℕ) (body : List ℕ) (is : body ≡ settled_body (settled st) ino) (file : Opened) (checkpoint : Checkpointed) (s' : Store) (table' : List Keyed) (files' : List Opened) (entries' : Entries)
         (made : file ≡ record { key = key; grant = without_checkpoint (grant_on (core_of pages range) lib.0 ino Write r.kind entries.made body (chain Write lib ino r row free)) })
-        (covers : covered_pages checkpoint ≡ covered_of file.grant.of file.grant.index file.grant.blocks)
+        (covers : covered_pages checkpoint ≡ covered_of file.grant.of (guard_in file.grant.body) file.grant.index file.grant.blocks)
         (gone : s'.home.pages ≡ without_pages ((chain Write lib ino r row free).index ++ (chain Write lib ino r row free).blocks) pages)
         (rest : s' ≡ record s { home = s'.home; checkpoints = s'.checkpoints })
         (kept_aside : s'.checkpoints.items ≡ slice_set cs ino (Some checkpoint))
@@ -416,7 +416,7 @@ module _ (s : Store) (first : ℕ) (table : List Keyed) (files : List Opened) (c
           let C : OpenGrant → List Sheet → OpenGrant = λ g sheets. record g { checkpoint = sheets } in
           ap (with_checkpoint s'.checkpoints.items) grant_is
           ∙ ap (λ (o : Option Checkpointed). C new (option_map_or covered_pages o [])) here
-          ∙ ap (C new) (covers ∙ ap (λ (g : OpenGrant). covered_of g.of g.index g.blocks) grant_is)
+          ∙ ap (C new) (covers ∙ ap (λ (g : OpenGrant). covered_of g.of (guard_in g.body) g.index g.blocks) grant_is)
 
       grants_are : grants_in files' ≡ grants_in files ++ file.grant ∷ []
       grants_are = ap grants_in more ∙ map-append (λ (o : Opened). o.grant) files (file ∷ [])
@@ -537,7 +537,7 @@ module _ (s : Store) (first : ℕ) (table : List Keyed) (files : List Opened) (c
     bare : given.checkpoint ≡ []
     bare = by kind plain
       where
-        by : (kind : GrantKind) → is_write kind ≡ false → covered kind r.kind given.index given.blocks ≡ []
+        by : (kind : GrantKind) → is_write kind ≡ false → covered kind r.kind (guard_in given.body) given.index given.blocks ≡ []
         by Read e = refl
         by Hold e = refl
         by Write e = absurd (false≢true (sym e))
@@ -652,7 +652,7 @@ module _ (s : Store) (first : ℕ) (table : List Keyed) (files : List Opened) (c
           let q = k.stored.covers h.0 h.1 h.2 in
           let same : q.0 ≡ c = some_same q.0 c (sym q.1 ∙ ap (checkpoint_at cs) h.3 ∙ there) in
           let place = lent_place st kept_now ino r row other g i h.2 h.3 in
-          let blocks : sheet_numbers c.blocks ≡ sheet_numbers h.0.blocks = ap (λ (x : Checkpointed). sheet_numbers x.blocks) (sym same) ∙ q.2.blocks ∙ ap (λ kind. if covers_blocks kind then sheet_numbers h.0.blocks else []) place.0 in
+          let blocks : sheet_numbers c.blocks ≡ sheet_numbers h.0.blocks = ap (λ (x : Checkpointed). sheet_numbers x.blocks) (sym same) ∙ q.2.blocks ∙ ap (λ kind. if covers_blocks kind (guard_in h.0.body) then sheet_numbers h.0.blocks else []) place.0 in
           let p = page_on_there r.page c.blocks (subst (In r.page) (sym blocks) place.1) in
           let covered : In p.0 g.checkpoint = subst (λ l. In p.0 l) (sym (covers_here h.0 c h.2 (ap (checkpoint_at cs) h.3 ∙ there))) (In-right p.0 c.index c.blocks p.1) in
           p.3 ∙ sym (ap (page_of core) (sym p.2) ∙ checkpoint_settled st kept_now p.0 (In-flat (λ (g : OpenGrant). g.checkpoint) g p.0 st.open_grants i covered))

@@ -1,5 +1,5 @@
 -- A bundle that was given to its library can be judged.
-use Rattle.trio_ctl.proofs.Words.{◌++◌, ◌<◌, ◌∙◌, ◌∷◌, ◌≡◌, ◌⊎◌, Bundle, Case, Core, Directory, FileRead, GivenTo, In, IsJudgeable, Kept, List, ListedFile, Location, Met, None, Option, Regular, Row, Sheet, Some, State, Written, [], and_from, ap, are_new, are_new-append, arith, bundle_pages, case_in, cases_eq, false, false≢true, file_listed, flat_map, flat_map-In, free_is_low, free_unlisted, has_kind, has_parent, inl, inr, is_core, is_some, judged_files, judged_from, le-leb, leb, lent_file, lib_at, list_all, list_all-each, listed_is_core, listing, lt-ltb, ltb, map-append, ne_eqb, new_beside, new_from, new_not_live, pages_are, pages_of, plain, refl, row_at, row_in, row_of_met, same_kind, settled, sheet_numbers, slice_index, some_one, sound_parts, subst, survey, sym, tables, true, within_some, written_ino, written_row, written_same, ℕ}
+use Rattle.trio_ctl.proofs.Words.{Bundle, Case, Core, Directory, FileRead, GivenTo, In, IsJudgeable, Kept, List, ListedFile, Location, Met, None, Option, Row, Sheet, Some, State, Written, [], and_from, ap, are_new, are_new-append, arith, bundle_pages, case_in, cases_eq, false, false≢true, file_listed, flat_map, flat_map-In, free_is_low, free_unlisted, has_parent, inl, inr, is_core, is_directory, is_some, judged_files, judged_from, le-leb, leb, lent_file, lib_at, list_all, list_all-each, listed_is_core, listing, lt-ltb, ltb, map-append, ne_eqb, new_beside, new_from, new_not_live, pages_are, pages_of, plain, refl, row_at, row_in, row_of_met, settled, sheet_numbers, slice_index, some_one, sound_parts, subst, survey, sym, tables, true, within_some, written_ino, written_row, written_same, ℕ, ◌++◌, ◌<◌, ◌∙◌, ◌∷◌, ◌≡◌, ◌⊎◌}
 use Rattle.std.specs.Prelude.{Result, Ok, Err}
 use Rattle.trio_rights.specs.Row.{is_child}
 use Rattle.trio_lists.proofs.Gathered.{each_new, gathered_new}
@@ -9,16 +9,12 @@ use Rattle.trio_laws.proofs.Bundles.{bundle_page, written_lent}
 use Rattle.trio_laws.proofs.judgement.CaseFacts.{no_row_zero, root_row}
 use Rattle.trio_laws.proofs.judgement.JudgedFacts.{written_kind}
 use Rattle.trio_case.specs.Cases.{HasDirectoryParents}
-use Rattle.trio_edges.specs.Leaves.{RegularFilesAreLeaves}
+use Rattle.trio_edges.specs.Leaves.{DataFilesAreLeaves}
 
 numbers_flat_map : (F : Written → List Sheet) (ws : List Written) → sheet_numbers (flat_map F ws) ≡ flat_map (λ w. sheet_numbers (F w)) ws
 numbers_flat_map F [] = refl
 numbers_flat_map F (w ∷ ws) =
     map-append (λ (x : Sheet). x.page) (F w) (flat_map F ws) ∙ ap (λ l. sheet_numbers (F w) ++ l) (numbers_flat_map F ws)
-
-no_kind : (o : Option Row) → ((r : Row) → o ≡ Some r → r.kind ≡ Directory) → has_kind Regular o ≡ false
-no_kind None h = refl
-no_kind (Some r) h = ap (same_kind Regular) (h r refl)
 
 module _ (s : State) (lib : ℕ) (b : Bundle) (kept : Kept s) (given : GivenTo s lib b) where
   abbrev core : Core
@@ -108,25 +104,24 @@ module _ (s : State) (lib : ℕ) (b : Bundle) (j : IsJudgeable s lib b) where
       ]
 
   pub parents : HasDirectoryParents (settled s).rows
-  parents n r e =
-      no_kind (row_in (settled s).rows r.parent)
-      (λ q is. elim (parent_live n r e) [
+  parents n r q e is =
+      elim (parent_live n r e) [
         | inl zero' ↦ absurd (no_row_zero s lib b j q (ap (row_at (settled s)) (sym zero') ∙ is))
-        | inr p ↦ ap (λ (x : Row). x.kind) (some_one (row_at (settled s) r.parent) q p.0 is p.1) ∙ p.2
-      ])
+        | inr p ↦ ap is_directory (ap (λ (x : Row). x.kind) (some_one (row_at (settled s) r.parent) q p.0 is p.1) ∙ p.2)
+      ]
 
   abbrev c : Case
   c = case_in s lib b
 
-  -- a judged regular file is no row's parent, where the number 0 isn't out
-  regular_leaf : lib_at s.numbers_out 0 ≡ None → (m : Met) → In m (judged_files c) → m.kind ≡ Regular → (n : ℕ) (r : Row) → row_at (settled s) n ≡ Some r → r.parent ≡ m.ino → ⊥
-  regular_leaf none m i kind n r e is =
+  -- a judged file that is no directory is no row's parent, where the number 0 isn't out
+  other_leaf : lib_at s.numbers_out 0 ≡ None → (m : Met) → In m (judged_files c) → is_directory m.kind ≡ false → (n : ℕ) (r : Row) → row_at (settled s) n ≡ Some r → r.parent ≡ m.ino → ⊥
+  other_leaf none m i kind n r e is =
       elim (judged_from s lib b j m i) [
         | inl w ↦
             let q = written_row s lib b j w.0 w.1 in
             let number : r.parent ≡ w.0.ino = is ∙ ap (λ (x : Met). x.ino) w.2 ∙ written_ino c w.0 in
-            let regular : q.0.kind ≡ Regular = sym q.2 ∙ sym (written_kind c w.0) ∙ sym (ap (λ (x : Met). x.kind) w.2) ∙ kind in
-            false≢true (sym (parents n r e) ∙ ap (has_kind Regular) (ap (row_at (settled s)) number ∙ q.1) ∙ ap (same_kind Regular) regular)
+            let other : is_directory q.0.kind ≡ false = ap is_directory (sym q.2 ∙ sym (written_kind c w.0) ∙ sym (ap (λ (x : Met). x.kind) w.2)) ∙ kind in
+            false≢true (sym other ∙ parents n r q.0 e (ap (row_at (settled s)) number ∙ q.1))
         | inr x ↦
             let new = (new_from s lib b j x.0 m x.2).1 in
             elim (parent_live n r e) [
@@ -137,18 +132,18 @@ module _ (s : State) (lib : ℕ) (b : Bundle) (j : IsJudgeable s lib b) where
             ]
       ]
 
-  pub leaves : lib_at s.numbers_out 0 ≡ None → RegularFilesAreLeaves (listing c) (settled s).rows
-  leaves none f i regular n =
+  pub leaves : lib_at s.numbers_out 0 ≡ None → DataFilesAreLeaves (listing c) (settled s).rows
+  leaves none f i other n =
       let q = flat_map-In (λ m. file_listed m (file_in c m)) f (judged_files c) i in
       let m = by_read q.0 (file_in c q.0) q.2 in
-      by_row (row_in (settled s).rows n) refl q.0 q.1 m.0 (sym m.1 ∙ regular)
+      by_row (row_in (settled s).rows n) refl q.0 q.1 m.0 (ap is_directory (sym m.1) ∙ other)
     where
       by_read : (m : Met) (o : Result FileRead Location) → In f (file_listed m o) → (f.ino ≡ m.ino) × (f.row.kind ≡ m.kind)
       by_read m (Err place) k = absurd k
       by_read m (Ok read) (inl same) = (ap (λ (x : ListedFile). x.ino) same, ap (λ (x : ListedFile). x.row.kind) same)
       by_read m (Ok read) (inr none') = absurd none'
 
-      by_row : (o : Option Row) → row_in (settled s).rows n ≡ o → (m : Met) → In m (judged_files c) → f.ino ≡ m.ino → m.kind ≡ Regular → is_child f.ino o ≡ false
+      by_row : (o : Option Row) → row_in (settled s).rows n ≡ o → (m : Met) → In m (judged_files c) → f.ino ≡ m.ino → is_directory m.kind ≡ false → is_child f.ino o ≡ false
       by_row None e m k number kind = refl
       by_row (Some r) e m k number kind =
-          ne_eqb r.parent f.ino (λ same. regular_leaf none m k kind n r e (same ∙ number))
+          ne_eqb r.parent f.ino (λ same. other_leaf none m k kind n r e (same ∙ number))

@@ -37,6 +37,7 @@ pub mod Bodies
 pub mod Awaiting
 pub mod Beginnings
 pub mod Rooms
+pub mod Extents
 pub mod Sames
 mod SamePages
 pub mod Underways

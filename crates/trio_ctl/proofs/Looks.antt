@@ -1,5 +1,5 @@
 -- How often home is looked at for kept children: at most once a page of the bundle.
-use Rattle.trio_ctl.proofs.Words.{if◌then◌else◌, ◌++◌, ◌+◌, ◌==◌, ◌∙◌, ◌∷◌, ◌≡◌, ◌≢◌, ◌≤◌, Bool, Case, Core, Directory, In, Kind, List, Listed, ListedEntry, Met, None, Ok, Option, Regular, Sheet, Some, [], ap, are_new, are_new-first, arith, at_page, body_in_slot, bundle_pages, bundle_sheets, child_of, children_in, entries_of_kind, entry_listed, eq-eqb, false, filter_map, flat_map, flat_map-In, gathered, gathers_directory, inl, inr, judged_files, kept_body, length, length-map, map, map-In, map-append, met_in, option_map, option_map_or, page_changes, page_entries, page_of, plain, reads, reads_from, refl, result_then-Ok, rules_are_accept, slot_bytes, slot_of, subst, suc, sym, there_or, true, ℕ}
+use Rattle.trio_ctl.proofs.Words.{Bool, Case, Core, In, Kind, List, Listed, ListedEntry, Met, None, Ok, Option, Sheet, Some, [], ap, are_new, are_new-first, arith, at_page, body_in_slot, bundle_pages, bundle_sheets, child_of, children_in, cond, entries_of, entries_of_kind, entry_listed, eq-eqb, false, filter_map, flat_map, flat_map-In, gathered, gathers_directory, if◌then◌else◌, inl, inr, judged_files, kept_body, kind_cases, length, length-map, map, map-In, map-append, met_in, option_map, option_map_or, page_changes, page_entries, page_of, plain, reads, reads_from, refl, result_then-Ok, rules_are_accept, slot_bytes, slot_of, subst, suc, sym, there_or, true, ℕ, ◌++◌, ◌+◌, ◌==◌, ◌∙◌, ◌∷◌, ◌≡◌, ◌≢◌, ◌≤◌}
 use Rattle.std.proofs.lemmas.List.{append_assoc, append-nil, length-append}
 use Rattle.std.proofs.lemmas.List.Elements.{filter_map-append}
 use Rattle.trio_lists.proofs.Members.{both-Ok}
@@ -151,10 +151,14 @@ module _ (cs : Checkpoints) (c : Case) (core : Core) where
 
   -- along the kept children of a directory the page changes at most once a block
   changes_kind : (d : ℕ) (kind : Kind) (blocks : List ℕ) (es : List Listed) → entries_of_kind core kind blocks ≡ Ok es → Changes (length blocks) (kept_of d es)
-  changes_kind d Regular blocks es s =
-      let n : [] ≡ es = cc s in
-      subst (λ l. Changes (length blocks) (kept_of d l)) n (changes_more 0 (length blocks) [] (omega arith) changes_none)
-  changes_kind d Directory blocks es s = changes_blocks d blocks es (gathers_directory core blocks es s).0
+  changes_kind d kind blocks es s =
+      elim (kind_cases kind) [
+        | inl directory ↦ changes_blocks d blocks es (gathers_directory core blocks es (ap (λ k. entries_of_kind core k blocks) (sym directory) ∙ s)).0
+        | inr other ↦
+            let said : Ok [] ≡ Ok es = sym (ap (λ t. cond t (entries_of core blocks) (Ok [])) other) ∙ s in
+            let n : [] ≡ es = cc said in
+            subst (λ l. Changes (length blocks) (kept_of d l)) n (changes_more 0 (length blocks) [] (omega arith) changes_none)
+      ]
 
   -- kept children, directory by directory
   kept_spread : (ms : List Met) → filter_map (λ x. option_map (child_of x) (kept_body cs x)) (map (entry_listed c) (flat_map (entries_in c) ms)) ≡ flat_map (λ m. filter_map (λ x. option_map (child_of x) (kept_body cs x)) (map (entry_listed c) (entries_in c m))) ms

@@ -1,12 +1,12 @@
 -- The entry of a release is what its bundle, its listing and the notes tell.
-use Rattle.trio_ctl.proofs.Words.{◌++◌, ◌+◌, ◌∙◌, ◌∷◌, ◌≡◌, ◌≤◌, ◌⊎◌, Accepted, AreMarked, Bundle, Bundled, Case, CaseShown, Entry, GivenTo, Handed, HandedFile, HandedPage, HasHistory, Image, In, In-map, IsAccepted, IsJudgeable, IsLibrary, IsOutcome, IsRefused, IsTrue, KeepsUntouched, Kept, KeptUnderway, LentFile, LentPage, LibNo, List, Logged, NoMemory, None, Notes, OpenGrant, Option, Outline, Parted, Refused, Release, ReleaseAnswer, Row, Shown, Some, State, Step, TellsOutcome, Told, WasLentAs, WereLent, Why, [], ap, arith, block_in, bundle_in, case_in, case_shown, creds_of, entries_made, false≢true, file_in, handed_in, inl, inr, is_accepted, is_some, length, listing, map, map-In, meets_rules, next, noted_by, notes_of, option_map, plain, refl, refused_image, row_in, row_of, rules_are_accept, settled, slice_index_or, step_keeps_lent, step_keeps_root, subst, survey, sym, tabulated-length, true, untouched, verdict_of, verdict_on, whole_case, with_bundle, with_copied, write_alone, written_in, ℕ}
+use Rattle.trio_ctl.proofs.Words.{Accepted, AreMarked, Bundle, Bundled, Case, CaseShown, Entry, GivenTo, Handed, HandedFile, HandedPage, HasHistory, Image, In, In-map, IsAccepted, IsJudgeable, IsLibrary, IsOutcome, IsRefused, IsTrue, KeepsUntouched, Kept, KeptUnderway, LentFile, LentPage, LibNo, List, Logged, NoMemory, None, Notes, OpenGrant, Option, Outline, Parted, Refused, Release, ReleaseAnswer, Row, Shown, Some, State, Step, TellsOutcome, Told, WasLentAs, WereLent, Why, [], ap, arith, block_in, bundle_in, case_in, case_shown, creds_of, entries_made, false≢true, file_in, handed_in, inl, inr, is_accepted, is_some, length, listing, map-In, meets_rules, next, noted_by, notes_of, option_map, plain, refl, refused_image, row_in, row_of, rules_are_accept, settled, slice_index_or, step_keeps_lent, step_keeps_root, subst, survey, sym, tabulated-length, true, untouched, verdict_of, verdict_on, whole_case, with_bundle, with_copied, write_alone, written_in, ℕ, ◌++◌, ◌+◌, ◌∙◌, ◌∷◌, ◌≡◌, ◌≤◌, ◌⊎◌}
 use Rattle.trio_entries.specs.Telling.{AreNoted}
 use Rattle.trio_case.specs.Listed.{Listed}
 use Rattle.trio_nodes.specs.declared.entry.Entry.TheVariants as entry
 use Rattle.trio_nodes.specs.declared.entry.RawFile.{RawFile}
 use Rattle.trio_state.specs.Listed.{accepted_blocks, accepted_files, notes_after, refused_blocks, refused_files}
 use Rattle.trio_state.specs.Step.{NotClosed, Accepted as StepAccepted, Refused as StepRefused}
-use Rattle.trio_laws.specs.history.Entries.{bundle_handed, raw_entry, raw_files, sheet_handed}
+use Rattle.trio_laws.specs.history.Entries.{bundle_handed, raw_entry, raw_files, refused_for, sheet_handed}
 use Rattle.trio_laws.specs.history.Recorded.{HandedFits, IsMarked}
 use Rattle.trio_laws.proofs.history.NotesFacts.{noted_at}
 use Rattle.trio_laws.specs.history.ToldLaws.{note_of}
@@ -80,10 +80,10 @@ AcceptedAs s lib b x =
     IsJudgeable s lib x → IsTrue (is_accepted (settled s) (creds_of s lib) x)
     → raw_entry (settled s) lib (handed_in b) Accepted (next (settled s) x) ≡ told_accepted (case_in s lib x) (notes_of (settled s)) lib (handed_in b)
 
-abbrev RefusedAs : State → ℕ → Bundled → ReleaseAnswer → Bundle → Type 0
-RefusedAs s lib b verdict x =
+abbrev RefusedAs : State → ℕ → Bundled → Why → Bundle → Type 0
+RefusedAs s lib b why x =
     IsJudgeable s lib x
-    → raw_entry (settled s) lib (handed_in b) verdict (refused_image (settled s) x) ≡ told_refused (case_in s lib x) (notes_of (settled s)) lib verdict (handed_in b)
+    → raw_entry (settled s) lib (handed_in b) (refused_for why) (refused_image (settled s) x) ≡ told_refused (case_in s lib x) (notes_of (settled s)) lib (refused_for why) (handed_in b)
 
 abbrev NotedAs : State → ℕ → Bundle → Type 0
 NotedAs s lib x =
@@ -96,8 +96,8 @@ SameNotes s lib x = IsJudgeable s lib x → notes_of (refused_image (settled s) 
 accepted_entry : (s : State) (lib : ℕ) (b : Bundled) → IsJudgeable s lib (bundle_in b) → IsTrue (is_accepted (settled s) (creds_of s lib) (bundle_in b)) → raw_entry (settled s) lib (handed_in b) Accepted (next (settled s) (bundle_in b)) ≡ told_accepted (case_in s lib (bundle_in b)) (notes_of (settled s)) lib (handed_in b)
 accepted_entry s lib b = subst (AcceptedAs s lib b) (handed_is b) (accepted_is_listed s lib (handed_in b))
 
-refused_entry : (s : State) (lib : ℕ) (b : Bundled) (verdict : ReleaseAnswer) → IsJudgeable s lib (bundle_in b) → raw_entry (settled s) lib (handed_in b) verdict (refused_image (settled s) (bundle_in b)) ≡ told_refused (case_in s lib (bundle_in b)) (notes_of (settled s)) lib verdict (handed_in b)
-refused_entry s lib b verdict = subst (RefusedAs s lib b verdict) (handed_is b) (refused_is_listed s lib (handed_in b) verdict)
+refused_entry : (s : State) (lib : ℕ) (b : Bundled) (why : Why) → IsJudgeable s lib (bundle_in b) → raw_entry (settled s) lib (handed_in b) (refused_for why) (refused_image (settled s) (bundle_in b)) ≡ told_refused (case_in s lib (bundle_in b)) (notes_of (settled s)) lib (refused_for why) (handed_in b)
+refused_entry s lib b why = subst (RefusedAs s lib b why) (handed_is b) (refused_is_listed s lib (handed_in b) why)
 
 -- a bundle that meets the rules is accepted
 accepts : (s : State) (lib : ℕ) (b : Bundle) → IsJudgeable s lib b → IsTrue (meets_rules (case_in s lib b)) → IsTrue (is_accepted (settled s) (creds_of s lib) b)
@@ -116,7 +116,7 @@ release_entries s lib b (OutRefused rule ino page slot) told notes j o noted t =
     let c = case_in s lib.0 (bundle_in b) in
     let h = handed_in b in
     let v = Refused rule ino page slot in
-    ap (λ e. e ∷ []) (refused_entry s lib.0 b v j)
+    ap (λ e. e ∷ []) (refused_entry s lib.0 b (record { rule = rule; ino = ino; page = page; slot = slot }) j)
     ∙ ap (λ x. told_refused c x lib.0 v h ∷ []) (sym noted)
     ∙ ap (λ fs. entry.Raw lib v fs (record { handed = h; blocks = refused_blocks c notes h fs }) ∷ []) (sym t.0)
     ∙ ap (λ bs. entry.Raw lib v told.files bs ∷ []) (sym t.1)

@@ -1,11 +1,12 @@
 -- A bundle that is rolled back in the store: its end is that of a refusal.
-use Rattle.trio_ctl.proofs.Words.{if◌then◌else◌, ◌++◌, ◌+◌, ◌-◌, ◌<◌, ◌∙◌, ◌≡◌, AreOutTo, Bool, Bundle, Checkpointed, Creds, Ends, Image, In, IsStored, IsTrue, LibNo, List, None, OpenGrant, Option, OutByNumber, Row, Some, State, Store, Written, [], all_below, ap, are_new, bundle_pages, checkpoint_at, checkpoint_at-others, checkpoints_of, closed_unparted, false, filter-In, grants_after, grants_staying, is_among, is_in_bundle, is_some, is_written, length, length-with_all, length-with_pages, lent_part, map, map-In, not_among, outs_after, refl, refused_image, settled, sheet_numbers, slice_get, state_of, subst, superblock_fits, sym, true, with_all, with_all-read, with_pages, within_some, written_covered, written_numbers, ℕ}
+use Rattle.trio_ctl.proofs.Words.{AreOutTo, Bool, Bundle, Checkpointed, Creds, Ends, Image, In, IsStored, IsTrue, LibNo, List, None, OpenGrant, Option, OutByNumber, Row, Some, State, Store, Write, Written, [], all_below, ap, are_new, bundle_pages, checkpoint_at, checkpoint_at-others, checkpoints_of, closed_unparted, false, filter-In, grants_after, grants_staying, guard_in, if◌then◌else◌, is_among, is_in_bundle, is_some, is_written, length, length-with_all, length-with_pages, lent_part, map, map-In, not_among, option_map_or, outs_after, refl, refused_image, settled, settled_body, sheet_numbers, slice_get, state_of, subst, superblock_fits, sym, true, with_all, with_all-read, with_checkpoint, with_pages, within_some, written_covered, written_numbers, ℕ, ◌++◌, ◌+◌, ◌-◌, ◌<◌, ◌∙◌, ◌≡◌}
 use Rattle.std.specs.Prelude.{not}
-use Rattle.trio_state.specs.Bundles.{uncovered}
+use Rattle.trio_lists.proofs.Members.{flat_map-same}
+use Rattle.trio_state.specs.Bundles.{uncovered, uncovered_of}
 use Rattle.trio_laws.proofs.PutBack.{refused_away, refused_settles}
 use Rattle.trio_laws.proofs.Refusing.{refused_kept}
 use Rattle.trio_laws.proofs.Uncovered.{uncovered-lent}
-use Rattle.trio_commit.specs.Handed.{lent_uncovered}
+use Rattle.trio_commit.specs.Handed.{body_before, lent_uncovered}
 use Rattle.trio_ctl.proofs.StoredFacts.{HandedBundle, Checkpoints, checkpoints_same, covered_all, covered_from, covered_within, handed_within, out_to, sized, stays_unwritten, staying_same, unwritten_from, unwritten_stays}
 
 -- what `roll_back` requires of a store
@@ -18,7 +19,7 @@ pub record CanRollBack (s : Store) (lib : LibNo) (b : Bundle) : Type 0 where
 -- what it leaves
 pub record RollsBack (s s' : Store) (b : Bundle) : Type 0 where
   pub home : s'.home ≡ record s.home {
-    pages = with_pages (lent_uncovered b ++ b.pages) (with_pages (written_covered s.checkpoints.items b) s.home.pages);
+    pages = with_pages (lent_uncovered s.checkpoints.items b ++ b.pages) (with_pages (written_covered s.checkpoints.items b) s.home.pages);
   }
   pub checkpoints : s'.checkpoints.items ≡ with_all None (written_numbers b) s.checkpoints.items
   pub allotments : s'.allotments ≡ outs_after s.allotments (sheet_numbers b.pages) b.numbers
@@ -53,6 +54,27 @@ module _ (e : HandedBundle) where
     covered = covered_within s e.first_core e.grants e.creds e.entries e.stored e.lib b e.given;
   }
 
+  -- the checkpoint of a written file has the settled body
+  before : (w : Written) → In w e.bundle.writes → body_before e.store.checkpoints.items w ≡ settled_body (settled now) w.ino
+  before w i =
+      let v = e.given.writes w i in
+      let g = map-In (with_checkpoint cs) v.grant e.grants v.is_open in
+      let kind : g.0.kind ≡ Write = ap (λ (x : OpenGrant). x.kind) (sym g.2) ∙ v.kind in
+      let ino : g.0.ino ≡ w.ino = ap (λ (x : OpenGrant). x.ino) (sym g.2) ∙ v.ino in
+      let c = e.stored.covers g.0 g.1 kind in
+      ap (λ o. option_map_or (λ (c : Checkpointed). c.body) o w.body) (ap (checkpoint_at cs) (sym ino) ∙ c.1)
+      ∙ c.2.body
+      ∙ ap (λ (x : OpenGrant). x.body) (sym g.2)
+      ∙ e.stored.kept.bodies v.grant v.is_open
+      ∙ ap (settled_body (settled now)) v.ino
+
+  -- so what no checkpoint covers is the same by the checkpoints' bodies as by the settled ones
+  uncovered_same : uncovered (settled now) b ≡ lent_uncovered cs b
+  uncovered_same =
+      uncovered-lent now e.stored.kept e.lib.0 b e.given
+      ∙ flat_map-same (λ (w : Written). uncovered_of w.kind (guard_in (settled_body (settled now) w.ino)) w.blocks) (λ (w : Written). uncovered_of w.kind (guard_in (body_before cs w)) w.blocks) b.writes
+      (λ w i. ap (λ body. uncovered_of w.kind (guard_in body) w.blocks) (sym (before w i)))
+
   module _ (s' : Store) (is : RollsBack e.store s' e.bundle) where
     abbrev after : State
     after = state_of s' e.first_core (grants_staying e.lib.0 e.bundle e.grants) e.creds (e.entries + 1)
@@ -75,7 +97,7 @@ module _ (e : HandedBundle) where
     pages_are : s'.home.pages ≡ with_pages (uncovered (settled now) b ++ b.pages) (with_pages (written_covered cs b) s.home.pages)
     pages_are =
         ap (λ h. h.pages) is.home
-        ∙ ap (λ xs. with_pages (xs ++ b.pages) (with_pages (written_covered cs b) s.home.pages)) (sym (uncovered-lent now e.stored.kept e.lib.0 b e.given))
+        ∙ ap (λ xs. with_pages (xs ++ b.pages) (with_pages (written_covered cs b) s.home.pages)) (sym uncovered_same)
 
     count : length s'.home.pages ≡ length s.home.pages
     count = ap length pages_are ∙ length-with_pages (uncovered (settled now) b ++ b.pages) (with_pages (written_covered cs b) s.home.pages) ∙ length-with_pages (written_covered cs b) s.home.pages

@@ -1,5 +1,5 @@
 -- What follows of a store, its open grants, and a bundle that was given to its library.
-use Rattle.trio_ctl.proofs.Words.{if◌then◌else◌, ◌&&◌, ◌*◌, ◌++◌, ◌+◌, ◌-◌, ◌<◌, ◌==◌, ◌||◌, ◌∙◌, ◌∷◌, ◌≡◌, AreOutTo, Bool, Bundle, Checkpointed, Core, Creds, GivenTo, GrantKind, In, In-cases, In-filter, In-flat, In-is_among, In-map, IsStored, IsTrue, LibNo, List, None, OpenGrant, Option, Sheet, State, Store, Superblock, Unwritten, Write, Written, [], all_below, and_from, and_parts, ap, arith, both_ways, bundle_pages, bundle_sheets, cases_Bool, checkpoint_at, covered_at, covered_pages, eq-eqb, eqb-true, false, filter-In, filter-map, find, find-In, flat_map, flat_map-In, grants_after, grants_staying, in_numbers, inl, inr, is_among, is_core, is_hold, is_in_bundle, is_some, is_write, is_written, leb, length, lent_met, listed_is_core, ltb, ltb-true, map, map-In, map-append, not-true, option_map_or, page_count, parted_hold, refl, settled, sheet_numbers, some_of, state_of, subst, sym, true, with_checkpoint, within_some, written_covered, written_numbers, ℕ}
+use Rattle.trio_ctl.proofs.Words.{AreOutTo, Bool, Bundle, Checkpointed, Core, Creds, GivenTo, GrantKind, In, In-cases, In-filter, In-flat, In-is_among, In-map, IsStored, IsTrue, LibNo, List, None, OpenGrant, Option, Sheet, State, Store, Superblock, Unwritten, Write, Written, [], all_below, and_from, and_parts, ap, arith, both_ways, bundle_pages, bundle_sheets, cases_Bool, checkpoint_at, covered_at, covered_pages, eq-eqb, eqb-true, false, filter-In, filter-map, find, find-In, flat_map, flat_map-In, grants_after, grants_staying, guard_in, if◌then◌else◌, in_numbers, inl, inr, is_among, is_core, is_hold, is_in_bundle, is_some, is_write, is_written, leb, length, lent_met, listed_is_core, ltb, ltb-true, map, map-In, map-append, not-true, option_map_or, page_count, parted_hold, refl, settled, sheet_numbers, some_of, state_of, subst, sym, true, with_checkpoint, within_some, written_covered, written_numbers, ℕ, ◌&&◌, ◌*◌, ◌++◌, ◌+◌, ◌-◌, ◌<◌, ◌==◌, ◌||◌, ◌∙◌, ◌∷◌, ◌≡◌}
 use Rattle.std.specs.Prelude.{not}
 use Rattle.std.proofs.lemmas.Bool.{or_left}
 use Rattle.trio_laws.proofs.Bundles.{outside_unwritten, written_from}
@@ -136,7 +136,7 @@ module _ (s : Store) (first_core : ℕ) (grants : List OpenGrant) (creds : List 
 
     pub covered_all : (g : OpenGrant) (x : Sheet) → In g now.open_grants → IsTrue (is_in_bundle lib.0 b g) → In x g.checkpoint → In x (written_covered cs b)
     covered_all g x i own a =
-        let c = covered_write g.kind g.of g.index g.blocks x.page (subst (λ l. In x.page l) (k.kept.checkpoints g i) (in_numbers g.checkpoint x x.page a refl)) in
+        let c = covered_write g.kind g.of (guard_in g.body) g.index g.blocks x.page (subst (λ l. In x.page l) (k.kept.checkpoints g i) (in_numbers g.checkpoint x x.page a refl)) in
         let w = bundle_write now k.kept lib.0 b given g i c.0 own in
         let y = given.writes w.0 w.1 in
         let ino : g.ino ≡ w.0.ino = ap (λ (z : OpenGrant). z.ino) (sym w.2) ∙ y.ino in
@@ -150,7 +150,7 @@ module _ (s : Store) (first_core : ℕ) (grants : List OpenGrant) (creds : List 
         (λ p i.
         let r = map-In (λ (x : Sheet). x.page) p (written_covered cs b) i in
         let g = covered_from r.0 r.1 in
-        let c = covered_write g.0.kind g.0.of g.0.index g.0.blocks p (subst (λ l. In p l) (k.kept.checkpoints g.0 g.1) (in_numbers g.0.checkpoint r.0 p g.3 r.2)) in
+        let c = covered_write g.0.kind g.0.of (guard_in g.0.body) g.0.index g.0.blocks p (subst (λ l. In p l) (k.kept.checkpoints g.0 g.1) (in_numbers g.0.checkpoint r.0 p g.3 r.2)) in
         lent_within g.0 p g.1 c.0 c.1)
 
     -- a grant that stays isn't on a written file

@@ -1,5 +1,5 @@
 -- What a grant lends is well formed: its body, its chain and its entries are in the grammar, by its own pages alone.
-use Rattle.trio_ctl.proofs.Words.{◌++◌, ◌-◌, ◌<◌, ◌==◌, ◌∙◌, ◌∷◌, ◌≡◌, AreWhole, Chain, Core, Directory, Err, In, In-cases, In-left, In-map, In-right, IsWellLent, Kept, Kind, LentPage, List, Location, None, Ok, Ok-one, OpenGrant, Option, Regular, Result, Row, Sheet, Shown, Some, State, Write, [], and_parts, ap, are_new, arith, at_page, block_sheets, body_of, chain_of, entries_of_kind, entries_on, gathered, index_sheets, inl, inr, lendable_is_home, length, length-replicate, lent_numbers, lent_sheet, ltb-true, map, map-append, map-map, met_at, nat_le, nat_lt, numbers_of_file, option_and_then, page_entries, page_from, page_of, page_there, place_there, plain, reads_from, refl, replicate, result_then, result_then-Ok, row_at, settled, settled_body, settled_chain, sheet_numbers, sheets_all, sheets_in, sheets_of, sizes_of, subst, suc, sym, there_or, true, with_pages_known, zero, ℕ}
+use Rattle.trio_ctl.proofs.Words.{AreWhole, Chain, Core, Err, In, In-cases, In-left, In-map, In-right, IsWellLent, Kept, Kind, LentPage, List, Location, None, Ok, Ok-one, OpenGrant, Option, Result, Row, Sheet, Shown, Some, State, Write, [], and_parts, ap, are_new, arith, at_page, block_sheets, body_of, chain_of, cond, entries_of_kind, entries_on, gathered, index_sheets, inl, inr, is_directory, lendable_is_home, length, length-replicate, lent_numbers, lent_sheet, ltb-true, map, map-append, map-map, met_at, nat_le, nat_lt, numbers_of_file, option_and_then, page_entries, page_from, page_of, page_there, place_there, plain, reads_from, refl, replicate, result_then, result_then-Ok, row_at, settled, settled_body, settled_chain, sheet_numbers, sheets_all, sheets_in, sheets_of, sizes_of, subst, suc, sym, there_or, true, with_pages_known, zero, ℕ, ◌++◌, ◌-◌, ◌<◌, ◌==◌, ◌∙◌, ◌∷◌, ◌≡◌}
 use Rattle.std.proofs.Common.{min}
 use Rattle.std.specs.Result.{is_ok}
 use Rattle.trio_lists.specs.Lists.{both, result_map}
@@ -49,8 +49,7 @@ module _ (core other : Core) (range : other.range ≡ core.range) where
         ∙ ap (both (page_entries core p)) (gathered_alike ps (λ q i. same q (inr i)))
 
     entries_alike : (kind : Kind) (ns : List ℕ) → Alike ns → entries_of_kind other kind ns ≡ entries_of_kind core kind ns
-    entries_alike Regular ns same = refl
-    entries_alike Directory ns same = ap (result_then with_names_apart) (gathered_alike ns same)
+    entries_alike kind ns same = ap (λ r. cond (is_directory kind) (result_then with_names_apart r) (Ok [])) (gathered_alike ns same)
 
 -- no page
 abbrev the_none : Option (List ℕ)

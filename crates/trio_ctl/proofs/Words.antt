@@ -68,13 +68,13 @@ pub use Rattle.trio_laws.specs.session.Lent.{AreLentTo, IsLentTo, LentIsTrue, ro
 pub use Rattle.trio_layout.proofs.Superblocks.{superblock_facts}
 pub use Rattle.trio_layout.specs.Accept.{is_accepted, next, with_bodies, with_body_in}
 pub use Rattle.trio_layout.specs.Allowed.{has_kind}
-pub use Rattle.trio_layout.specs.Body.{body_of}
+pub use Rattle.trio_layout.specs.Body.{body_of, guard_in}
 pub use Rattle.trio_layout.specs.Case.{Case}
 pub use Rattle.trio_layout.specs.Chain.{Chain, chain_of}
 pub use Rattle.trio_layout.specs.Copied.{with_copied}
 pub use Rattle.trio_layout.specs.Core.{Core, Location, at_page, page_of}
 pub use Rattle.trio_layout.specs.Edges.{has_file}
-pub use Rattle.trio_layout.specs.Entries.{Listed, body_in_slot, entries_of_kind, entries_on, page_entries, slot_bytes}
+pub use Rattle.trio_layout.specs.Entries.{Listed, body_in_slot, entries_of, entries_of_kind, entries_on, page_entries, slot_bytes}
 pub use Rattle.trio_layout.specs.Image.{Image, IsFit, body_by_row, row_at, settled_body, with_core_pages}
 pub use Rattle.trio_layout.specs.JudgedFiles.{judged_files, written_at, written_met}
 pub use Rattle.trio_layout.specs.Listing.{ListedEntry, ListedFile, Listing, entry_listed, file_listed, listing}
@@ -145,12 +145,13 @@ pub use Rattle.trio_open.specs.inner.Reads.{is_read_of}
 pub use Rattle.trio_page.specs.Home.{Pages}
 pub use Rattle.trio_page.specs.declared.page.PageNo.{PageNo}
 pub use Rattle.trio_rights.specs.Bundle.{Bundle, Written, bundle_pages, bundle_sheets, is_written}
-pub use Rattle.trio_rights.specs.ByKind.{covers_blocks}
+pub use Rattle.trio_rights.proofs.KindFacts.{kind_cases, same_kind-self, same_kind-true}
+pub use Rattle.trio_rights.specs.ByKind.{covers_blocks, is_directory}
 pub use Rattle.trio_rights.specs.Kind.{same_kind}
 pub use Rattle.trio_rights.specs.Row.{Row, row_in}
 pub use Rattle.trio_rights.specs.Sheets.{Sheet, sheet_numbers, with_pages, without_pages}
 pub use Rattle.trio_rights.specs.declared.kind.Kind.{Kind}
-pub use Rattle.trio_rights.specs.declared.kind.Kind.TheVariants.{Directory, Regular}
+pub use Rattle.trio_rights.specs.declared.kind.Kind.TheVariants.{Directory}
 pub use Rattle.trio_rights.specs.declared.rights.Creds.{Creds}
 pub use Rattle.trio_rights.specs.declared.rights.LibNo.{LibNo}
 pub use Rattle.trio_state.specs.Allotments.{allots, free_numbers, is_library, out_after}

@@ -4,6 +4,7 @@ pub mod Ctl
 pub use Rattle.trio_open.specs.Open
 pub mod HandedIn
 pub mod Room
+pub mod Extents
 pub mod Kits
 pub use Rattle.trio_open.specs.Belonging
 pub mod Logged

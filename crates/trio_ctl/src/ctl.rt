@@ -44,7 +44,7 @@ use trio_rights::{Creds, LibNo};
 pub struct Ctl {
     pub(crate) registry: Registry,
     pub(crate) log: Log,
-    // the name and the size of each live file
+    // the name, the size and the guard of each live file
     pub(crate) notes: Notes,
     // memory that is made ready for the releases to come
     pub(crate) spares: Spares,

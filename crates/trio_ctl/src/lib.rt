@@ -19,6 +19,7 @@ pub mod commit_laws;
 mod ctl;
 pub mod desk_laws;
 mod desks;
+mod extent;
 mod give_back;
 mod grant;
 mod hold;
@@ -45,6 +46,7 @@ mod underway;
 
 pub use ctl::Ctl;
 pub use desks::PlainDesk;
+pub use extent::Extent;
 pub use image::ImageFault;
 pub use pending::{Judged, Pending};
 pub use trio_entries::handed::copied;

@@ -6,7 +6,7 @@ ghost use Rattle.trio_layout.specs.Rule.{rule_number};
 ghost use Rattle.trio_layout.specs.Case.{Case};
 ghost use Rattle.trio_layout.specs.Listing.{listing};
 ghost use Rattle.trio_judge.specs.Verdicts.{HasFewEntries};
-ghost use Rattle.trio_edges.specs.Leaves.{RegularFilesAreLeaves};
+ghost use Rattle.trio_edges.specs.Leaves.{DataFilesAreLeaves};
 ghost use Rattle.trio_ctl.specs.Pending.{IsVerdict};
 ghost use Rattle.trio_ctl.specs.inner.Outcomes.{HasFew, IsOutcome};
 
@@ -32,7 +32,7 @@ pub(crate) enum Outcome {
 
 /// What comes of a bundle with this verdict: rule I3 is asked after I1 and I2, and before I4.
 pub(crate) fn outcome_of(verdict: Verdict, rows: &Shadow) -> Outcome
-    requires { (c : Case) × IsVerdict c verdict × (c.rows ≡ rows.now) × RegularFilesAreLeaves (listing c) rows.now }
+    requires { (c : Case) × IsVerdict c verdict × (c.rows ≡ rows.now) × DataFilesAreLeaves (listing c) rows.now }
     ensures outcome { (c : Case) → IsVerdict c verdict → c.rows ≡ rows.now → IsOutcome c result }
     ensures few { (c : Case) → HasFewEntries c verdict → HasFew c.bundle result }
 {

@@ -6,7 +6,7 @@ use trio_io::SureFiles;
 use trio_page::NoMemory;
 use trio_rights::Mode;
 use trio_samples::files::{root, six_directories, three_files};
-use trio_samples::{Sample, SampleFile, directory, put, regular};
+use trio_samples::{Sample, SampleFile, directory, link, put, regular};
 
 /// Such an image.
 pub fn start_image(alloc: Global, start: Start) -> Option<Image> {
@@ -54,7 +54,10 @@ pub enum Start {
     /// The directory `a`, number 2, with the file `f`, number 3, of the five bytes `hello`: the root
     /// has pages 3 and 4, `a` 5 and 6, `f` 7 and 8.
     OneFile,
-    /// The same, and the directory `b`, number 4, beside `a`.
+    /// The same, but that `f` is guarded, and the link `l`, number 4, of the text `/a/f` beside it: `l`
+    /// has pages 9 and 10.
+    GuardAndLink,
+    /// The image with `f`, not guarded, and the directory `b`, number 4, beside `a`.
     TwoDirectories,
     /// `a`, `b`, `a/p`, `a/p/p1`, `b/q`, `b/q/q1`, numbers 2 to 7, on pages 3 to 12.
     SixDirectories,
@@ -71,6 +74,7 @@ pub fn image_bytes(alloc: Global, start: Start) -> Result<Vec<u8>, NoMemory> {
         Start::LeftBytes => left_bytes(alloc),
         Start::OpenDirectory => bytes_of(alloc, &[root(), open_directory()]),
         Start::OneFile => bytes_of(alloc, &three_files()),
+        Start::GuardAndLink => bytes_of(alloc, &guard_and_link()),
         Start::TwoDirectories => bytes_of(alloc, &two_directories()),
         Start::SixDirectories => bytes_of(alloc, &six_directories()),
         Start::LongFiles => long_files(alloc),
@@ -93,6 +97,11 @@ fn long_files(alloc: Global) -> Result<Vec<u8>, NoMemory> {
         directory(5, 1, b"d"),
     ];
     bytes_of(alloc, &files)
+}
+
+fn guard_and_link<'a>() -> [SampleFile<'a>; 4] {
+    let [root, a, f] = three_files();
+    [root, a, f.guarded(), link(4, 2, b"l", b"/a/f")]
 }
 
 fn two_directories<'a>() -> [SampleFile<'a>; 4] {

@@ -7,6 +7,8 @@ mod calls;
 #[cfg(test)]
 mod controllers;
 #[cfg(test)]
+mod extents;
+#[cfg(test)]
 mod hand_in;
 #[cfg(test)]
 mod images;

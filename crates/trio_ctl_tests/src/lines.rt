@@ -162,13 +162,18 @@ fn put_file(out: &mut String, file: &RawFile) -> Result<(), NoMemory> {
     }
     let (kind, mode) = (kind_of_file(file.kind), file.mode.0);
     let (uid, gid, size) = (file.uid, file.gid, file.size);
-    writeln!(out, " {kind} {mode:o} {uid} {gid} {size}")
+    write!(out, " {kind} {mode:o} {uid} {gid} {size}")?;
+    if file.guard {
+        out.push_str(" guarded")?;
+    }
+    out.push('\n')
 }
 
 fn kind_of_file(kind: Kind) -> &'static str {
     match kind {
         Kind::Directory => "directory",
         Kind::Regular => "regular",
+        Kind::Link => "link",
     }
 }
 

@@ -117,6 +117,61 @@ const ROWS: &[Row] = &[
          block 3 0 4a656c6c6f of 4096\n \
          writes 3: 7 8* holds - pages - numbers -\n",
     ),
+    // a guarded file of such a size: its block stands as before too
+    (
+        Start::GuardAndLink,
+        "lib 1 raw 0 0\ngrant write 3\npoke block 3 0 0 4a\npoke body 3 16 0110000000000000\nrelease 3 - -\n",
+        "1 grant write 3 granted 0\n\
+         1 raw refused I1\n \
+         file 3 given 2 f regular 644 0 0 5 guarded\n \
+         writes 3: 7 8* holds - pages - numbers -\n",
+    ),
+    // whatever its writer makes of the guard, on and off
+    (
+        Start::GuardAndLink,
+        "lib 1 raw 0 0\ngrant write 3\npoke block 3 0 0 4a\npoke body 3 16 011000000000000000\nrelease 3 - -\n",
+        "1 grant write 3 granted 0\n\
+         1 raw refused I1\n \
+         file 3 given 2 f regular 644 0 0 5 guarded\n \
+         writes 3: 7 8* holds - pages - numbers -\n",
+    ),
+    (
+        Start::OneFile,
+        "lib 1 raw 0 0\ngrant write 3\npoke block 3 0 0 4a\npoke body 3 16 011000000000000001\nrelease 3 - -\n",
+        "1 grant write 3 granted 0\n\
+         1 raw refused I1\n \
+         file 3 given 2 f regular 644 0 0 5\n \
+         block 3 0 4a656c6c6f of 4096\n \
+         writes 3: 7 8* holds - pages - numbers -\n",
+    ),
+    // a file is guarded, and no longer guarded
+    (
+        Start::OneFile,
+        "lib 1 raw 0 0\ngrant write 3\npoke body 3 24 01\nrelease 3 - -\ngrant write 3\npoke body 3 24 00\nrelease 3 - -\n",
+        "1 grant write 3 granted 0\n\
+         1 raw accepted\n \
+         file 3 given 2 f regular 644 0 0 5 guarded\n \
+         writes 3: 7 8 holds - pages - numbers -\n\
+         1 grant write 3 granted 0\n\
+         1 raw accepted\n \
+         file 3 given 2 f regular 644 0 0 5\n \
+         writes 3: 7 8 holds - pages - numbers -\n",
+    ),
+    // a link without a text: its block stands as handed in; and one of another text
+    (
+        Start::GuardAndLink,
+        "lib 1 raw 0 0\ngrant write 4\npoke block 4 0 0 4a\npoke body 4 12 000000000000000000000000\nrelease 4 - -\ngrant write 4\npoke block 4 0 0 2e\nrelease 4 - -\n",
+        "1 grant write 4 granted 0\n\
+         1 raw refused I1\n \
+         file 4 given 2 l link 777 0 0 4\n \
+         block 4 0 4a612f66 of 4096\n \
+         writes 4: 9 10* holds - pages - numbers -\n\
+         1 grant write 4 granted 0\n\
+         1 raw accepted\n \
+         file 4 given 2 l link 777 0 0 4\n \
+         block 4 0 2e612f66 of 4096\n \
+         writes 4: 9 10* holds - pages - numbers -\n",
+    ),
     // a page that isn't handed in, and that is: then the size counts more of the block that stays
     (
         Start::OneFile,

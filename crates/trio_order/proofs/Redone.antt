@@ -1,5 +1,5 @@
 -- A call happens again in a state of which the same is known, and makes the entry that it made.
-use Rattle.trio_order.proofs.Words.{if◌then◌else◌, ◌++◌, ◌+◌, ◌∙◌, ◌∷◌, ◌≡◌, ◌≤◌, Ask, BadMode, Beside, Bundle, BusyMode, CtlAnswer, Entry, Event, GiveBack, GivenEvent, Happens, Known, LibNo, List, ModeFault, ModeSet, Move, NoFile, NoModeMemory, None, NotOwner, Option, Outcome, ReplaysFrom, Settled, Shown, Some, State, Step, Told, [], all_back, answer_of, ap, arith, back_entries, backs_of, beside_of, does_told, entries_told, entry_of, event_of, handed_back, inl, inr, known, known_after, known_from, length, logged, mode_fault, mode_outcome, moded_to, moves_of, option_to_list, plain_state, refl, row_at, subst, sym, ℕ}
+use Rattle.trio_order.proofs.Words.{if◌then◌else◌, ◌++◌, ◌+◌, ◌∙◌, ◌∷◌, ◌≡◌, ◌≤◌, Ask, BadMode, Beside, Bundle, BusyMode, CtlAnswer, Entry, Event, GiveBack, GivenEvent, Happens, Known, LibNo, List, ModeFault, ModeSet, Move, NoFile, NoModeMemory, None, NotOwner, Option, ReplaysFrom, Settled, Shown, Some, State, Step, Told, [], all_back, answer_of, ap, arith, back_entries, backs_of, beside_of, does_told, entries_told, entry_of, event_of, handed_back, inl, inr, known, known_after, known_from, length, logged, mode_fault, mode_outcome, moded_to, moves_of, option_to_list, plain_state, refl, row_at, subst, sym, ℕ}
 use Rattle.std.specs.Prelude.{Bool, true, false}
 use Rattle.std.specs.Option.{IsSomeAnd}
 use Rattle.trio_nodes.specs.declared.call.Call as call
