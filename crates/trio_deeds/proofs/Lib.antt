@@ -3,3 +3,4 @@ pub mod Reading
 mod Listing
 mod Moving
 mod NewFiles
+mod Links

@@ -1,11 +1,12 @@
 -- A new file has an empty body, which is read again, and is put into a slot.
-use Rattle.std.proofs.Common.{◌≡◌, ◌<◌, ◌≤◌, ◌^◌, ◌&&◌, ℕ, List, true, Option, Some, None, cond, leb, sym, refl, ap, ◌∙◌, arith}
+use Rattle.std.proofs.Common.{◌≡◌, ◌<◌, ◌≤◌, ◌^◌, ◌&&◌, ℕ, List, true, false, Option, Some, None, cond, leb, sym, refl, ap, ◌∙◌, arith}
 use Rattle.std.specs.Str.{bytes_eq}
 use Rattle.std.proofs.lemmas.Bool.{and_from, le-leb}
 use Rattle.std.specs.Option.{option_map_or}
 use Rattle.std.specs.Prelude.{◌%◌, length}
 use Rattle.trio_rights.specs.declared.kind.Kind.{Kind}
-use Rattle.trio_rights.specs.declared.kind.Kind.TheVariants.{Directory, Regular}
+use Rattle.trio_rights.specs.declared.kind.Kind.TheVariants.{Directory, Link, Regular}
+use Rattle.trio_rights.specs.ByKind.{guard_fits, is_link}
 use Rattle.trio_layout.specs.Body.{IsNarrowBody, block_count, body_at, body_bytes, body_fits, body_of, head_fits, size_fits}
 use Rattle.trio_layout.specs.Range.{core_count}
 use Rattle.trio_layout.specs.declared.body.Body.{Body}
@@ -27,21 +28,24 @@ body_again kind range b mode narrow fits =
     and_from (bytes_eq (body_bytes b) (body_bytes (body_at (body_bytes b)))) (body_fits kind range (body_at (body_bytes b))) same (ap (body_fits kind range) again ∙ fits) in
     ap (λ t. cond t (Some (body_at (body_bytes b))) None) test ∙ ap Some again
 
--- an empty file has no page and no head
-empty_fits : (kind : Kind) (range : CoreRange) (b : Body) → b.mode.0 ≤ 511 → b.head ≡ 0 → b.size ≡ 0 → body_fits kind range b ≡ true
-empty_fits kind range b mode head size =
-    ap (λ t. t && leb (block_count b.size) (core_count range) && size_fits kind b.size && head_fits range (block_count b.size) b.head) (le-leb b.mode.0 511 mode)
-    ∙ ap (λ n. leb (block_count n) (core_count range) && size_fits kind n && head_fits range (block_count n) b.head) size
-    ∙ ap (λ t. t && size_fits kind 0 && head_fits range (block_count 0) b.head) (le-leb (block_count 0) (core_count range) (omega arith))
-    ∙ ap (λ n. size_fits kind 0 && head_fits range 0 n) head
-    ∙ by kind
+-- an empty file has no page and no head, and isn't guarded; it is no link
+empty_fits : (kind : Kind) (range : CoreRange) (b : Body) → is_link kind ≡ false → b.mode.0 ≤ 511 → b.head ≡ 0 → b.size ≡ 0 → b.guard ≡ false → body_fits kind range b ≡ true
+empty_fits kind range b link mode head size guard =
+    ap (λ t. t && leb (block_count b.size) (core_count range) && size_fits kind b.size && head_fits range (block_count b.size) b.head && guard_fits kind b.guard) (le-leb b.mode.0 511 mode)
+    ∙ ap (λ n. leb (block_count n) (core_count range) && size_fits kind n && head_fits range (block_count n) b.head && guard_fits kind b.guard) size
+    ∙ ap (λ t. t && size_fits kind 0 && head_fits range (block_count 0) b.head && guard_fits kind b.guard) (le-leb (block_count 0) (core_count range) (omega arith))
+    ∙ ap (λ n. size_fits kind 0 && head_fits range 0 n && guard_fits kind b.guard) head
+    ∙ ap (λ g. size_fits kind 0 && head_fits range 0 0 && guard_fits kind g) guard
+    ∙ by kind link
   where
-    by : (k : Kind) → (size_fits k 0 && head_fits range 0 0) ≡ true
-    by Directory = refl
-    by Regular = refl
+    by : (k : Kind) → is_link k ≡ false → (size_fits k 0 && head_fits range 0 0 && guard_fits k false) ≡ true
+    by Directory plain = refl
+    by Regular plain = refl
+    by Link plain = absurd (let t : true ≡ false = plain in cc t)
 
-pub new_body_read : (kind : Kind) (range : CoreRange) (b : Body) → b.mode.0 ≤ 511 → IsNarrowBody b → b.head ≡ 0 → b.size ≡ 0 → body_of kind range (body_bytes b) ≡ Some b
-new_body_read kind range b mode narrow head size = body_again kind range b (omega (arith, mode)) narrow (empty_fits kind range b mode head size)
+pub new_body_read : (kind : Kind) (range : CoreRange) (b : Body) → is_link kind ≡ false → b.mode.0 ≤ 511 → IsNarrowBody b → b.head ≡ 0 → b.size ≡ 0 → b.guard ≡ false → body_of kind range (body_bytes b) ≡ Some b
+new_body_read kind range b link mode narrow head size guard =
+    body_again kind range b (omega (arith, mode)) narrow (empty_fits kind range b link mode head size guard)
 
 -- a number that is spare brings such a body into a slot
 pub may_be_made : (s : SessionSeen) (name : List ℕ) (dir : ℕ) → MayMakeFile s name dir → (kind : Kind) (body : List ℕ) → size_in body ≡ 0 → MayBeMade s (new_number s) kind body

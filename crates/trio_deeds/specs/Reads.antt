@@ -3,7 +3,7 @@ use Rattle.std.specs.Prelude.{ℕ, zero, suc, ◌+◌, Bool, true, false, List, 
 use Rattle.std.specs.List.{sum_by}
 use Rattle.trio_rights.specs.Rights.{permits}
 use Rattle.trio_rights.specs.declared.kind.Kind.{Kind}
-use Rattle.trio_rights.specs.declared.kind.Kind.TheVariants.{Directory, Regular}
+use Rattle.trio_rights.specs.ByKind.{is_directory}
 use Rattle.trio_rights.specs.declared.rights.Creds.{Creds}
 use Rattle.trio_rights.specs.declared.rights.Need.{Need}
 use Rattle.trio_layout.specs.Entries.{slot_bytes}
@@ -37,8 +37,7 @@ allows s ino kind creds need = let r = rights_in kind (body_had s ino) in permit
 
 -- its size, which of a directory is its number of entries
 abbrev pub size_had : SessionSeen → ℕ → Kind → ℕ
-size_had s ino Directory = entries_counted (pages_shown s ino)
-size_had s ino Regular = size_in (body_had s ino)
+size_had s ino kind = if is_directory kind then entries_counted (pages_shown s ino) else size_in (body_had s ino)
 
 -- what a stat answers of it
 abbrev pub stat_had : SessionSeen → ℕ → Kind → Answer

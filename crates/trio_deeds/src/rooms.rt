@@ -26,18 +26,25 @@ pub fn places(session: &mut Session, ino: u32, blocks: u32) -> Result<(), NoMemo
 }
 
 /// Makes places for one entry more of a directory: [`places`] for so many blocks, and one for the
-/// file that is made or moved. After [`NoMemory`] too nothing else has changed.
-pub fn entry_places(session: &mut Session, dir: u32, blocks: u32) -> Result<(), NoMemory>
+/// file that is made or moved, with so many blocks of its own if it is a new one. After [`NoMemory`] too
+/// nothing else has changed.
+pub fn entry_places(
+    session: &mut Session,
+    dir: u32,
+    blocks: u32,
+    new_blocks: u32,
+) -> Result<(), NoMemory>
     requires { IsOpenDir session.old dir }
     ensures kept { IsSame session.old session.new }
     ensures calls { OnOk result (length session.new.calls < session.new.room.calls) }
     ensures made { OnOk result (length session.new.made < session.new.room.made) }
+    ensures next { OnOk result (new_blocks ≤ session.new.room.next_blocks) }
     ensures blocks { OnOk result (blocks ≤ room_in session.new dir) }
     ensures slots { OnOk result (In dir session.new.room.slots) }
     ensures names { OnOk result (In dir session.new.room.names) }
 {
     session.reserve_call()?;
-    session.reserve_made()?;
+    session.reserve_made(new_blocks)?;
     session.reserve(dir, blocks)
 }
 

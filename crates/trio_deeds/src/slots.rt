@@ -32,6 +32,7 @@ pub fn add_slot(session: &mut Session, dir: u32, size: u64)
     ensures calls { session.new.room.calls ≡ session.old.room.calls }
     ensures names { In dir session.old.room.names → In dir session.new.room.names }
     ensures place { LeavesPlace session.old session.new }
+    ensures next { session.new.room.next_blocks ≡ session.old.room.next_blocks }
 {
     if session.first_empty(dir).is_none() {
         session.grow(dir, size + 4096);

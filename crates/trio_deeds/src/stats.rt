@@ -28,9 +28,10 @@ pub fn stat_of(session: &Session, ino: u32, kind: Kind) -> Answer
     ensures { result ≡ stat_had session.now ino kind }
 {
     let (mode, uid, gid) = rights_of(session, ino);
-    let size = match kind {
-        Kind::Directory => entry_count(session, ino),
-        Kind::Regular => size_of(session, ino),
+    let size = if kind.is_directory() {
+        entry_count(session, ino)
+    } else {
+        size_of(session, ino)
     };
     Answer::Stat {
         kind,

@@ -1,18 +1,18 @@
 -- A file that is cut.
-use Rattle.trio_edit_laws.proofs.Words.{◌<◌, ◌^◌, ◌∙◌, ◌≡◌, ◌≤◌, ◌⊎◌, Body, DeskSeen, Directory, GetsBytes, In, In-cases, In-left, In-right, In-take, IsOpen, List, MadeFile, MayEdit, Parcel, Regular, SessionSeen, Some, [], ap, are_new-take, arith, block_count, body_in, bytes_in, cases_lt, chain_in, flat_map, flat_map-same, get_or-take, get_or_past, index_count, inl, inr, length, length-take, made_file, page_in, refl, resized, size_in, subst, sym, take, ℕ}
+use Rattle.trio_edit_laws.proofs.Words.{◌<◌, ◌^◌, ◌∙◌, ◌≡◌, ◌≤◌, ◌⊎◌, Body, DeskSeen, Directory, GetsBytes, In, In-cases, In-left, In-right, In-take, IsOpenFile, List, MadeFile, MayEdit, Parcel, Regular, SessionSeen, Some, [], ap, are_new-take, arith, block_count, body_in, bytes_in, cases_lt, chain_in, flat_map, flat_map-same, get_or-take, get_or_past, index_count, inl, inr, length, length-take, made_file, page_in, refl, resized, size_in, subst, sym, take, ℕ, get_or}
 use Rattle.trio_session.specs.Seen.{cut}
 use Rattle.trio_edit_laws.proofs.Chained.{AreApart, apart_from, apart_to}
 use Rattle.trio_edit_laws.proofs.Cut.{chain_unnamed, kept-cut, says-cut}
 use Rattle.trio_edit_laws.proofs.Gets.{edit_gets}
 use Rattle.trio_edit_laws.proofs.Keeps.{GrowsBlank, made_at}
 use Rattle.trio_edit_laws.proofs.Links.{Kept}
-use Rattle.trio_edit_laws.proofs.OpenChain.{OpenChain, open_chain, regular_is_none}
+use Rattle.trio_edit_laws.proofs.OpenChain.{OpenChain, open_chain, plain_is_none}
 use Rattle.trio_edit_laws.proofs.Opens.{pages_of_chain, with_chain-beside}
 use Rattle.trio_edit_laws.proofs.Relaid.{IsBodied, IsRelaid, edit_relaid, page_now}
 use Rattle.trio_edit_laws.proofs.Resized.{length-resized, resized-cut}
-use Rattle.trio_edit_laws.proofs.Sized.{narrow-body_of}
+use Rattle.trio_edit_laws.proofs.Sized.{guard_in-sized, length-body_of, narrow-body_of}
 
-module _ (desk : DeskSeen) (s : SessionSeen) (ino size : ℕ) (m : MayEdit desk s) (o : IsOpen s ino) (le : size ≤ size_in (body_in s ino)) where
+module _ (desk : DeskSeen) (s : SessionSeen) (ino size : ℕ) (m : MayEdit desk s) (o : IsOpenFile s ino) (le : size ≤ size_in (body_in s ino)) where
   abbrev index : List ℕ
   index = (chain_in s ino).index
 
@@ -55,7 +55,7 @@ module _ (desk : DeskSeen) (s : SessionSeen) (ino size : ℕ) (m : MayEdit desk 
   -- no slot of a file that was made is on an index page
   apart_slot : (mf : MadeFile) → made_file s ino ≡ Some mf → In mf.page index ⊎ In mf.page index_left → ⊥
   apart_slot mf found i =
-      regular_is_none desk s ino mf m o (made_at s ino mf found).0
+      plain_is_none desk s ino Regular mf m o refl (made_at s ino mf found).0
       (elim i [ inl a ↦ In-left mf.page index blocks a | inr b ↦ in_index mf.page b ])
 
   relaid : IsRelaid desk s ino Regular size index_left blocks_left index written
@@ -94,7 +94,7 @@ module _ (desk : DeskSeen) (s : SessionSeen) (ino size : ℕ) (m : MayEdit desk 
       ap (take size)
       (flat_map-same (page_in (cut ino size s).parcel) (page_in s.parcel) blocks_left
       (λ n i. page_now desk s (cut ino size s) ino Regular size index_left blocks_left index written m o relaid bodied n
-      (λ mf found same. regular_is_none desk s ino mf m o (made_at s ino mf found).0 (subst (λ k. In k (pages_of_chain (chain_in s ino))) same (in_blocks n i)))
+      (λ mf found same. plain_is_none desk s ino Regular mf m o refl (made_at s ino mf found).0 (subst (λ k. In k (pages_of_chain (chain_in s ino))) same (in_blocks n i)))
       ∙ block_stays n i))
       ∙ resized-cut (page_in s.parcel) blocks (size_in (body_in s ino)) size (λ n i. c.whole n (In-right n index blocks i)) (sym c.count) le
 
@@ -102,4 +102,4 @@ module _ (desk : DeskSeen) (s : SessionSeen) (ino size : ℕ) (m : MayEdit desk 
   cut_gets =
       edit_gets desk s (cut ino size s) ino (resized size (bytes_in s ino)) m o
       (edit_relaid desk s (cut ino size s) ino Regular size index_left blocks_left index written m o relaid bodied none_grows)
-      bytes_left (sym (length-resized size (bytes_in s ino)))
+      bytes_left (sym (length-resized size (bytes_in s ino))) (guard_in-sized (get_or index_left 0 0) size (body_in s ino) (length-body_of Regular desk.sizes.range (body_in s ino) c.body c.read))

@@ -1,5 +1,5 @@
 -- An edit of one open file: the nodes that it shows, and that all that a session keeps holds after it.
-use Rattle.trio_edit_laws.proofs.Words.{if◌then◌else◌, ◌∙◌, ◌≡◌, ◌≢◌, AreMade, ArePossible, Becomes, Bool, Case, Chain, Core, DeskSeen, Directory, EntriesHaveRights, FileRead, HoldParts, In, In-flat, In-map, In-right, InoParts, IsJudgedEdit, IsUnlent, IsView, Kind, List, Listed, MadeFile, MayEdit, MayShow, Met, Nodes, Ok, Option, Regular, Row, SameRights, SessionSeen, Shown, Some, [], ap, arith, body_at, body_in, body_in_slot, body_of, body_stands, bytes_listed, case_as_stands, cases_eq, chain_in, content_of, core_in_hand, entries_within, eqb, false, file_in, find, flat_map, flat_map-same, hand_files_once, if_other, if_same, in_hand, inl, ino_numbers, inr, is_among, is_among-In, is_some, judged_files, judged_once, listed_with, made_body, made_file, made_met, map, map-In, met_with, one_of, open_kind, page_in, page_of, pages_in, pages_listed, pages_within, refl, regular_entries, same_met, slice_get-In, some_of, subst, sym, take, true, unwrap_or, with_body_in, within_from, within_to, written_with, ℕ}
+use Rattle.trio_edit_laws.proofs.Words.{if◌then◌else◌, ◌∙◌, ◌≡◌, ◌≢◌, AreMade, ArePossible, Becomes, Bool, Case, Chain, Core, DeskSeen, Directory, EntriesHaveRights, FileRead, HoldParts, In, In-flat, In-map, In-right, InoParts, IsJudgedEdit, IsUnlent, IsView, Kind, List, Listed, MadeFile, MayEdit, MayShow, Met, Nodes, Ok, Option, Regular, Row, SameRights, SessionSeen, Shown, Some, [], ap, arith, body_at, body_in, body_in_slot, body_of, body_stands, bytes_listed, case_as_stands, cases_eq, chain_in, content_of, core_in_hand, entries_within, eqb, false, file_in, find, flat_map, flat_map-same, hand_files_once, if_other, if_same, in_hand, inl, ino_numbers, inr, is_among, is_among-In, is_some, judged_files, judged_once, listed_with, made_body, made_file, made_met, map, map-In, met_with, one_of, open_kind, page_in, page_of, pages_in, pages_listed, pages_within, refl, plain_entries, same_met, slice_get-In, some_of, subst, sym, take, true, unwrap_or, with_body_in, within_from, within_to, written_with, ℕ, Link, is_directory}
 use Rattle.trio_edit_laws.specs.session.JudgedEdits.{HasBodyByLease, HasBodyInSlot, HasBodyNow, file_beside}
 use Rattle.trio_edit_laws.proofs.session.JudgedEdits.{judged_after_edit, judged_edit_shows, reads_after_edit}
 use Rattle.trio_edit_laws.proofs.session.JudgedReads.{met_with-number}
@@ -75,7 +75,9 @@ module _ (desk : DeskSeen) (s s' : SessionSeen) (ino : ℕ) (kind : Kind) (m : M
     -- the entries are as they were
     entries_then : (k : Kind) → kind ≡ k → entries_within (core_in_hand desk (in_hand s')) k e.chain.blocks ≡ Ok r.file.entries
     entries_then Regular is =
-        ap Ok (sym (regular_entries (core_in_hand desk (in_hand s)) r.is.met r.file (r.is.kind ∙ is) r.reads))
+        ap Ok (sym (plain_entries (core_in_hand desk (in_hand s)) r.is.met r.file (ap is_directory (r.is.kind ∙ is)) r.reads))
+    entries_then Link is =
+        ap Ok (sym (plain_entries (core_in_hand desk (in_hand s)) r.is.met r.file (ap is_directory (r.is.kind ∙ is)) r.reads))
     entries_then Directory is =
         let g = e.grows is in
         let w = within_from (core_in_hand desk (in_hand s)) r.is.met r.file r.reads in
@@ -139,17 +141,17 @@ module _ (desk : DeskSeen) (s s' : SessionSeen) (ino : ℕ) (kind : Kind) (m : M
         (flat_map-same (λ n. unwrap_or (page_of core' n) []) (page_in s'.parcel) e.chain.blocks
         (λ n i. ap (λ q. unwrap_or q []) (page_then desk s s' m (hand_now desk s s' ino kind m o e) n (new_held desk s s' ino kind m o e n (In-right n e.chain.index e.chain.blocks i)))))
 
-    pub law_now : Becomes desk (in_hand s) (in_hand s') (content_of kind ino bytes_then)
+    pub law_now : Becomes desk (in_hand s) (in_hand s') (content_of kind ino bytes_then e.read.guard)
     law_now =
-        subst (λ k. Becomes desk (in_hand s) (in_hand s') (content_of k ino bytes_then)) r.is.kind
-        (subst (λ n. Becomes desk (in_hand s) (in_hand s') (content_of r.is.met.kind n bytes_then)) r.is.number
-        (subst (λ l. Becomes desk (in_hand s) (in_hand s') (content_of r.is.met.kind r.is.met.ino l)) bytes_are
+        subst (λ k. Becomes desk (in_hand s) (in_hand s') (content_of k ino bytes_then e.read.guard)) r.is.kind
+        (subst (λ n. Becomes desk (in_hand s) (in_hand s') (content_of r.is.met.kind n bytes_then e.read.guard)) r.is.number
+        (subst (λ l. Becomes desk (in_hand s) (in_hand s') (content_of r.is.met.kind r.is.met.ino l e.read.guard)) bytes_are
         (judged_edit_shows desk (in_hand s) (in_hand s') r.is.met e.body r.file (record { body = e.read; chain = e.chain; entries = r.file.entries }) m.order edit_is)))
 
   view : (nodes nodes' : Nodes) (rows : List (Option Row)) → MayShow desk (in_hand s) (in_hand s') nodes nodes' rows → IsView desk (in_hand s) (in_hand s') nodes nodes' rows
   view nodes nodes' rows may = record { order = m.order; more = takes_more desk s s' m (hand_now desk s s' ino kind m o e); shows = may }
 
-  pub becomes_now : Becomes desk (in_hand s) (in_hand s') (content_of kind ino bytes_then)
+  pub becomes_now : Becomes desk (in_hand s) (in_hand s') (content_of kind ino bytes_then e.read.guard)
   becomes_now = record {
     more = takes_more desk s s' m (hand_now desk s s' ino kind m o e);
     shows = λ nodes nodes' rows may. (law_now nodes nodes' rows (view nodes nodes' rows may)).shows nodes nodes' rows may;
@@ -283,7 +285,7 @@ module _ (desk : DeskSeen) (s s' : SessionSeen) (ino : ℕ) (kind : Kind) (m : M
     all = hands_in_all desk s s' m (hand_now desk s s' ino kind m o e);
     given = well_given desk s s' m (hand_now desk s s' ino kind m o e);
     order = in_order desk s s' m (hand_now desk s s' ino kind m o e);
-    shows = shows_after desk s s' (content_of kind ino bytes_then) m.shows becomes_now;
+    shows = shows_after desk s s' (content_of kind ino bytes_then e.read.guard) m.shows becomes_now;
     alone = left_alone desk s s' m (hand_now desk s s' ino kind m o e);
     beside = chains_beside desk s s' m (hand_now desk s s' ino kind m o e);
     chains = chains_now desk s s' ino kind m o e;

@@ -1,5 +1,5 @@
 -- A file that grows, regular or a directory, written or made.
-use Rattle.trio_edit_laws.proofs.Words.{◌%◌, ◌*◌, ◌++◌, ◌+◌, ◌-◌, ◌<◌, ◌^◌, ◌∙◌, ◌≡◌, ◌≤◌, ◌⊎◌, AreSpare, AreWithinLimits, Body, DeskSeen, Directory, GetsBytes, In, In-cases, In-left, In-right, In-take, IsOpen, Kind, List, MadeFile, MayEdit, Parcel, Regular, SessionSeen, Sheet, Some, [], ap, are_new, are_new-take, arith, block_count, body_in, bundle_of, bundle_pages, bytes_in, cases_lt, chain_in, drop, eqb-true, flat_map, flat_map-append, flat_map-same, fresh_sheet, gap, get_or, get_or-In, get_or_past, growth, in_hand, index_count, inl, inr, length, length-append, length-drop, length-map, length-take-le, length-zeros, made_file, map-map, new_index, open_kind, page_in, page_numbers, pages_in_hand, put_bytes, refl, resized, size_fits, size_in, spare_pages, subst, suc, sym, take, take-append-drop, true, with_part, zeros, ℕ}
+use Rattle.trio_edit_laws.proofs.Words.{◌%◌, ◌*◌, ◌++◌, ◌+◌, ◌-◌, ◌<◌, ◌^◌, ◌∙◌, ◌≡◌, ◌≤◌, ◌⊎◌, AreSpare, AreWithinLimits, Body, DeskSeen, Directory, GetsBytes, In, In-cases, In-left, In-right, In-take, IsOpenFile, Kind, List, MadeFile, MayEdit, Parcel, Regular, SessionSeen, Sheet, Some, [], ap, are_new, are_new-take, arith, block_count, body_in, bundle_of, bundle_pages, bytes_in, cases_lt, chain_in, drop, eqb-true, flat_map, flat_map-append, flat_map-same, fresh_sheet, gap, get_or, get_or-In, get_or_past, growth, in_hand, index_count, inl, inr, length, length-append, length-drop, length-map, length-take-le, length-zeros, made_file, map-map, new_index, open_kind, page_in, page_numbers, pages_in_hand, put_bytes, refl, resized, size_fits, size_in, spare_pages, subst, suc, sym, take, take-append-drop, true, with_part, zeros, ℕ, Link}
 use Rattle.trio_nodes.specs.Apply.{largest_size}
 use Rattle.trio_laws.proofs.Accepting.{allotted_in}
 use Rattle.trio_session.specs.Seen.{grown}
@@ -10,13 +10,13 @@ use Rattle.trio_edit_laws.proofs.Hand.{hand_is_core}
 use Rattle.trio_edit_laws.proofs.IndexFields.{In-drop, IndexSays, says-same}
 use Rattle.trio_edit_laws.proofs.Keeps.{GrowsBlank, IsEdit, IsFree, index_is_none, made_at, slot_chained}
 use Rattle.trio_edit_laws.proofs.Links.{Kept}
-use Rattle.trio_edit_laws.proofs.OpenChain.{OpenChain, open_chain, regular_is_none}
+use Rattle.trio_edit_laws.proofs.OpenChain.{OpenChain, open_chain, plain_is_none}
 use Rattle.trio_edit_laws.proofs.Opens.{pages_of_chain, with_chain-beside}
 use Rattle.trio_edit_laws.proofs.Pages.{length-page_in}
 use Rattle.trio_edit_laws.proofs.Put.{HasPut, put_done, put_none}
 use Rattle.trio_edit_laws.proofs.Reading.{length-blocks}
 use Rattle.trio_edit_laws.proofs.Relaid.{IsBodied, IsRelaid, edit_relaid, page_now}
-use Rattle.trio_edit_laws.proofs.Sized.{size_fits-body_of}
+use Rattle.trio_edit_laws.proofs.Sized.{guard_in-sized, length-body_of, size_fits-body_of}
 use Rattle.trio_edit_laws.proofs.Resized.{core_at, flat_map-zeros, length-resized, resized-grown}
 use Rattle.trio_edit_laws.proofs.Touches.{Touches, alters_more, bare_files, touches_nothing, touches_then}
 
@@ -193,6 +193,7 @@ module _ (desk : DeskSeen) (s : SessionSeen) (ino : ℕ) (kind : Kind) (size : �
 
   abbrev gap_pages : Kind → List ℕ
   gap_pages Regular = blocks
+  gap_pages Link = blocks
   gap_pages Directory = []
 
   abbrev pub touched : List ℕ
@@ -200,6 +201,7 @@ module _ (desk : DeskSeen) (s : SessionSeen) (ino : ℕ) (kind : Kind) (size : �
 
   gap_touches : (k : Kind) → kind ≡ k → Touches (λ n. In n (gap_pages k)) s.parcel zeroed
   gap_touches Regular is = filled.touches
+  gap_touches Link is = filled.touches
   gap_touches Directory is = subst (λ b. Touches (λ n. In n (gap_pages Directory)) s.parcel b) (sym (no_gap is)) (touches_nothing (λ n. In n (gap_pages Directory)) s.parcel)
 
   touches_all : Touches (λ n. In n (gap_pages kind ++ index_now)) s.parcel written
@@ -211,6 +213,7 @@ module _ (desk : DeskSeen) (s : SessionSeen) (ino : ℕ) (kind : Kind) (size : �
 
   gap_own : (k : Kind) (n : ℕ) → In n (gap_pages k) → In n blocks
   gap_own Regular n i = i
+  gap_own Link n i = i
   gap_own Directory n i = absurd i
 
   -- no slot of a file that was made is on a page that is taken
@@ -218,7 +221,8 @@ module _ (desk : DeskSeen) (s : SessionSeen) (ino : ℕ) (kind : Kind) (size : �
   taken_no_slot mf i j = (free mf.page j).unchained (slot_chained desk s mf m i)
 
   gap_no_slot : (k : Kind) (mf : MadeFile) → kind ≡ k → In mf s.made → In mf.page (gap_pages k) → ⊥
-  gap_no_slot Regular mf is i j = regular_is_none desk s ino mf m (o ∙ ap Some is) i (In-right mf.page index blocks j)
+  gap_no_slot Regular mf is i j = plain_is_none desk s ino Regular mf m (o ∙ ap Some is) refl i (In-right mf.page index blocks j)
+  gap_no_slot Link mf is i j = plain_is_none desk s ino Link mf m (o ∙ ap Some is) refl i (In-right mf.page index blocks j)
   gap_no_slot Directory mf is i j = j
 
   index_no_slot : (mf : MadeFile) → In mf s.made → In mf.page index_now → ⊥
@@ -283,18 +287,18 @@ module _ (desk : DeskSeen) (s : SessionSeen) (ino : ℕ) (kind : Kind) (size : �
 
 -- ---- regular files
 
-block_no_slot : (desk : DeskSeen) (s : SessionSeen) (ino size : ℕ) (limits : AreWithinLimits desk.sizes) (m : MayEdit desk s) (spare : AreSpare desk s) (o : IsOpen s ino) (le : size_in (body_in s ino) ≤ size)
+block_no_slot : (desk : DeskSeen) (s : SessionSeen) (ino size : ℕ) (limits : AreWithinLimits desk.sizes) (m : MayEdit desk s) (spare : AreSpare desk s) (o : IsOpenFile s ino) (le : size_in (body_in s ino) ≤ size)
     (narrow : size < 2 ^ 64) (room : growth (length (chain_in s ino).blocks) (block_count size) ≤ length (spare_pages s)) (mf : MadeFile)
     → In mf s.made → In mf.page (blocks_now desk s ino Regular size limits m spare o le narrow refl room) → ⊥
 block_no_slot desk s ino size limits m spare o le narrow room mf i j =
     let taken : List ℕ = take (growth (length (chain_in s ino).blocks) (block_count size)) (spare_pages s) in
     let more : List ℕ = drop (new_index (length (chain_in s ino).blocks) (block_count size)) taken in
     elim (In-cases mf.page (chain_in s ino).blocks more j) [
-      | inl a ↦ regular_is_none desk s ino mf m o i (In-right mf.page (chain_in s ino).index (chain_in s ino).blocks a)
+      | inl a ↦ plain_is_none desk s ino Regular mf m o refl i (In-right mf.page (chain_in s ino).index (chain_in s ino).blocks a)
       | inr b ↦ taken_no_slot desk s ino Regular size limits m spare o le narrow refl room mf i (in_blocks desk s ino Regular size limits m spare o le narrow refl room mf.page b)
     ]
 
-module _ (desk : DeskSeen) (s : SessionSeen) (ino size : ℕ) (limits : AreWithinLimits desk.sizes) (m : MayEdit desk s) (spare : AreSpare desk s) (o : IsOpen s ino) (le : size_in (body_in s ino) ≤ size)
+module _ (desk : DeskSeen) (s : SessionSeen) (ino size : ℕ) (limits : AreWithinLimits desk.sizes) (m : MayEdit desk s) (spare : AreSpare desk s) (o : IsOpenFile s ino) (le : size_in (body_in s ino) ≤ size)
     (largest : size ≤ largest_size) (room : growth (length (chain_in s ino).blocks) (block_count size) ≤ length (spare_pages s)) where
   narrow_size : size < 2 ^ 64
   narrow_size = omega (arith, largest)
@@ -310,7 +314,7 @@ module _ (desk : DeskSeen) (s : SessionSeen) (ino size : ℕ) (limits : AreWithi
       let zeroed : Parcel = put_bytes (chain_in s ino).blocks (size_in (body_in s ino)) (zeros (gap (size_in (body_in s ino)) size)) s.parcel in
       let xs : List ℕ = flat_map (page_in s.parcel) (chain_in s ino).blocks in
       let f = filled desk s ino Regular size limits m spare o le narrow_size refl room in
-      let len : length xs ≡ 4096 * length blocks = length-blocks desk s ino m o in
+      let len : length xs ≡ 4096 * length blocks = length-blocks desk s ino Regular m o in
       let many : length xs ≡ 4096 * block_count old = len ∙ ap (λ n. 4096 * n) (sym c.count) in
       ap (take size)
       (flat_map-same (page_in (grown ino size s).parcel) (page_in zeroed) (blocks ++ more)
@@ -326,3 +330,4 @@ module _ (desk : DeskSeen) (s : SessionSeen) (ino size : ℕ) (limits : AreWithi
   pub grow_gets : GetsBytes desk s (grown ino size s) ino (resized size (bytes_in s ino))
   grow_gets =
       edit_gets desk s (grown ino size s) ino (resized size (bytes_in s ino)) m o (edit_grown desk s ino Regular size limits m spare o le narrow_size refl room) bytes_grown (sym (length-resized size (bytes_in s ino)))
+      (let c = open_chain desk s ino Regular m o in guard_in-sized _ size (body_in s ino) (length-body_of Regular desk.sizes.range (body_in s ino) c.body c.read))

@@ -1,5 +1,5 @@
 -- A file that is taken is had: its body, and as many whole blocks as its size says.
-use Rattle.trio_edit_laws.proofs.Words.{◌||◌, ◌∙◌, ◌≡◌, ◌≤◌, AreWithinLimits, Body, CoreRange, DeskSeen, Hold, In, In-right, IsWellLent, Kind, LentPage, List, MayEdit, None, Option, Read, SessionSeen, Shown, Sizes, Some, Write, [], and_parts, ap, arith, block_count, body_at, body_fits, body_in, body_sized, bytes_eq, chain_in, cond_some, core_count, dir_pages, eqb, false≢true, find-In, head_fits, index_count, is_some, leb-true, length, length-map, lent_core, lent_numbers, map-In, nat_le, open_kind, option_map_or, page_in, pages_shown, pages_shown-open, pages_shown-read, read_file, refl, serves, size_fits, size_in, subst, sym, true, ℕ}
+use Rattle.trio_edit_laws.proofs.Words.{◌||◌, ◌∙◌, ◌≡◌, ◌≤◌, AreWithinLimits, Body, CoreRange, DeskSeen, Hold, In, In-right, IsWellLent, Kind, LentPage, List, MayEdit, None, Option, Read, SessionSeen, Shown, Sizes, Some, Write, [], and_parts, ap, arith, block_count, body_at, body_fits, body_in, body_sized, bytes_eq, chain_in, cond_some, core_count, dir_pages, eqb, false≢true, find-In, head_fits, index_count, is_some, leb-true, length, length-map, lent_core, lent_numbers, map-In, nat_le, open_kind, option_map_or, page_in, pages_shown, pages_shown-open, pages_shown-read, read_file, refl, serves, size_fits, size_in, subst, sym, true, ℕ, guard_fits}
 use Rattle.std.proofs.Common.{map}
 use Rattle.std.specs.Prelude.{unwrap_or, ◌&&◌}
 use Rattle.trio_layout.specs.Body.{body_bytes, body_of}
@@ -17,7 +17,8 @@ blocks_few kind range bytes b e =
     let x : Body = body_at bytes in
     let k = cond_some (bytes_eq bytes (body_bytes x) && body_fits kind range x) x b e in
     let fits = (and_parts (bytes_eq bytes (body_bytes x)) (body_fits kind range x) k.0).1 in
-    let p = and_parts (nat_le x.mode.0 511 && nat_le (block_count x.size) (core_count range) && size_fits kind x.size) (head_fits range (block_count x.size) x.head) fits in
+    let o = and_parts (nat_le x.mode.0 511 && nat_le (block_count x.size) (core_count range) && size_fits kind x.size && head_fits range (block_count x.size) x.head) (guard_fits kind x.guard) fits in
+    let p = and_parts (nat_le x.mode.0 511 && nat_le (block_count x.size) (core_count range) && size_fits kind x.size) (head_fits range (block_count x.size) x.head) o.0 in
     let q = and_parts (nat_le x.mode.0 511 && nat_le (block_count x.size) (core_count range)) (size_fits kind x.size) p.0 in
     let r = and_parts (nat_le x.mode.0 511) (nat_le (block_count x.size) (core_count range)) q.0 in
     let P : Body → Type 0 = λ y. nat_le (block_count y.size) (core_count range) ≡ true in leb-true (block_count b.size) (core_count range) (subst P k.1 r.1)

@@ -24,6 +24,7 @@ pub mod OpenChain
 pub mod Bodied
 pub mod Relaid
 pub mod Gets
+pub mod Guarding
 pub mod Cutting
 pub mod Reading
 pub mod Growing

@@ -1,5 +1,5 @@
 -- What is known of the chain of a file that is open.
-use Rattle.trio_edit_laws.proofs.Words.{◌∙◌, ◌≡◌, Body, Chain, DeskSeen, Directory, In, In-left, In-right, IsNamed, Kind, MadeFile, MayEdit, Regular, SessionSeen, Some, [], ap, are_new, block_count, body_at, body_in, body_of, body_stands, chain_in, chained, core_in_hand, get_or, in_hand, length, open_kind, page_in, pages_in_hand, size_in, some_one, suc, true, ℕ}
+use Rattle.trio_edit_laws.proofs.Words.{◌∙◌, ◌≡◌, Body, Chain, DeskSeen, Directory, In, In-left, In-right, IsNamed, Kind, MadeFile, MayEdit, Regular, SessionSeen, Some, [], ap, are_new, block_count, body_at, body_in, body_of, body_stands, chain_in, chained, core_in_hand, get_or, in_hand, length, open_kind, page_in, pages_in_hand, size_in, some_one, suc, true, ℕ, is_directory, is_directory-false, false}
 use Rattle.trio_edit_laws.proofs.Hand.{hand_page}
 use Rattle.trio_edit_laws.proofs.IndexFields.{AreAt, IndexSays, says-named}
 use Rattle.trio_edit_laws.proofs.Keeps.{place_of_open}
@@ -42,11 +42,11 @@ open_chain desk s ino kind m o =
       whole = λ n i. length-page_in desk.out s.parcel n m.all.given (held n i);
     }
 
--- no page of a regular file is the page of a slot of a file that was made
-pub regular_is_none : (desk : DeskSeen) (s : SessionSeen) (ino : ℕ) (mf : MadeFile) → MayEdit desk s → open_kind s ino ≡ Some Regular → In mf s.made → In mf.page (pages_of_chain (chain_in s ino)) → ⊥
-regular_is_none desk s ino mf m o i j =
+-- no page of what is no directory is the page of a slot of a file that was made
+pub plain_is_none : (desk : DeskSeen) (s : SessionSeen) (ino : ℕ) (kind : Kind) (mf : MadeFile) → MayEdit desk s → open_kind s ino ≡ Some kind → is_directory kind ≡ false → In mf s.made → In mf.page (pages_of_chain (chain_in s ino)) → ⊥
+plain_is_none desk s ino kind mf m o plain i j =
     let q = m.made.slots mf i in
     let d = place_of_open desk s q.directory Directory m q.opens in
-    open_apart s ino q.directory mf.page m.once (place_of_open desk s ino Regular m o) d
-    (λ same. (let wrong : Regular ≡ Directory = some_one (open_kind s ino) Regular Directory o (ap (open_kind s) same ∙ q.opens) in cc wrong))
+    open_apart s ino q.directory mf.page m.once (place_of_open desk s ino kind m o) d
+    (λ same. is_directory-false kind plain (some_one (open_kind s ino) kind Directory o (ap (open_kind s) same ∙ q.opens)))
     j (In-right mf.page (chain_in s q.directory).index (chain_in s q.directory).blocks q.block)

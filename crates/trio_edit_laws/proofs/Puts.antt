@@ -1,5 +1,5 @@
 -- Bytes that are put within the size of a file, written or made, stand in the node.
-use Rattle.trio_edit_laws.proofs.Words.{◌*◌, ◌++◌, ◌+◌, ◌-◌, ◌<◌, ◌∙◌, ◌≡◌, ◌≤◌, ◌⊎◌, Body, Chain, DeskSeen, Directory, GetsBytes, In, In-left, In-right, IsNamed, IsOpen, LentFile, List, MadeFile, MayEdit, None, Option, Parcel, Regular, SessionSeen, Some, [], ap, are_new, arith, block_count, body_in, bytes_in, chain_in, core_in_hand, drop, drop-drop, flat_map, get_or, get_or-In, in_hand, inl, inr, length, length-drop, length-with_part, made_file, one_keyed, page_in, page_of, pages_in_hand, put_at, put_bytes, refl, size_in, slice_get-In, slice_range, subst, sym, take, take-append-drop, with_body_in, ℕ}
+use Rattle.trio_edit_laws.proofs.Words.{◌*◌, ◌++◌, ◌+◌, ◌-◌, ◌<◌, ◌∙◌, ◌≡◌, ◌≤◌, ◌⊎◌, Body, Chain, DeskSeen, Directory, GetsBytes, In, In-left, In-right, IsNamed, IsOpenFile, LentFile, List, MadeFile, MayEdit, None, Option, Parcel, Regular, SessionSeen, Some, [], ap, are_new, arith, block_count, body_in, bytes_in, chain_in, core_in_hand, drop, drop-drop, flat_map, get_or, get_or-In, in_hand, inl, inr, length, length-drop, length-with_part, made_file, one_keyed, page_in, page_of, pages_in_hand, put_at, put_bytes, refl, size_in, slice_get-In, slice_range, subst, sym, take, take-append-drop, with_body_in, ℕ}
 use Rattle.std.proofs.Common.{length-take-le}
 use Rattle.trio_page.specs.Field.{with_part}
 use Rattle.trio_session.specs.Seen.{put}
@@ -9,7 +9,7 @@ use Rattle.trio_edit_laws.proofs.Chained.{AreApart, apart_from}
 use Rattle.trio_edit_laws.proofs.Gets.{edit_gets}
 use Rattle.trio_edit_laws.proofs.Hand.{hand_is_core, hand_page}
 use Rattle.trio_edit_laws.proofs.Keeps.{IsEdit, IsSlotPage, bodied_files, made_at, made_once, slot_whole}
-use Rattle.trio_edit_laws.proofs.OpenChain.{OpenChain, open_chain, regular_is_none}
+use Rattle.trio_edit_laws.proofs.OpenChain.{OpenChain, open_chain, plain_is_none}
 use Rattle.trio_edit_laws.proofs.Opens.{OpenWritten, opened, with_chain-same}
 use Rattle.trio_edit_laws.proofs.Pages.{page_of-hand}
 use Rattle.trio_edit_laws.proofs.Parts.{take-with_part}
@@ -28,7 +28,7 @@ with_part-there at end xs a b =
     ap (λ n. drop (at + n) xs) long ∙ (let sum : at + (end - at) ≡ (end - at) + at = omega arith in ap (λ n. drop n xs) sum) ∙ sym (drop-drop (end - at) at xs ∙ (let sum : at + (end - at) ≡ (end - at) + at = omega arith in ap (λ n. drop n xs) sum)) in
     ap (λ l. take at xs ++ (take (end - at) rest ++ l)) past ∙ ap (λ l. take at xs ++ l) (take-append-drop (end - at) rest) ∙ take-append-drop at xs
 
-module _ (desk : DeskSeen) (s : SessionSeen) (ino at : ℕ) (new : List ℕ) (m : MayEdit desk s) (o : IsOpen s ino) (l : at + length new ≤ size_in (body_in s ino)) where
+module _ (desk : DeskSeen) (s : SessionSeen) (ino at : ℕ) (new : List ℕ) (m : MayEdit desk s) (o : IsOpenFile s ino) (l : at + length new ≤ size_in (body_in s ino)) where
   abbrev chain : Chain
   chain = chain_in s ino
 
@@ -60,7 +60,7 @@ module _ (desk : DeskSeen) (s : SessionSeen) (ino at : ℕ) (new : List ℕ) (m 
   done = put_done desk.out s.parcel m.all.given chain.blocks at new parts.right block_held within
 
   length-old : length old ≡ 4096 * length (chain_in s ino).blocks
-  length-old = length-blocks desk s ino m o
+  length-old = length-blocks desk s ino Regular m o
 
   -- index pages are none of the blocks
   index_same : (n : ℕ) → In n (chain_in s ino).index → page_of (core_in_hand desk (in_hand s')) n ≡ page_of (core_in_hand desk (in_hand s)) n
@@ -104,7 +104,7 @@ module _ (desk : DeskSeen) (s : SessionSeen) (ino at : ℕ) (new : List ℕ) (m 
       let page : List ℕ = page_in s.parcel mf.page in
       let low : mf.slot < 16 = (m.made.slots mf i).slot in
       let whole : length (page_in s.parcel mf.page) ≡ 4096 = slot_whole desk s mf m i in
-      done.touches.other mf.page (λ b. regular_is_none desk s ino mf m o i (In-right mf.page chain.index chain.blocks b))
+      done.touches.other mf.page (λ b. plain_is_none desk s ino Regular mf m o refl i (In-right mf.page chain.index chain.blocks b))
       ∙ sym (with_part-there (256 * mf.slot + 192) (256 * mf.slot + 256) page (omega arith) (omega (arith, low, whole)))
       ∙ ap (λ b. with_body_in mf.slot b page) (sym (body-made s ino mf found))
 
@@ -145,7 +145,7 @@ module _ (desk : DeskSeen) (s : SessionSeen) (ino at : ℕ) (new : List ℕ) (m 
   put_gets : GetsBytes desk s s' ino (put_at at new (bytes_in s ino))
   put_gets =
       let is : c.body.size ≡ size = ap (λ (b : Body). b.size) (sym c.at) in
-      edit_gets desk s s' ino (put_at at new (bytes_in s ino)) m o edit (ap (λ n. take n (flat_map (page_in then') (chain_in s ino).blocks)) is ∙ bytes_now) (is ∙ length-now)
+      edit_gets desk s s' ino (put_at at new (bytes_in s ino)) m o edit (ap (λ n. take n (flat_map (page_in then') (chain_in s ino).blocks)) is ∙ bytes_now) (is ∙ length-now) refl
 
 pub put_shows : PutShows
 unfolding put

@@ -1,11 +1,11 @@
 -- What an edit of one open file leaves of all others, and of what directories show.
-use Rattle.trio_edit_laws.proofs.Words.{◌++◌, ◌<◌, ◌∙◌, ◌∷◌, ◌≡◌, ◌≢◌, Chain, DeskSeen, Directory, EntryPart, In, In-right, InoParts, Kind, List, MayEdit, None, Option, Place, Regular, SessionSeen, Shown, Some, [], ap, arith, block_shown-open, block_shown-read, chain_in, dir_pages, entry_in, entry_shown, eqb, every_number, filter, find, inl, ino_numbers, inr, is_among, map, name_in, open_kind, option_and_then, option_map, option_map_or, page_at, page_in, pages_shown-open, pages_shown-read, refl, slice_get, slice_get-In, slot_bytes, slot_of, slot_on, slots_of, slots_shown, spare_numbers, subst, sym, used_numbers, ℕ}
+use Rattle.trio_edit_laws.proofs.Words.{◌++◌, ◌<◌, ◌∙◌, ◌∷◌, ◌≡◌, ◌≢◌, Chain, DeskSeen, Directory, EntryPart, In, In-right, InoParts, Kind, List, MayEdit, None, Option, Place, Regular, SessionSeen, Shown, Some, [], ap, arith, block_shown-open, block_shown-read, chain_in, dir_pages, entry_in, entry_shown, eqb, every_number, filter, find, inl, ino_numbers, inr, is_among, map, name_in, open_kind, option_and_then, option_map, option_map_or, page_at, page_in, pages_shown-open, pages_shown-read, refl, slice_get, slice_get-In, slot_bytes, slot_of, slot_on, slots_of, slots_shown, spare_numbers, subst, sym, used_numbers, ℕ, Link}
 use Rattle.std.specs.Prelude.{not}
 use Rattle.trio_auxdir.specs.Slots.{slots_on}
 use Rattle.trio_auxdir.proofs.PageSlots.{tabulated-same_below}
 use Rattle.trio_edit_laws.specs.EditLaws.{LeavesOthers}
 use Rattle.trio_edit_laws.proofs.Keeps.{IsEdit, body_else, chain_else, front_stays, made_at, made_numbers_now, open_now, other_untouched, page_stays}
-use Rattle.trio_edit_laws.proofs.OpenChain.{regular_is_none}
+use Rattle.trio_edit_laws.proofs.OpenChain.{plain_is_none}
 
 -- pages whose slots say the same show the same slots
 pub slots_on-same : (inodes : ℕ) (page page' : List ℕ) → ((t : ℕ) → t < 16 → slot_of inodes (slot_bytes t page') ≡ slot_of inodes (slot_bytes t page)) → slots_on inodes page' ≡ slots_on inodes page
@@ -25,7 +25,12 @@ module _ (desk : DeskSeen) (s s' : SessionSeen) (ino : ℕ) (kind : Kind) (m : M
       let j : In n ((chain_in s d).index ++ (chain_in s d).blocks) = In-right n (chain_in s d).index (chain_in s d).blocks i in
       ap (λ b. slot_of every_number (slot_bytes t b))
       (page_stays desk s s' ino kind m o e n (other_untouched desk s s' ino kind m o e d Regular n od differ j)
-      (λ mf found same. regular_is_none desk s d mf m od (made_at s ino mf found).0 (subst (λ k. In k ((chain_in s d).index ++ (chain_in s d).blocks)) same j)))
+      (λ mf found same. plain_is_none desk s d Regular mf m od refl (made_at s ino mf found).0 (subst (λ k. In k ((chain_in s d).index ++ (chain_in s d).blocks)) same j)))
+  front_else d Link n od differ i t =
+      let j : In n ((chain_in s d).index ++ (chain_in s d).blocks) = In-right n (chain_in s d).index (chain_in s d).blocks i in
+      ap (λ b. slot_of every_number (slot_bytes t b))
+      (page_stays desk s s' ino kind m o e n (other_untouched desk s s' ino kind m o e d Link n od differ j)
+      (λ mf found same. plain_is_none desk s d Link mf m od refl (made_at s ino mf found).0 (subst (λ k. In k ((chain_in s d).index ++ (chain_in s d).blocks)) same j)))
 
   -- a block of an open directory shows the slots that it showed
   pub block_slots : (d n : ℕ) → open_kind s d ≡ Some Directory → In n (chain_in s d).blocks → slots_on every_number (page_in s'.parcel n) ≡ slots_on every_number (page_in s.parcel n)

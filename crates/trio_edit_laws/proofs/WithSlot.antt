@@ -1,6 +1,6 @@
 -- A directory that has no empty slot grows by a block of them.
 use Rattle.trio_edit_laws.proofs.Words.{◌%◌, ◌++◌, ◌+◌, ◌/◌, ◌<◌, ◌∙◌, ◌∷◌, ◌≡◌, ◌≤◌, AreSpare, AreWithinLimits, ComesToShown, DeskSeen, Directory, Done, EntryPart, GetsSlots, In, InoParts, IsOpenDir, LentFile, List, MadeFile, MayGoOn, NamesStay, None, Option, Place, SessionSeen, Shown, Some, TakesMore, [], ap, arith, block_count, body_in, cases_eq, chain_in, cond, drop, empty_shown, entry_shown, eq-eqb, eqb, every_number, find, first_slot, growth, in_hand, inl, ino_numbers, inr, is_none, is_some, kind_shown, length, length-drop, length-map, made_file, map, option_map, option_or, page_in, page_numbers, place_at, place_of, place_shown, read_file, refl, replicate, size_in, slot_growth, slot_with, slots_of, slots_shown, spare_numbers, spare_pages, subst, suc, sym, true, ℕ}
-use Rattle.std.proofs.Math.ListN.{drop_of_length-le}
+use Rattle.std.proofs.Common.{zero-add}
 use Rattle.trio_auxdir.proofs.Kept.{place_of-empties}
 use Rattle.trio_session.specs.Seen.{grown}
 use Rattle.trio_edit_laws.proofs.Growing.{edit_grown}
@@ -12,8 +12,9 @@ use Rattle.trio_session.proofs.Alike.{calls-grown, placed-grown}
 use Rattle.trio_session.specs.Deeds.{with_slot}
 use Rattle.trio_edit_laws.proofs.session.ListedPages.{taking_keeps}
 
-drop-spent : (xs : List ℕ) (k more : ℕ) → length (drop k xs) ≡ more → drop (k + more) xs ≡ []
-drop-spent xs k more e = drop_of_length-le xs (omega (arith, length-drop k xs, e))
+-- so many are left behind those that are taken
+drop-left : (xs : List ℕ) (k more left : ℕ) → length (drop k xs) ≡ more + left → length (drop (k + more) xs) ≡ left
+drop-left xs k more left e = omega (arith, length-drop k xs, length-drop (k + more) xs, e)
 
 -- empty slots behind others are found
 empty_behind : (xs ys : List (Option (List ℕ))) → is_some (first_slot is_none (xs ++ None ∷ ys)) ≡ true
@@ -47,23 +48,24 @@ named_within s dir name place open_dir found =
         let lt : i / 16 < length pages = sp.block in
         subst (λ (p : Place). p.block < length (chain_in s dir).blocks) z (omega (arith, lt, length-map (chain_in s dir).blocks (page_in s.parcel)))
 
--- A directory has an empty slot now, and each allotted page is in place; the same nodes are shown, and each name is where it was.
-pub record IsSlotted (desk : DeskSeen) (s t : SessionSeen) (dir' : ℕ) : Type 0 where
+-- A directory has an empty slot now, and of the allotted pages so many are spare still; the same nodes are shown, and each name is where it was.
+pub record IsSlotted (desk : DeskSeen) (s t : SessionSeen) (dir' left' : ℕ) : Type 0 where
   pub may : MayGoOn desk t
   pub more : TakesMore desk (in_hand s) (in_hand t)
   pub names : NamesStay s t
   pub empty : is_some (empty_shown t dir') ≡ true
   pub calls : t.calls ≡ s.calls
-  pub spent : spare_pages t ≡ []
+  pub spare : AreSpare desk t
+  pub left : length (spare_pages t) ≡ left'
   pub numbers : spare_numbers t ≡ spare_numbers s
 
 pub no_length : (xs : List ℕ) → length xs ≡ 0 → xs ≡ []
 no_length [] e = refl
 no_length (x ∷ xs) e = absurd (omega (arith, e))
 
-module _ (desk : DeskSeen) (s : SessionSeen) (dir : ℕ) (limits : AreWithinLimits desk.sizes) (go : MayGoOn desk s) (spare : AreSpare desk s) (is : IsOpenDir s dir)
+module _ (desk : DeskSeen) (s : SessionSeen) (dir left : ℕ) (limits : AreWithinLimits desk.sizes) (go : MayGoOn desk s) (spare : AreSpare desk s) (is : IsOpenDir s dir)
     (few : size_in (body_in s dir) ≤ 33554432) (whole : size_in (body_in s dir) % 4096 ≡ 0) (count : block_count (size_in (body_in s dir)) ≡ length (chain_in s dir).blocks)
-    (pages : length (spare_pages s) ≡ slot_growth s dir) where
+    (pages : length (spare_pages s) ≡ slot_growth s dir + left) where
   abbrev size : ℕ
   size = size_in (body_in s dir) + 4096
 
@@ -78,10 +80,10 @@ module _ (desk : DeskSeen) (s : SessionSeen) (dir : ℕ) (limits : AreWithinLimi
     abbrev t : SessionSeen
     t = grown dir (size_in (body_in s dir) + 4096) s
 
-    all_spare : length (spare_pages s) ≡ growth (length (chain_in s dir).blocks) (block_count (size_in (body_in s dir) + 4096))
+    all_spare : length (spare_pages s) ≡ growth (length (chain_in s dir).blocks) (block_count (size_in (body_in s dir) + 4096)) + left
     all_spare =
-        pages ∙ ap (λ o. cond (is_some o) 0 (growth (length (chain_in s dir).blocks) (length (chain_in s dir).blocks + 1))) none
-        ∙ ap (growth (length (chain_in s dir).blocks)) (sym one_more)
+        pages ∙ ap (λ o. cond (is_some o) 0 (growth (length (chain_in s dir).blocks) (length (chain_in s dir).blocks + 1)) + left) none
+        ∙ ap (λ n. growth (length (chain_in s dir).blocks) n + left) (sym one_more)
 
     room : growth (length (chain_in s dir).blocks) (block_count (size_in (body_in s dir) + 4096)) ≤ length (spare_pages s)
     room = omega (arith, all_spare)
@@ -128,11 +130,11 @@ module _ (desk : DeskSeen) (s : SessionSeen) (dir : ℕ) (limits : AreWithinLimi
         entry_before : ℕ → Place → Option EntryPart
         entry_before k place = entry_shown s k place
 
-    spent : spare_pages (grown dir (size_in (body_in s dir) + 4096) s) ≡ []
-    spent =
+    left_then : length (spare_pages (grown dir (size_in (body_in s dir) + 4096) s)) ≡ left
+    left_then =
         let wanted : ℕ = growth (length (chain_in s dir).blocks) (block_count (size_in (body_in s dir) + 4096)) in
-        ap (λ n. drop n (page_numbers t.parcel.pages)) (placed-grown dir (size_in (body_in s dir) + 4096) s)
-        ∙ ap (drop (s.placed + wanted)) edit.alters.fresh ∙ drop-spent (page_numbers s.parcel.pages) s.placed wanted all_spare
+        ap (λ n. length (drop n (page_numbers t.parcel.pages))) (placed-grown dir (size_in (body_in s dir) + 4096) s)
+        ∙ ap (λ l. length (drop (s.placed + wanted) l)) edit.alters.fresh ∙ drop-left (page_numbers s.parcel.pages) s.placed wanted left all_spare
 
     calls : (grown dir (size_in (body_in s dir) + 4096) s).calls ≡ s.calls
     calls = calls-grown dir (size_in (body_in s dir) + 4096) s
@@ -145,32 +147,34 @@ module _ (desk : DeskSeen) (s : SessionSeen) (dir : ℕ) (limits : AreWithinLimi
           subst (λ (l : List InoParts). In d.made (ino_numbers l)) (sym g.others.inodes) (go.made d (subst (λ (cs : List Done). In d cs) calls i) some);
     }
 
-    grown_slotted : IsSlotted desk s (grown dir (size_in (body_in s dir) + 4096) s) dir
+    grown_slotted : IsSlotted desk s (grown dir (size_in (body_in s dir) + 4096) s) dir left
     grown_slotted = record {
       may = go_on;
       more = g.becomes.more;
       names = names;
       empty = some_place (first_slot is_none (slots_shown t dir)) (ap (λ l. is_some (first_slot is_none l)) g.slots ∙ empty_behind (slots_shown s dir) (replicate 15 None));
       calls = calls;
-      spent = spent;
+      spare = g.spare;
+      left = left_then;
       numbers = g.others.numbers;
     }
 
   -- with a slot
-  pub slotted : IsSlotted desk s (with_slot dir s) dir
+  pub slotted : IsSlotted desk s (with_slot dir s) dir left
   slotted = by (empty_shown s dir) refl
     where
-      by : (o : Option Place) → empty_shown s dir ≡ o → IsSlotted desk s (with_slot dir s) dir
+      by : (o : Option Place) → empty_shown s dir ≡ o → IsSlotted desk s (with_slot dir s) dir left
       by None e =
-          subst (λ (q : SessionSeen). IsSlotted desk s q dir) (sym (ap (λ (o : Option Place). cond {A = SessionSeen} (is_some o) s (grown dir (size_in (body_in s dir) + 4096) s)) e)) (grown_slotted e)
+          subst (λ (q : SessionSeen). IsSlotted desk s q dir left) (sym (ap (λ (o : Option Place). cond {A = SessionSeen} (is_some o) s (grown dir (size_in (body_in s dir) + 4096) s)) e)) (grown_slotted e)
       by (Some place) e =
-          subst (λ (q : SessionSeen). IsSlotted desk s q dir) (sym (ap (λ (o : Option Place). cond {A = SessionSeen} (is_some o) s (grown dir (size_in (body_in s dir) + 4096) s)) e))
+          subst (λ (q : SessionSeen). IsSlotted desk s q dir left) (sym (ap (λ (o : Option Place). cond {A = SessionSeen} (is_some o) s (grown dir (size_in (body_in s dir) + 4096) s)) e))
           (record {
             may = go;
             more = λ nodes rows p. p;
             names = record { opens = λ n. refl; places = λ n name. refl; entries = λ n name p at. refl; holds = refl; reads = refl; indexed = refl };
             empty = ap is_some e;
             calls = refl;
-            spent = no_length (spare_pages s) (pages ∙ ap (λ (o : Option Place). cond (is_some o) 0 (growth (length (chain_in s dir).blocks) (length (chain_in s dir).blocks + 1))) e);
+            spare = spare;
+            left = pages ∙ ap (λ (o : Option Place). cond (is_some o) 0 (growth (length (chain_in s dir).blocks) (length (chain_in s dir).blocks + 1)) + left) e ∙ zero-add left;
             numbers = refl;
           })

@@ -25,12 +25,12 @@ pub use Rattle.trio_desk.specs.Contents.{AreWithinLimits, Rights, Sizes, entries
 pub use Rattle.trio_desk.specs.Edits.{InHand, MayShow, TakesMore}
 pub use Rattle.trio_desk.specs.Out.{AreWhole, IsFreshAllotment, IsFreshLease, IsWellLent, LibOut, Parcel, WasGiven, file_numbers, files_out, hold_numbers, ino_numbers, lent_core, lent_numbers, numbers_of_file, page_numbers, pages_out, zero_page}
 pub use Rattle.trio_desk.specs.Ready.{ArePossible, ComesToShown, HandsInAll, bundle_of, lent_files, parcel_case}
-pub use Rattle.trio_desk.specs.Shows.{Naming, Shows, bytes_now, bytes_read, made_by, naming_of, namings, namings_in, node_left, node_listed, node_now, pages_bytes, placed, with_bytes}
+pub use Rattle.trio_desk.specs.Shows.{Naming, Shows, bytes_now, bytes_read, guard_now, made_by, naming_of, namings, namings_in, node_left, node_listed, node_now, pages_bytes, placed, with_bytes, with_guard, with_judged}
 pub use Rattle.trio_laws.proofs.judgement.JudgedFacts.{written_ino, written_ino_at, written_kind_at}
 pub use Rattle.trio_laws.proofs.session.Again.{hand_files_once, judged_page, judged_reads, new_between, possible_with_less}
 pub use Rattle.trio_laws.proofs.session.Calls.{nothing_is_ready}
 pub use Rattle.trio_laws.proofs.session.Edges.{new_dead}
-pub use Rattle.trio_laws.proofs.session.FileEdits.{bare, bare_at, body-number, body_stands, regular_entries, sorted-map, written_among}
+pub use Rattle.trio_laws.proofs.session.FileEdits.{bare, bare_at, body-number, body_stands, plain_entries, sorted-map, written_among}
 pub use Rattle.trio_laws.proofs.session.LentNodes.{mapped}
 pub use Rattle.trio_laws.proofs.session.Listed.{listed_as}
 pub use Rattle.trio_laws.proofs.session.Namings.{find_map, naming_is}
@@ -51,7 +51,7 @@ pub use Rattle.trio_layout.proofs.Walks.{fronts_keep, fronts_listed, fronts_new,
 pub use Rattle.trio_layout.proofs.WithinCore.{rest_of, within_from, within_to}
 pub use Rattle.trio_layout.specs.Accept.{with_body_in}
 pub use Rattle.trio_layout.specs.Allowed.{has_kind}
-pub use Rattle.trio_layout.specs.Body.{block_count, body_at, body_fits, body_of, head_fits, size_fits}
+pub use Rattle.trio_layout.specs.Body.{block_count, body_at, body_fits, body_of, guard_in, head_fits, size_fits}
 pub use Rattle.trio_layout.specs.Case.{Case, Held, bundle_core, file_in}
 pub use Rattle.trio_layout.specs.Chain.{Chain, index_count, with_index}
 pub use Rattle.trio_layout.specs.Core.{Core, Location, at_page, page_of}
@@ -103,7 +103,9 @@ pub use Rattle.trio_rights.specs.Bundle.{Bundle, Written, bundle_pages, bundle_s
 pub use Rattle.trio_rights.specs.Row.{Row, row_in}
 pub use Rattle.trio_rights.specs.Sheets.{Sheet, sheet_numbers}
 pub use Rattle.trio_rights.specs.declared.kind.Kind.{Kind}
-pub use Rattle.trio_rights.specs.declared.kind.Kind.TheVariants.{Directory, Regular}
+pub use Rattle.trio_rights.proofs.KindFacts.{guard_fits-true, is_directory-false, is_directory-true, kind_cases}
+pub use Rattle.trio_rights.specs.ByKind.{guard_fits, is_directory}
+pub use Rattle.trio_rights.specs.declared.kind.Kind.TheVariants.{Directory, Link, Regular}
 pub use Rattle.trio_rights.specs.declared.rights.Creds.{Creds}
 pub use Rattle.trio_rights.specs.declared.rights.LibNo.{LibNo}
 pub use Rattle.trio_rights.specs.declared.rights.Mode.{Mode}
@@ -120,7 +122,7 @@ pub use Rattle.trio_session.proofs.Slots.{slot_wider}
 pub use Rattle.trio_session.specs.Asked.{IsAlike, SameDesk, with_allotted, with_lease}
 pub use Rattle.trio_session.specs.Deeds.{slot_growth}
 pub use Rattle.trio_session.specs.Layout.{cleared as cleared_slot, filled, gap, growth, linked, new_index, numbered, page_in, put_bytes, size_in, unlinked, unnamed, with_body_at, with_page, with_part_in}
-pub use Rattle.trio_session.specs.Seen.{IsOn, IsOpen, IsOpenDir, MadeFile, Room, SessionSeen, block_number, block_shown, body_in, chain_in, clear, cleared_file, dir_pages, emptied, empty_shown, entry_count, entry_in, entry_shown, every_number, fill, grant_in, held_file, home_in, in_hand, is_allotted, kind_shown, made_body, made_chained, made_file, no_chain, number_shown, open_kind, pages_shown, place_in, place_of, place_shown, read_file, serves, slots_shown, spare_numbers, spare_pages, used_numbers, with_chain, written_file}
+pub use Rattle.trio_session.specs.Seen.{IsOn, IsOpen, IsOpenFile, IsOpenDir, MadeFile, Room, SessionSeen, block_number, block_shown, body_in, chain_in, clear, cleared_file, dir_pages, emptied, empty_shown, entry_count, entry_in, entry_shown, every_number, fill, grant_in, held_file, home_in, in_hand, is_allotted, kind_shown, made_body, made_chained, made_file, no_chain, number_shown, open_kind, pages_shown, place_in, place_of, place_shown, read_file, serves, slots_shown, spare_numbers, spare_pages, used_numbers, with_chain, written_file}
 pub use Rattle.trio_surveys.proofs.Images.{same_met, some_of}
 pub use Rattle.trio_surveys.proofs.Owned.{body_sized}
 pub use Rattle.trio_surveys.proofs.Places.{Placed, below_from, gathered_from}

@@ -1,5 +1,6 @@
 pub mod Slotted
 pub mod Sees
+pub mod TreeTurned
 pub mod Stays
 pub mod After
 pub mod Places
@@ -8,6 +9,10 @@ pub mod Mades
 pub mod Changes
 pub mod Filled
 pub mod Fronts
+pub mod Turned
+pub mod Swaps
+pub mod LinkParts
+pub mod Linked
 pub mod Retitled
 pub mod Cleared
 pub mod Moved

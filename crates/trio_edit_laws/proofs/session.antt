@@ -6,6 +6,7 @@ pub mod SlotWrites
 pub mod SlotCases
 pub mod FilesMade
 pub mod FilesRenamed
+pub mod FilesTurned
 pub mod FilesRemoved
 pub mod FilesMoved
 pub mod Named

@@ -1,11 +1,11 @@
 -- What a session sees of its directories, and what its edits of their slots come to.
-use Rattle.std.specs.Prelude.{◌≡◌, ◌≢◌, ℕ, ◌<◌, ◌==◌, not, is_some, IsTrue, List, [], ◌∷◌, slice_set, Option, None, Some}
+use Rattle.std.specs.Prelude.{◌≡◌, ◌≢◌, ℕ, ◌<◌, ◌≤◌, ◌==◌, not, false, is_some, IsTrue, List, [], ◌∷◌, drop, length, slice_set, Option, None, Some}
 use Rattle.std.specs.List.{filter}
 use Rattle.std.specs.Option.{option_map}
 use Rattle.trio_names.specs.Name.{is_name}
 use Rattle.trio_rights.specs.Row.{Row}
 use Rattle.trio_rights.specs.declared.kind.Kind.{Kind}
-use Rattle.trio_rights.specs.declared.kind.Kind.TheVariants.{Directory}
+use Rattle.trio_rights.specs.declared.kind.Kind.TheVariants.{Directory, Link, Regular}
 use Rattle.trio_lists.specs.Lists.{In}
 use Rattle.trio_layout.specs.declared.body.Body.{Body}
 use Rattle.trio_layout.specs.Body.{body_of}
@@ -25,7 +25,8 @@ use Rattle.trio_laws.specs.session.Takes.{Becomes}
 use Rattle.trio_edit_laws.specs.session.SlotEdits.{KeepsTree, moved, retitled, with_changed}
 use Rattle.trio_session.specs.Seen.{MadeFile, SessionSeen, IsOpenDir, block_shown, body_in, chain_in, children_shown, clear, cleared_file, empty_shown, entry_count, entry_shown, fill, grant_in, held_file, in_hand, made_body, made_file, number_shown, open_kind, place_shown, retitle, slots_shown, spare_numbers, spare_pages}
 use Rattle.trio_edit_laws.specs.Written.{MayEdit}
-use Rattle.trio_session.specs.Deeds.{names_here}
+use Rattle.trio_edit_laws.specs.EditLaws.{AreSpare}
+use Rattle.trio_session.specs.Deeds.{link_made, names_here}
 
 -- ---- what is seen of a directory
 
@@ -64,12 +65,13 @@ StaysTree desk s s' change = KeepsTree desk (in_hand s) (in_hand s') change
 
 -- a new file in a directory, with this body and no bytes
 abbrev pub node_made : ℕ → List ℕ → Kind → Body → Node
-node_made dir name kind b = record { parent = dir; name = name; kind = kind; mode = b.mode; uid = b.uid; gid = b.gid; bytes = [] }
+node_made dir name kind b = record { parent = dir; name = name; kind = kind; mode = b.mode; uid = b.uid; gid = b.gid; guard = b.guard; bytes = [] }
 
--- the body of an empty file of the library's
+-- the body of an empty file of the library's, which isn't guarded
 pub record IsEmptyBody (desk : DeskSeen) (kind : Kind) (body : List ℕ) (b : Body) : Type 0 where
   pub is : body_of kind desk.sizes.range body ≡ Some b
   pub size : b.size ≡ 0
+  pub guard : b.guard ≡ false
   pub uid : b.uid ≡ desk.creds.uid
   pub gid : b.gid ≡ desk.creds.gid
 
@@ -82,6 +84,23 @@ FillShows =
     → empty_shown s dir ≡ Some place → place_shown s dir name ≡ None → IsTrue (is_name name)
     → In n (spare_numbers s) → grant_in s n ≡ None
     → IsEmptyBody desk kind body b → StaysTree desk s s' change
+    → Changes desk s s' change
+
+-- a new link in a directory, with this body and this text
+abbrev pub link_node : ℕ → List ℕ → Body → List ℕ → Node
+link_node dir name b text = record (node_made dir name Link b) { bytes = text }
+
+-- A spare number and a name that the directory hasn't are put into its first empty slot, with the body of an empty file, and then a text
+-- into two spare pages: there is a new link.
+abbrev pub LinkShows : Type 0
+LinkShows =
+    (desk : DeskSeen) (s : SessionSeen) (dir : ℕ) (place : Place) (name : List ℕ) (n : ℕ) (body : List ℕ) (b : Body) (text : List ℕ)
+    → let s' = link_made dir name n body text s in let change : Nodes → Nodes = λ nodes. with_node nodes n (Some (link_node dir name b text)) in
+    AreWithinLimits desk.sizes → MayEdit desk s → AreSpare desk s → IsOpenDir s dir
+    → empty_shown s dir ≡ Some place → place_shown s dir name ≡ None → IsTrue (is_name name)
+    → In n (spare_numbers s) → grant_in s n ≡ None
+    → IsEmptyBody desk Regular body b → 0 < length text → length text ≤ 4096 → 2 ≤ length (spare_pages s)
+    → StaysTree desk s s change
     → Changes desk s s' change
 
 -- An entry gets another name, which the directory hasn't.
@@ -161,6 +180,23 @@ FillLeaves =
     → empty_shown s dir ≡ Some place → place_shown s dir name ≡ None → IsTrue (is_name name)
     → In n (spare_numbers s) → grant_in s n ≡ None → IsEmptyBody desk kind body b
     → LeavesFilled s (fill dir name n kind body s) dir place (record { ino = n; kind = kind; name = name })
+
+-- A link that is made leaves the calls and the numbers that were allotted; its own number and the first two spare pages are spare no more.
+pub record LeavesLink (s s' : SessionSeen) (n : ℕ) : Type 0 where
+  pub calls : s'.calls ≡ s.calls
+  pub inodes : s'.parcel.inodes ≡ s.parcel.inodes
+  pub pages : spare_pages s' ≡ drop 2 (spare_pages s)
+  pub numbers : spare_numbers s' ≡ filter (λ k. not (k == n)) (spare_numbers s)
+
+-- It leaves just that.
+abbrev pub LinkLeaves : Type 0
+LinkLeaves =
+    (desk : DeskSeen) (s : SessionSeen) (dir : ℕ) (place : Place) (name : List ℕ) (n : ℕ) (body : List ℕ) (b : Body) (text : List ℕ)
+    → AreWithinLimits desk.sizes → MayEdit desk s → IsOpenDir s dir
+    → empty_shown s dir ≡ Some place → place_shown s dir name ≡ None → IsTrue (is_name name)
+    → In n (spare_numbers s) → grant_in s n ≡ None
+    → IsEmptyBody desk Regular body b → 0 < length text → length text ≤ 4096 → 2 ≤ length (spare_pages s)
+    → LeavesLink s (link_made dir name n body text s) n
 
 -- A retitle: the entry has the other name.
 pub record LeavesRetitled (s s' : SessionSeen) (dir : ℕ) (place : Place) (e : EntryPart) : Type 0 where

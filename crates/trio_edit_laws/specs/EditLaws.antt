@@ -1,9 +1,10 @@
 -- What a session's edits of files come to, written or made, and what it reads of them.
-use Rattle.std.specs.Prelude.{◌≡◌, ◌≢◌, ℕ, ◌+◌, ◌<◌, ◌≤◌, List, ◌++◌, length, replicate, Option, None, Some}
+use Rattle.std.specs.Prelude.{◌≡◌, ◌≢◌, Bool, false, ℕ, ◌+◌, ◌<◌, ◌≤◌, List, ◌++◌, length, replicate, Option, None, Some}
 use Rattle.std.specs.Option.{option_map}
 use Rattle.trio_page.specs.Field.{zeros}
 use Rattle.trio_rights.specs.Row.{Row}
-use Rattle.trio_rights.specs.declared.kind.Kind.TheVariants.{Regular}
+use Rattle.trio_rights.specs.declared.kind.Kind.{Kind}
+use Rattle.trio_rights.specs.ByKind.{is_directory}
 use Rattle.trio_lists.specs.Lists.{In}
 use Rattle.trio_layout.specs.Body.{block_count}
 use Rattle.trio_auxdir.specs.declared.place.Place.{Place}
@@ -15,10 +16,10 @@ use Rattle.trio_desk.specs.Contents.{AreWithinLimits, rights_in}
 use Rattle.trio_desk.specs.Ready.{ArePossible}
 use Rattle.trio_desk.specs.Edits.{MayShow}
 use Rattle.trio_laws.specs.session.Takes.{Becomes}
-use Rattle.trio_laws.specs.session.FileEdits.{with_content}
+use Rattle.trio_laws.specs.session.FileEdits.{with_content, with_guarded}
 use Rattle.trio_edit_laws.specs.session.Listed.{listed_in_hand}
 use Rattle.trio_session.specs.Layout.{growth, page_in, size_in}
-use Rattle.trio_session.specs.Seen.{SessionSeen, IsOpen, IsOpenDir, body_in, chain_in, cut, entry_shown, grown, in_hand, open_kind, put, slots_shown, spare_numbers, spare_pages}
+use Rattle.trio_session.specs.Seen.{SessionSeen, IsOpenDir, IsOpenFile, body_in, chain_in, cut, entry_shown, grown, in_hand, open_kind, put, set_guard, slots_shown, spare_numbers, spare_pages}
 use Rattle.trio_edit_laws.specs.Written.{MayEdit, bytes_in, chained}
 
 -- An edit of one file leaves this of all else: which files are open, of every other its chain, its body, its slots and their entries; the
@@ -39,7 +40,7 @@ pub record LeavesOthers (s s' : SessionSeen) (ino : ℕ) : Type 0 where
 pub record GetsBytes (desk : DeskSeen) (s s' : SessionSeen) (ino : ℕ) (new : List ℕ) : Type 0 where
   pub becomes : Becomes desk (in_hand s) (in_hand s') (with_content ino new)
   pub may : MayEdit desk s'
-  pub writable : IsOpen s' ino
+  pub writable : IsOpenFile s' ino
   pub bytes : bytes_in s' ino ≡ new
   pub size : size_in (body_in s' ino) ≡ length new
   pub others : LeavesOthers s s' ino
@@ -48,7 +49,7 @@ pub record GetsBytes (desk : DeskSeen) (s s' : SessionSeen) (ino : ℕ) (new : L
 abbrev pub PutShows : Type 0
 PutShows =
     (desk : DeskSeen) (s : SessionSeen) (ino at : ℕ) (new : List ℕ)
-    → MayEdit desk s → IsOpen s ino → at + length new ≤ size_in (body_in s ino)
+    → MayEdit desk s → IsOpenFile s ino → at + length new ≤ size_in (body_in s ino)
     → GetsBytes desk s (put ino at new s) ino (put_at at new (bytes_in s ino))
 
 -- a page is all zero, and none that a file lists: it stands in no chain, and no file in hand lists it, as long as any nodes are possible
@@ -67,7 +68,7 @@ AreSpare desk s = (n : ℕ) → In n (spare_pages s) → IsSpare desk s n
 abbrev pub GrowShows : Type 0
 GrowShows =
     (desk : DeskSeen) (s : SessionSeen) (ino size : ℕ)
-    → AreWithinLimits desk.sizes → MayEdit desk s → AreSpare desk s → IsOpen s ino
+    → AreWithinLimits desk.sizes → MayEdit desk s → AreSpare desk s → IsOpenFile s ino
     → size_in (body_in s ino) ≤ size → size ≤ largest_size
     → growth (length (chain_in s ino).blocks) (block_count size) ≤ length (spare_pages s)
     → GetsBytes desk s (grown ino size s) ino (resized size (bytes_in s ino))
@@ -76,15 +77,29 @@ GrowShows =
 abbrev pub CutShows : Type 0
 CutShows =
     (desk : DeskSeen) (s : SessionSeen) (ino size : ℕ)
-    → MayEdit desk s → IsOpen s ino → size ≤ size_in (body_in s ino)
+    → MayEdit desk s → IsOpenFile s ino → size ≤ size_in (body_in s ino)
     → GetsBytes desk s (cut ino size s) ino (resized size (bytes_in s ino))
 
--- A file that is open has, as a node that is shown, the rights of its body and the bytes that the session reads.
+-- By an edit a regular file gets this guard: of the nodes that are shown it alone changes; it reads as before, and the session may go on.
+pub record GetsGuard (desk : DeskSeen) (s s' : SessionSeen) (ino : ℕ) (on : Bool) : Type 0 where
+  pub becomes : Becomes desk (in_hand s) (in_hand s') (with_guarded ino on)
+  pub may : MayEdit desk s'
+  pub writable : IsOpenFile s' ino
+  pub bytes : bytes_in s' ino ≡ bytes_in s ino
+  pub others : LeavesOthers s s' ino
+
+-- The guard of a file is set.
+abbrev pub GuardShows : Type 0
+GuardShows =
+    (desk : DeskSeen) (s : SessionSeen) (ino : ℕ) (on : Bool)
+    → MayEdit desk s → IsOpenFile s ino → GetsGuard desk s (set_guard ino on s) ino on
+
+-- A file that is open, and no directory, has, as a node that is shown, the rights of its body and the bytes that the session reads.
 abbrev pub SeesBytes : Type 0
 SeesBytes =
-    (desk : DeskSeen) (s : SessionSeen) (ino : ℕ) (nodes nodes' : Nodes) (rows : List (Option Row))
-    → MayEdit desk s → IsOpen s ino → MayShow desk (in_hand s) (in_hand s) nodes nodes' rows
-    → HasRights (rights_in Regular (body_in s ino)) (node_at nodes' ino)
+    (desk : DeskSeen) (s : SessionSeen) (ino : ℕ) (kind : Kind) (nodes nodes' : Nodes) (rows : List (Option Row))
+    → MayEdit desk s → open_kind s ino ≡ Some kind → is_directory kind ≡ false → MayShow desk (in_hand s) (in_hand s) nodes nodes' rows
+    → HasRights (rights_in kind (body_in s ino)) (node_at nodes' ino)
     × (option_map (λ x. x.bytes) (node_at nodes' ino) ≡ Some (bytes_in s ino))
     × (length (bytes_in s ino) ≡ size_in (body_in s ino))
 

@@ -6,6 +6,8 @@ ghost use Rattle.trio_edit_laws.specs.DirLaws.{
   ClearShows,
   FillLeaves,
   FillShows,
+  LinkLeaves,
+  LinkShows,
   MoveLeaves,
   MoveShows,
   RetitleLeaves,
@@ -22,6 +24,12 @@ pub fn sees_directory()
 pub fn fill_shows()
     ensures law { FillShows }
     ensures leaves { FillLeaves }
+{}
+
+/// A link that is made with its text is a new node.
+pub fn link_shows()
+    ensures law { LinkShows }
+    ensures leaves { LinkLeaves }
 {}
 
 /// An entry that gets another name is renamed.

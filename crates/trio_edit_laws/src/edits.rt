@@ -1,6 +1,6 @@
 //! The laws of edits: the body of each function is empty, and its contract is the law.
 
-ghost use Rattle.trio_edit_laws.specs.EditLaws.{CutShows, GrowDirShows, GrowShows, PutShows, SeesBytes};
+ghost use Rattle.trio_edit_laws.specs.EditLaws.{CutShows, GrowDirShows, GrowShows, GuardShows, PutShows, SeesBytes};
 
 /// Bytes that are put within the size of a file stand in the node.
 pub fn put_shows()
@@ -15,6 +15,11 @@ pub fn grow_shows()
 /// A file that is cut has the first of its bytes.
 pub fn cut_shows()
     ensures law { CutShows }
+{}
+
+/// A file that is guarded from now on, or no longer, is so in the nodes, and reads as before.
+pub fn guard_shows()
+    ensures law { GuardShows }
 {}
 
 /// What the session reads of a file that it has open is what the node has.

@@ -44,13 +44,13 @@ pub fn fresh_is_none_in_hand()
     ensures pages { FreshIsNew }
 {}
 
-/// Where one written regular file is edited, that file alone of the nodes that are shown has other
-/// bytes: those that it now reads.
+/// Where one written file that is no directory is edited, that file alone of the nodes that are shown
+/// has other bytes and another guard: those that it now reads.
 pub fn file_edit_shows()
     ensures law { FileEditShows }
 {}
 
-/// A regular file reads by its index pages, each of which names its share of the blocks, and a share
+/// A file that is no directory reads by its index pages, each of which names its share of the blocks, and a share
 /// stays however the chain grows or is cut behind it; and the bytes of blocks that grow, are cut or are
 /// put.
 pub fn chains_read()

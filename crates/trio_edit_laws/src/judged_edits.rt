@@ -4,7 +4,7 @@
 ghost use Rattle.trio_edit_laws.specs.session.JudgedEdits.{JudgedAfterEdit, JudgedEditShows, ListedAfterJudgedEdit, ReadsAfterEdit};
 
 /// Where one judged file is edited, written or made, the nodes that are shown have the bytes that it
-/// now reads; where it is a directory they are the same.
+/// now reads, and its guard; where it is a directory they are the same.
 pub fn judged_edit_shows()
     ensures law { JudgedEditShows }
 {}

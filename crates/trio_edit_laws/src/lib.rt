@@ -14,6 +14,6 @@ pub mod slot_edits;
 mod takings;
 
 pub use calls::{begins_to_call, may_be_settled};
-pub use dirs::{clear_shows, fill_shows, move_shows, retitle_shows, sees_directory};
-pub use edits::{cut_shows, grow_dir_shows, grow_shows, put_shows, sees_bytes};
+pub use dirs::{clear_shows, fill_shows, link_shows, move_shows, retitle_shows, sees_directory};
+pub use edits::{cut_shows, grow_dir_shows, grow_shows, guard_shows, put_shows, sees_bytes};
 pub use takings::{begins_to_edit, keeps_allotment, keeps_hold, keeps_reads, keeps_write};

@@ -2,7 +2,7 @@
 //! body of each function is empty, and its contract is the law.
 
 ghost use Rattle.trio_edit_laws.specs.session.Named.{EntriesAreInSlots, EntryNames, MadeIsJudged, NamedIsRead, WrittenIsJudged};
-ghost use Rattle.trio_edit_laws.specs.session.SlotEdits.{AfterClear, AfterFill, AfterMove, AfterRetitle, ClearShows, FillShows, MoveShows, RetitleShows};
+ghost use Rattle.trio_edit_laws.specs.session.SlotEdits.{AfterClear, AfterFill, AfterMove, AfterRekind, AfterRetitle, ClearShows, FillShows, MoveShows, RekindShows, RetitleShows};
 
 /// An entry of a directory names its number, which no other does; by what is named, what was made is
 /// judged, as is each written file; and entries are just what slots say.
@@ -24,6 +24,12 @@ pub fn fill_shows()
 pub fn retitle_shows()
     ensures law { RetitleShows }
     ensures after { AfterRetitle }
+{}
+
+/// A file whose slot gets another kind has it.
+pub fn rekind_shows()
+    ensures law { RekindShows }
+    ensures after { AfterRekind }
 {}
 
 /// A file whose slot is emptied is gone.

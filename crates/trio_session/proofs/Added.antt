@@ -1,13 +1,13 @@
 -- An allotted number that is in no slot is put into one: a session's files and indexes are kept.
-use Rattle.trio_session.proofs.Words.{if◌then◌else◌, ◌%◌, ◌++◌, ◌+◌, ◌<◌, ◌^◌, ◌∙◌, ◌∷◌, ◌≡◌, ◌≢◌, ◌≤◌, ◌⊎◌, AreDirs, AreLaid, AreMade, AreNumbered, Chain, Directory, EntryPart, Files, FreshParts, GrantKind, HasChain, HoldParts, In, In-cases, In-find, In-left, In-map, In-right, InSlot, IndexedDir, IsBlock, IsFile, IsLaid, IsMade, IsMadeAt, IsOne, IsTrue, Kept, Kind, Laid, Leased, LentFile, List, Made, MadeFile, None, OneFile, Option, PagePlace, Parcel, SessionSeen, Sheet, Shown, Some, WasMade, Written, [], ap, are_new, are_new-first, arith, block_count, body_at, body_in_slot, chain_at, chain_in, chain_laid, drop, entry_at, eq-eqb, eqb, eqb-true, false, false≢true, file_numbers, file_of, filter, filter-map, find, fresh_number, fresh_places, held_file, index_count, inl, ino_numbers, inr, is_among, is_among-In, is_some, length, made_seen, map, map-In, map-append, no_chain, not, number_at, of_made, open_kind, option_map, option_map_or, page_in, position, read_file, refl, sheet_at, size_in, slice_get, slice_get_within, slot_file, subst, suc, sym, take, true, ℕ}
+use Rattle.trio_session.proofs.Words.{if◌then◌else◌, ◌%◌, ◌++◌, ◌+◌, ◌<◌, ◌^◌, ◌∙◌, ◌∷◌, ◌≡◌, ◌≢◌, ◌≤◌, ◌⊎◌, AreDirs, AreLaid, AreMade, AreNumbered, Chain, Directory, EntryPart, Files, FreshParts, GrantKind, HasChain, HoldParts, In, In-cases, In-find, In-left, In-map, In-right, InSlot, IndexedDir, IsBlock, IsFile, IsLaid, IsMade, IsMadeAt, IsOne, IsTrue, Kept, Kind, Laid, Leased, LentFile, List, Made, MadeFile, None, OneFile, Option, PagePlace, Parcel, SessionSeen, Sheet, Shown, Some, WasMade, Written, [], ap, are_new, are_new-first, arith, block_count, body_at, body_in_slot, chain_at, chain_in, chain_laid, drop, entry_at, eq-eqb, eqb, eqb-true, false, false≢true, file_numbers, file_of, filter, filter-map, find, fresh_number, fresh_places, held_file, index_count, inl, ino_numbers, inr, is_among, is_among-In, is_some, length, made_seen, map, map-In, map-append, no_chain, not, number_at, of_made, open_kind, option_map, option_map_or, page_in, position, read_file, refl, sheet_at, size_in, slice_get, slice_get_within, slot_file, subst, suc, sym, take, true, ℕ, AmongMade, FoundAt}
 use Rattle.std.specs.Prelude.{◌==◌}
 use Rattle.trio_nodes.specs.declared.grant.GrantKind.TheVariants.{Hold, Read, Write}
 use Rattle.trio_session.specs.Seen.{cleared_file, kept_chain}
 use Rattle.trio_session.specs.inner.Found.{Fresh, TakesLaid}
 use Rattle.trio_session.proofs.Chained.{there_found}
 use Rattle.trio_session.proofs.Chains.{chain_there, none_lent}
-use Rattle.trio_session.proofs.Found.{position-passes, slice_get-within}
-use Rattle.trio_session.proofs.Indexed.{made_one, written_one}
+use Rattle.trio_session.proofs.Found.{position-at, position-passes, slice_get-within}
+use Rattle.trio_session.proofs.Indexed.{made_one, position-once, written_one}
 use Rattle.trio_session.proofs.Kept.{files_of}
 use Rattle.trio_session.proofs.Lists.{In-slice_get, slice_get-In}
 use Rattle.trio_session.proofs.Opens.{found_one, is_there}
@@ -17,6 +17,7 @@ use Rattle.trio_session.proofs.Numbers.{length-removed, none-In, others_all, oth
 use Rattle.trio_session.proofs.Removed.{split_at}
 use Rattle.trio_session.proofs.Resized.{are_new-front, are_new-join}
 use Rattle.trio_session.proofs.SameOnes.{HasSame, IsAs, IsBare, as_same, block_same, dirs_same, spread_same}
+use Rattle.trio_session.proofs.SlotEdits.{get-behind}
 use Rattle.trio_session.proofs.Seeing.{Shows, file_on, made_missing, made_there}
 
 -- where there is no grant there is no file, and none is lent for reading
@@ -134,6 +135,26 @@ module _ (cs cs' : List Made) (ino : ℕ) (l : Laid) (takes : TakesLaid cs ino l
         let one = length-removed cs at c there in
         omega (arith, e, one)
   ]
+
+-- a cleared file that isn't shown isn't there
+pub uncleared : (s : SessionSeen) (b : Parcel) (ls : List Laid) (ms cs : List Made) (ino : ℕ) → Shows s (files_of b ls ms cs) → cleared_file s ino ≡ None → position (λ m. eqb m.ino ino) cs ≡ None
+uncleared s b ls ms cs ino shows none = by (position (λ (m : Made). eqb m.ino ino) cs) refl
+  where
+    by : (o : Option ℕ) → position (λ (m : Made). eqb m.ino ino) cs ≡ o → position (λ (m : Made). eqb m.ino ino) cs ≡ None
+    by None e = e
+    by (Some j) e =
+        let c = position-at (λ (m : Made). eqb m.ino ino) cs j e in
+        absurd (let t : None ≡ Some (made_seen b c.0) = sym none ∙ ap (find (λ (k : MadeFile). eqb k.ino ino)) shows.cleared ∙ made_there b cs ino j c.0 e c.1.0 in cc t)
+
+-- the last of the files that were made is found by its number
+pub found_last : (b : Parcel) (ls : List Laid) (ms cs : List Made) (m : Made) (ms' : List Made) → ms' ≡ ms ++ m ∷ [] → are_new [] (map (λ k. k.ino) ((ms ++ m ∷ []) ++ cs)) ≡ true
+    → FoundAt b ls ms' m.ino (file_of m) m.laid
+found_last b ls ms cs m ms' are once =
+    let key : Made → ℕ = λ k. k.ino in
+    let front = are_new-front (map key (ms ++ m ∷ [])) (map key cs) (ap (are_new []) (sym (map-append key (ms ++ m ∷ []) cs)) ∙ once) in
+    let there : slice_get (ms ++ m ∷ []) (length ms) ≡ Some m = ap (slice_get (ms ++ m ∷ [])) (let t : length ms ≡ length ms + 0 = omega arith in t) ∙ get-behind ms (m ∷ []) 0 in
+    subst (λ xs. FoundAt b ls xs m.ino (file_of m) m.laid) (sym are)
+    (AmongMade (length ms) m (position-once key (ms ++ m ∷ []) m.ino (length ms) m front there refl) there refl refl)
 
 -- ---- the files with one more
 

@@ -1,6 +1,6 @@
 -- What a session shows after one of its files was laid anew.
 use Rattle.trio_session.proofs.Words.{if◌then◌else◌, ◌++◌, ◌<◌, ◌∙◌, ◌∷◌, ◌≡◌, ◌≢◌, ◌⊎◌, AmongMade, AmongWritten, AreApart, AreLaid, AreMade, AreNumbered, Bool, Chain, FilePlace, Files, FoundAt, HasChain, In, InSlot, IsFile, IsOne, IsRelaid, IsThere, Kind, Laid, Leased, LentFile, List, Made, MadeAnew, MadeFile, None, OneFile, Option, Parcel, SessionSeen, Shown, Some, WrittenAnew, [], ap, are_new, arith, body_at, chain_at, chains_laid, eqb, eqb-true, false, file_of, find, inl, inr, is_some, length, length-set, made_chained, made_file, made_seen, map, map-append, number_at, open_kind, option_map, option_map_or, place_in, position, refl, slice_get, slice_get-map, slice_index_or, slice_set, subst, suc, sym, true, with_chain, zero, ℕ}
-use Rattle.trio_session.proofs.Found.{find-position, position-at, position-passes, slice_get-within}
+use Rattle.trio_session.proofs.Found.{find-position, position-at, position-map, position-passes, slice_get-within}
 use Rattle.trio_session.proofs.Indexed.{are_new-front, position-once}
 use Rattle.trio_session.proofs.Lists.{if_other, if_same, once_at, set_map, slice_get-In}
 use Rattle.trio_session.proofs.Opens.{found_one, made_left}
@@ -8,7 +8,8 @@ use Rattle.trio_session.proofs.Owners.{same_one}
 use Rattle.trio_session.proofs.Places.{map_at, number_at-map}
 use Rattle.trio_session.proofs.Seeing.{Shows, made_missing, made_shown, made_there}
 use Rattle.trio_session.proofs.Sessions.{chains_anew, chains_left, laid_anew, laid_left}
-use Rattle.trio_session.proofs.Stays.{LeavesFiles}
+use Rattle.trio_session.proofs.Kept.{get_set, map_set}
+use Rattle.trio_session.proofs.Stays.{LeavesFiles, SameFiles-numbers}
 
 -- ---- a file that is there
 
@@ -31,13 +32,18 @@ there_found fs ino laid there = by (position (λ (m : Made). eqb m.ino ino) fs.m
     ])
 
 -- each file of the number is of the kind that is shown
-pub kind_one : (s : SessionSeen) (placed : ℕ) (reads : List Shown) (fs : Files) (ino : ℕ) (k : Kind) → Shows s fs → AreLaid fs.parcel fs.laid → AreMade placed reads fs
-    → IsThere fs.parcel fs.made ino → open_kind s ino ≡ Some k → (x : OneFile) → IsOne fs x → x.ino ≡ ino → x.kind ≡ k
-kind_one s placed reads fs ino k shows laid made there is x one same =
+pub kind_shows : (s : SessionSeen) (placed : ℕ) (reads : List Shown) (fs : Files) (ino : ℕ) → Shows s fs → AreLaid fs.parcel fs.laid → AreMade placed reads fs
+    → IsThere fs.parcel fs.made ino → (x : OneFile) → IsOne fs x → x.ino ≡ ino → open_kind s ino ≡ Some x.kind
+kind_shows s placed reads fs ino shows laid made there x one same =
     let at = there_found fs ino laid there in
     let found = found_one s fs ino at.0 at.1 shows at.2 in
     let it : x ≡ found.one = same_one reads fs x found.one made.apart made.numbered one found.is (same ∙ sym found.ino) in
-    ap (λ (y : OneFile). y.kind) it ∙ (let t : Some found.one.kind ≡ Some k = sym found.kind ∙ is in cc t)
+    found.kind ∙ ap (λ (y : OneFile). Some y.kind) (sym it)
+
+pub kind_one : (s : SessionSeen) (placed : ℕ) (reads : List Shown) (fs : Files) (ino : ℕ) (k : Kind) → Shows s fs → AreLaid fs.parcel fs.laid → AreMade placed reads fs
+    → IsThere fs.parcel fs.made ino → open_kind s ino ≡ Some k → (x : OneFile) → IsOne fs x → x.ino ≡ ino → x.kind ≡ k
+kind_one s placed reads fs ino k shows laid made there is x one same =
+    (let t : Some x.kind ≡ Some k = sym (kind_shows s placed reads fs ino shows laid made there x one same) ∙ is in cc t)
 
 -- ---- one file is laid anew
 
@@ -107,6 +113,24 @@ laid_relaid b b' ls ls' ms ms' ino chain leaves laid relaid = elim relaid [
   | MadeAnew at m l' e there done same made ↦ subst (AreLaid b') (sym same) (laid_left b b' ls leaves (λ i. done.others i (λ k. (let t : Leased i ≡ InSlot m.page m.slot = k in cc t))) laid)
   | WrittenAnew at l l' none e there done same made ↦
       subst (AreLaid b') (sym same) (laid_anew b b' ls at l' leaves (λ j apart. done.others j (λ k. apart (let t : Leased j ≡ Leased at = k in cc t))) laid done.is done.has)
+]
+
+-- the file is found then
+pub found_relaid : (done : FilePlace → Laid → Laid → Type 0) (b b' : Parcel) (ls ls' : List Laid) (ms ms' : List Made) (ino : ℕ) → LeavesFiles b b' → IsRelaid done b ls ms ino ls' ms'
+    → (file : FilePlace) × (l : Laid) × (l' : Laid) × FoundAt b' ls' ms' ino file l' × done file l l'
+found_relaid done b b' ls ls' ms ms' ino leaves relaid = elim relaid [
+  | MadeAnew at m l' e there is same anew ↦
+      let key : Made → ℕ = λ k. k.ino in
+      let m' : Made = record m { laid = l' } in
+      let numbers : map key ms' ≡ map key ms = ap (map key) anew ∙ map_set key ms at m' m there refl in
+      let place : position (λ k. eqb k.ino ino) ms' ≡ Some at =
+      sym (position-map (λ n. eqb n ino) key ms') ∙ ap (position (λ n. eqb n ino)) numbers ∙ position-map (λ n. eqb n ino) key ms ∙ e in
+      (file_of m, m.laid, l', AmongMade at m' place (ap (λ ks. slice_get ks at) anew ∙ get_set ms at m' m there) refl refl, is)
+  | WrittenAnew at l l' none e there is same made ↦
+      let key : LentFile → ℕ = λ f. f.stands.ino in
+      let place : position (λ f. eqb f.stands.ino ino) b'.writes ≡ Some at =
+      sym (position-map (λ n. eqb n ino) key b'.writes) ∙ ap (position (λ n. eqb n ino)) (SameFiles-numbers b.writes b'.writes leaves.files) ∙ position-map (λ n. eqb n ino) key b.writes ∙ e in
+      (Leased at, l, l', AmongWritten at (ap (position (λ (k : Made). eqb k.ino ino)) made ∙ none) place (ap (λ xs. slice_get xs at) same ∙ get_set ls at l' l there) refl, is)
 ]
 
 -- as many files were made

@@ -1,11 +1,12 @@
 -- The first empty slot of a directory is filled: what the session then shows, and that its number may be that of a file that was made.
-use Rattle.trio_session.proofs.Words.{if◌then◌else◌, ◌%◌, ◌*◌, ◌++◌, ◌+◌, ◌/◌, ◌<◌, ◌∙◌, ◌∷◌, ◌≡◌, Bool, Chain, Directory, EntryPart, In, IsAt, IsMadeAt, IsTrue, Kind, LentFile, List, MadeFile, None, Option, PagePlace, Parcel, Place, Room, SessionSeen, Shown, Some, [], ap, arith, block_count, body_in_slot, chain_in, dir_pages, entry_at, entry_bytes, entry_fits, eqb, every_number, false, filled, filter, find, first_empty, held_file, ino_numbers, is_allotted, is_among, is_some, length, made_file, map, no_chain, not, number_at, open_kind, option_map, option_map_or, option_or, page_in, placed_made, position, read_file, refl, sheet_at, size_in, slice_get, slice_index_or, slot_number, slots_of, slots_shown, subst, suc, sym, true, with_made, with_part, ℕ}
+use Rattle.trio_session.proofs.Words.{if◌then◌else◌, ◌%◌, ◌*◌, ◌++◌, ◌+◌, ◌/◌, ◌<◌, ◌∙◌, ◌∷◌, ◌≡◌, Bool, Chain, Directory, EntryPart, In, IsAt, IsMadeAt, IsTrue, Kind, LentFile, List, MadeFile, None, Option, PagePlace, Parcel, Place, Room, SessionSeen, Shown, Some, [], ap, arith, block_count, body_in_slot, chain_in, dir_pages, entry_at, entry_bytes, entry_fits, eqb, every_number, false, filled, filter, find, first_empty, held_file, ino_numbers, is_allotted, is_among, is_some, length, made_file, map, no_chain, not, number_at, open_kind, option_map, option_map_or, option_or, page_in, placed_made, position, read_file, refl, sheet_at, size_in, slice_get, slice_index_or, slot_number, slots_of, slots_shown, subst, suc, sym, true, with_made, with_part, ℕ, eq-eqb}
 use Rattle.std.specs.Prelude.{is_none}
+use Rattle.std.proofs.lemmas.List.Folds.{find-append}
 use Rattle.trio_nodes.specs.declared.grant.GrantKind.TheVariants.{Hold, Read, Write}
 use Rattle.trio_auxdir.specs.Places.{place_at}
 use Rattle.trio_auxdir.specs.Slots.{first_slot}
 use Rattle.trio_session.specs.Layout.{with_page}
-use Rattle.trio_session.specs.Seen.{MayBeMade, grant_in}
+use Rattle.trio_session.specs.Seen.{MayBeMade, body_in, grant_in, made_body, written_file}
 use Rattle.trio_session.proofs.Found.{position-map}
 use Rattle.trio_session.proofs.Places.{number_at-map, still_there}
 use Rattle.trio_session.proofs.SlotEdits.{IsWhole, block_within, body-filled, entry_on-filled}
@@ -116,6 +117,35 @@ filled_made v dir n slot e body room page whole lt fits sized directory block at
       home = subst (λ (c : Chain). In (number_at p page) c.blocks) (sym (chain_in_left v p room dir leaves)) (subst (λ m. In m (chain_in v dir).blocks) (sym number) block);
       entry = ap (λ m. option_map (λ (x : EntryPart). x.ino) (entry_at p m slot)) number ∙ ap (option_map (λ (x : EntryPart). x.ino)) (entry_on-filled b n slot e body whole lt fits sized);
     }
+
+-- no file of a number is shown on which there is no grant
+pub grant_unmade : (v : SessionSeen) (ino : ℕ) → grant_in v ino ≡ None → made_file v ino ≡ None
+grant_unmade v ino none =
+    by (made_file v ino) (option_map (λ (f : Shown). f.kind) (option_map (λ (f : LentFile). f.stands) (find (λ (f : LentFile). eqb f.stands.ino ino) v.parcel.writes))) (is_some (held_file v ino)) (is_some (read_file v ino)) none
+  where
+    by : (o : Option MadeFile) (k : Option Kind) (h r : Bool) → (if is_some (option_or (option_map (λ (m : MadeFile). m.kind) o) k) then Some Write else (if h then Some Hold else (if r then Some Read else None))) ≡ None → o ≡ None
+    by None k h r e = refl
+    by (Some m) k h r e = absurd (let t : Some Write ≡ None = e in cc t)
+
+-- it is found by its number, whatever else of the parcel and of the room changed
+pub filled_found : (v : SessionSeen) (p : Parcel) (room : Room) (ino : ℕ) (kind : Kind) (page slot : ℕ) → is_allotted v ino ≡ true → made_file v ino ≡ None
+    → made_file (record (with_made ino kind page slot v) { parcel = p; room = room }) ino ≡ Some (placed_made v ino kind page slot)
+filled_found v p room ino kind page slot allotted none =
+    let x = placed_made v ino kind page slot in
+    let more : SessionSeen = record v { made = v.made ++ x ∷ []; cleared = filter (λ m. not (eqb m.ino ino)) v.cleared } in
+    ap (λ t. made_file (record (if t then more else v) { parcel = p; room = room }) ino) allotted
+    ∙ find-append (λ (m : MadeFile). eqb m.ino ino) v.made (x ∷ [])
+    ∙ ap (λ o. option_or o (find (λ (m : MadeFile). eqb m.ino ino) (x ∷ []))) none
+    ∙ ap (λ t. if t then Some x else None) (eq-eqb ino ino refl)
+
+-- with the body that was put there
+pub filled_body : (v : SessionSeen) (n slot : ℕ) (e : EntryPart) (body : List ℕ) (room : Room) → IsWhole v.parcel n → slot < 16 → entry_fits every_number e ≡ true → length body ≡ 64
+    → is_allotted v e.ino ≡ true → made_file v e.ino ≡ None → body_in (record (with_made e.ino e.kind n slot v) { parcel = filled n slot e body v.parcel; room = room }) e.ino ≡ body
+filled_body v n slot e body room whole lt fits sized allotted none =
+    let p = filled n slot e body v.parcel in
+    let s : SessionSeen = record (with_made e.ino e.kind n slot v) { parcel = p; room = room } in
+    ap (λ o. option_map_or (made_body s) o (option_map_or (λ (f : Shown). f.body) (written_file s e.ino) [])) (filled_found v p room e.ino e.kind n slot allotted none)
+    ∙ body-filled v.parcel n slot e body whole lt fits sized
 
 -- and it is shown as one, whatever else of the parcel and of the room changed
 pub with_made-filled : (v : SessionSeen) (p : Parcel) (r room : Room) (ino : ℕ) (kind : Kind) (page slot : ℕ) → p.inodes ≡ v.parcel.inodes

@@ -1,5 +1,5 @@
 -- A growth of one of a session's files: what it keeps of the session, and what the session shows then.
-use Rattle.trio_session.proofs.Words.{◌%◌, ◌*◌, ◌++◌, ◌+◌, ◌-◌, ◌<◌, ◌∙◌, ◌≡◌, ◌≤◌, AreDirs, AreLaid, AreMade, Bool, Chain, Directory, FilePlace, GrowDone, In, IndexedDir, Inside, IsOne, IsRelaid, IsThere, Kind, Laid, List, Made, MayGrow, None, OneFile, Option, Parcel, Regular, Room, SessionSeen, Some, TellsGrowth, ToldGrowth, Untold, [], ap, append-nil, arith, block_count, body_at, body_in, chain_at, chain_grown, chain_in, dir_numbers, drop, eqb, eqb-true, false, growth, inl, inr, is_some, length, made_file, open_kind, page_numbers, position, refl, replicate, room_in, set_same, size_in, slice_get, slice_set, spare_pages, subst, sym, take, true, vec_capacity, ℕ}
+use Rattle.trio_session.proofs.Words.{◌%◌, ◌*◌, ◌++◌, ◌+◌, ◌-◌, ◌<◌, ◌∙◌, ◌≡◌, ◌≤◌, AreDirs, AreLaid, AreMade, Bool, Chain, Directory, FilePlace, GrowDone, In, IndexedDir, Inside, IsOne, IsRelaid, IsThere, Kind, Laid, List, Made, MayGrow, None, OneFile, Option, Parcel, Regular, Room, SessionSeen, Some, TellsGrowth, ToldGrowth, Untold, [], ap, append-nil, arith, block_count, body_at, body_in, chain_at, chain_grown, chain_in, dir_numbers, drop, eqb, eqb-true, false, growth, inl, inr, is_some, length, made_file, open_kind, page_numbers, position, refl, replicate, room_in, set_same, size_in, slice_get, slice_set, spare_pages, subst, sym, take, true, vec_capacity, ℕ, is_directory, is_directory-false, kind_cases, IsBlank}
 use Rattle.trio_auxdir.specs.Directory.{Directory as Index}
 use Rattle.trio_session.specs.Seen.{grown}
 use Rattle.trio_session.specs.contracts.session.Session.{the_invariant, the_view}
@@ -7,8 +7,8 @@ use Rattle.trio_session.proofs.Chained.{IsAnew, kind_one, laid_relaid, made_many
 use Rattle.trio_session.proofs.Found.{position-at, position-passes}
 use Rattle.trio_session.proofs.GrownDirs.{IsDirGrown, kept_grow_dir}
 use Rattle.trio_session.proofs.Insides.{files_in}
-use Rattle.trio_session.proofs.Kept.{files_of, kinds_apart}
-use Rattle.trio_session.proofs.Opens.{has_file, is_there, may_grow, open_some, pages_left, shows_view}
+use Rattle.trio_session.proofs.Kept.{files_of}
+use Rattle.trio_session.proofs.Opens.{has_file, is_there, may_grow, open_some, pages_left, plain_kind, shows_view}
 use Rattle.trio_session.proofs.Owners.{same_one}
 use Rattle.trio_session.proofs.Resized.{grown_leaves_files, kept_grow}
 use Rattle.trio_session.proofs.Rooms.{index_there}
@@ -53,12 +53,12 @@ module _ (v : SessionSeen) (s : Inside) (ino size : ℕ) (k : Kind) (next : ℕ)
       let may = may_grow v s ino size edit.0 edit.1 g.view g.is edit.3 g.size_more g.pages g.room in
       rw (pages_left s.stock b' growth_leaves) (rw edit.4.ends may.pages)
 
-  regular : k ≡ Regular → AreMade next s.reads.items (files_of b' ls' ms' s.cleared.items) × AreDirs s.reads.items (files_of b' ls' ms' s.cleared.items) ds'
+  regular : is_directory k ≡ false → AreMade next s.reads.items (files_of b' ls' ms' s.cleared.items) × AreDirs s.reads.items (files_of b' ls' ms' s.cleared.items) ds'
   regular is =
-      let kept = kept_grow s.placed next s.reads.items s.stock b' s.laid.items ls' s.made.items ms' s.cleared.items s.dirs.items size ino g.is.0 g.is.3 g.is.4 g.relaid (λ x one same. kinds x one same ∙ is) in
+      let kept = kept_grow s.placed next s.reads.items s.stock b' s.laid.items ls' s.made.items ms' s.cleared.items s.dirs.items size ino g.is.0 g.is.3 g.is.4 g.relaid (λ x one same. ap is_directory (kinds x one same) ∙ is) in
       elim g.told [
         | Untold none same ↦ (kept.0, subst (AreDirs s.reads.items (files_of b' ls' ms' s.cleared.items)) (sym same) kept.1)
-        | ToldGrowth dir some at d d' e here told same ↦ absurd (kinds_apart k dir is)
+        | ToldGrowth dir some at d d' e here told same ↦ absurd (is_directory-false k is dir)
       ]
 
   grown_dir : k ≡ Directory → (at : ℕ) (d d' : IndexedDir) → slice_get s.dirs.items at ≡ Some d → d.ino ≡ ino → d'.ino ≡ d.ino → d'.dir.inodes ≡ d.dir.inodes
@@ -75,13 +75,13 @@ module _ (v : SessionSeen) (s : Inside) (ino size : ℕ) (k : Kind) (next : ℕ)
     where
       whole_size : k ≡ Directory → size % 4096 ≡ 0
       whole_size is = elim g.may [
-        | inl is_open ↦ absurd (kinds_apart k is (let t : Some k ≡ Some Regular = sym g.kind ∙ is_open in cc t))
+        | inl is_open ↦ absurd (is_directory-false k (plain_kind (open_kind v ino) k is_open g.kind) is)
         | inr dir ↦ dir.whole
       ]
 
   directory : k ≡ Directory → AreMade next s.reads.items (files_of b' ls' ms' s.cleared.items) × AreDirs s.reads.items (files_of b' ls' ms' s.cleared.items) ds'
   directory is = elim g.may [
-    | inl is_open ↦ absurd (kinds_apart k is (let t : Some k ≡ Some Regular = sym g.kind ∙ is_open in cc t))
+    | inl is_open ↦ absurd (is_directory-false k (plain_kind (open_kind v ino) k is_open g.kind) is)
     | inr dir ↦ elim g.told [
       | ToldGrowth _ some at d d' e here told same ↦
           let one : more ≡ 1 = (let le = dir.one in let n = g.many in omega (arith, le, n, some)) in
@@ -101,15 +101,11 @@ module _ (v : SessionSeen) (s : Inside) (ino size : ℕ) (k : Kind) (next : ℕ)
           (kept.0, subst (AreDirs s.reads.items (files_of b' ls' ms' s.cleared.items)) (set_same s.dirs.items at d.0 d.1.0 ∙ sym same) kept.1)
 
   pub growth_kept : AreMade next s.reads.items (files_of b' ls' ms' s.cleared.items) × AreDirs s.reads.items (files_of b' ls' ms' s.cleared.items) ds'
-  growth_kept = either k refl
-    where
-      either : (x : Kind) → k ≡ x → AreMade next s.reads.items (files_of b' ls' ms' s.cleared.items) × AreDirs s.reads.items (files_of b' ls' ms' s.cleared.items) ds'
-      either Regular e = regular e
-      either Directory e = directory e
+  growth_kept = elim (kind_cases k) [ inl is ↦ directory is | inr is ↦ regular is ]
 
   -- the session's invariant after it
   pub growth_inside : AreLaid b' ls' × (next ≤ length b'.pages) × (length s.calls.items < 4294967296) × AreMade next s.reads.items (files_of b' ls' ms' s.cleared.items)
-      × AreDirs s.reads.items (files_of b' ls' ms' s.cleared.items) ds' × (length ms' + length s.cleared.items ≤ vec_capacity s.cleared)
+      × AreDirs s.reads.items (files_of b' ls' ms' s.cleared.items) ds' × (length ms' + length s.cleared.items ≤ vec_capacity s.cleared) × IsBlank s.next
   growth_inside =
       let done = GrowDone s.stock b' size s.placed next in
       let edit = relaid_edit done s.stock s.laid.items ls' s.made.items ms' ino g.relaid in
@@ -127,12 +123,13 @@ module _ (v : SessionSeen) (s : Inside) (ino size : ℕ) (k : Kind) (next : ℕ)
         growth_kept.0,
         growth_kept.1,
         rw (made_many done s.stock s.laid.items ls' s.made.items ms' ino g.relaid) g.is.5,
+        g.is.6,
       )
 
 -- the index of a directory that grows has a place for the block
 pub dir_place : (v : SessionSeen) (ino size : ℕ) → MayGrow v ino size → open_kind v ino ≡ Some Directory → In ino v.room.slots
 dir_place v ino size may dir = elim may [
-  | inl regular ↦ absurd (let t : Some Regular ≡ Some Directory = sym regular ∙ dir in cc t)
+  | inl plain ↦ absurd (is_directory-false Directory (plain_kind (open_kind v ino) Directory plain dir) refl)
   | inr grows ↦ grows.place
 ]
 

@@ -1,5 +1,5 @@
 -- The index of a directory is that of its slots, as the session shows them.
-use Rattle.trio_session.proofs.Words.{if◌then◌else◌, ◌++◌, ◌∙◌, ◌≡◌, ◌⊎◌, AreDirs, AreLaid, AreMade, Bor, Chain, Directory, Files, In, In-cases, In-is_among, In-left, In-map, In-right, IndexedDir, Inside, IsFileOn, IsIndexHere, IsIndexed, IsNowhere, IsOne, Kind, Laid, Leased, LentFile, List, Made, None, OneFile, Option, Parcel, Regular, SessionSeen, Shown, Some, WasMade, Written, [], and_parts, ap, are_new, are_new-before, chain_at, chain_in, dir_pages, eqb, eqb-true, every_number, false≢true, file_numbers, file_of, find, find-In, inl, inr, is_among, is_among-In, is_some, kind_shown, lease_on, map, map-In, map-append, of_made, open_kind, option_copied, option_map, option_map_or, option_or, page_in, pages_of, place_of, place_shown, position, read_file, refl, slice_get, slots_of, slots_shown, subst, sym, true, ℕ}
+use Rattle.trio_session.proofs.Words.{if◌then◌else◌, ◌++◌, ◌∙◌, ◌≡◌, ◌⊎◌, AreDirs, AreLaid, AreMade, Bor, Chain, Directory, Files, In, In-cases, In-is_among, In-left, In-map, In-right, IndexedDir, Inside, IsFileOn, IsIndexHere, IsIndexed, IsNowhere, IsOne, Kind, Laid, Leased, LentFile, List, Made, None, OneFile, Option, Parcel, Regular, SessionSeen, Shown, Some, WasMade, Written, [], and_parts, ap, are_new, are_new-before, chain_at, chain_in, dir_pages, eqb, eqb-true, every_number, false≢true, file_numbers, file_of, find, find-In, inl, inr, is_among, is_among-In, is_some, kind_shown, lease_on, map, map-In, map-append, of_made, open_kind, option_copied, option_map, option_map_or, option_or, page_in, pages_of, place_of, place_shown, position, read_file, refl, slice_get, slots_of, slots_shown, subst, sym, true, ℕ, Link}
 use Rattle.trio_lists.proofs.Marked.{are_new-append}
 use Rattle.trio_session.specs.contracts.session.Session.{the_invariant, the_view}
 use Rattle.trio_session.proofs.Dirs.{dir_missed}
@@ -167,6 +167,7 @@ place_of-index v n slots name same = by (kind_shown v n) refl
     by : (o : Option Kind) → kind_shown v n ≡ o → place_of (kind_shown v n) slots name ≡ place_of (kind_shown v n) (slots_shown v n) name
     by None e = ap (λ k. place_of k slots name) e ∙ sym (ap (λ k. place_of k (slots_shown v n) name) e)
     by (Some Regular) e = ap (λ k. place_of k slots name) e ∙ sym (ap (λ k. place_of k (slots_shown v n) name) e)
+    by (Some Link) e = ap (λ k. place_of k slots name) e ∙ sym (ap (λ k. place_of k (slots_shown v n) name) e)
     by (Some Directory) e = ap (λ xs. place_of (kind_shown v n) xs name) (same e)
 
 pub place_of-missing : (v : SessionSeen) (n : ℕ) (name : List ℕ) → (kind_shown v n ≡ Some Directory → ⊥) → None ≡ place_shown v n name
@@ -175,4 +176,5 @@ place_of-missing v n name not = by (kind_shown v n) refl
     by : (o : Option Kind) → kind_shown v n ≡ o → None ≡ place_of (kind_shown v n) (slots_shown v n) name
     by None e = sym (ap (λ k. place_of k (slots_shown v n) name) e)
     by (Some Regular) e = sym (ap (λ k. place_of k (slots_shown v n) name) e)
+    by (Some Link) e = sym (ap (λ k. place_of k (slots_shown v n) name) e)
     by (Some Directory) e = absurd (not e)

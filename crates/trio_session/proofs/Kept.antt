@@ -1,5 +1,5 @@
 -- What edits keep of a session's files and of its indexes.
-use Rattle.trio_session.proofs.Words.{◌%◌, ◌*◌, ◌++◌, ◌+◌, ◌-◌, ◌<◌, ◌∙◌, ◌∷◌, ◌≡◌, ◌≢◌, ◌≤◌, AreApart, AreDirs, AreLaid, AreMade, AreRead, Bad, Chain, Directory, Empty, Entry, EntryPart, FilePlace, Files, Fresh, FreshParts, In, In-cases, In-map, In-right, IndexedDir, IsFile, IsIndexHere, IsOne, Kind, Laid, Leased, LentFile, List, Made, None, OneFile, Option, Parcel, Regular, Shown, SlotRead, Some, WasMade, Written, [], ap, are_new, arith, block_count, body_at, body_in_slot, cases_eq, chain_at, cleared_slot, dir_numbers, drop, entry_at, entry_bytes, entry_fits, entry_in, eqb, eqb-true, every_number, file_numbers, file_of, find-In, fresh_sheet, index_count, inl, ino_numbers, inr, length, map, name_in, number_at, of_written, option_map, option_map_or, page_in, page_numbers, pages_of, put_bytes, refl, size_in, slice_get, slice_get-map, slice_set, slot_bytes, slot_of, slot_on, slots_of, subst, suc, sym, true, with_part, zero, zeros, ℕ}
+use Rattle.trio_session.proofs.Words.{◌%◌, ◌*◌, ◌++◌, ◌+◌, ◌-◌, ◌<◌, ◌∙◌, ◌∷◌, ◌≡◌, ◌≢◌, ◌≤◌, AreApart, AreDirs, AreLaid, AreMade, AreRead, Bad, Chain, Directory, Empty, Entry, EntryPart, FilePlace, Files, Fresh, FreshParts, In, In-cases, In-map, In-right, IndexedDir, IsFile, IsIndexHere, IsOne, Kind, Laid, Leased, LentFile, List, Made, None, OneFile, Option, Parcel, Regular, Shown, SlotRead, Some, WasMade, Written, [], ap, are_new, arith, block_count, body_at, body_in_slot, cases_eq, chain_at, cleared_slot, dir_numbers, drop, entry_at, entry_bytes, entry_fits, entry_in, eqb, eqb-true, every_number, file_numbers, file_of, find-In, fresh_sheet, index_count, inl, ino_numbers, inr, length, map, name_in, number_at, of_written, option_map, option_map_or, page_in, page_numbers, pages_of, put_bytes, refl, size_in, slice_get, slice_get-map, slice_set, slot_bytes, slot_of, slot_on, slots_of, subst, suc, sym, true, with_part, zero, zeros, ℕ, is_directory, is_directory-false, false}
 use Rattle.trio_session.specs.Layout.{filled as filled_slot, retitled as retitled_slot}
 use Rattle.trio_session.proofs.Chains.{there_some}
 use Rattle.trio_session.proofs.Edited.{Keeps, page_keeps}
@@ -196,14 +196,10 @@ index_slots placed reads fs dirs x d made are one i same = elim (are.indexed d i
       ])
 ]
 
--- ---- a regular file is written
-
-pub kinds_apart : (k : Kind) → k ≡ Directory → k ≡ Regular → ⊥
-kinds_apart Directory d r = absurd cc
-kinds_apart Regular d r = absurd cc
+-- ---- what is no directory is written
 
 pub kept_put : (placed : ℕ) (reads : List Shown) (b b' : Parcel) (ls : List Laid) (ms cs : List Made) (dirs : List IndexedDir) (x : OneFile) (at : ℕ) (new : List ℕ)
-    → AreLaid b ls → AreMade placed reads (files_of b ls ms cs) → AreDirs reads (files_of b ls ms cs) dirs → IsOne (files_of b ls ms cs) x → x.kind ≡ Regular
+    → AreLaid b ls → AreMade placed reads (files_of b ls ms cs) → AreDirs reads (files_of b ls ms cs) dirs → IsOne (files_of b ls ms cs) x → is_directory x.kind ≡ false
     → at + length new ≤ 4096 * length (chain_at b x.file x.laid).blocks → b' ≡ put_bytes (chain_at b x.file x.laid).blocks at new b
     → AreMade placed reads (files_of b' ls ms cs) × AreDirs reads (files_of b' ls ms cs) dirs
 kept_put placed reads b b' ls ms cs dirs x at new laid made are one regular within e =
@@ -215,7 +211,7 @@ kept_put placed reads b b' ls ms cs dirs x at new laid made are one regular with
     let out = λ (y : OneFile) (n : ℕ) (other : IsOne fs y) (dir : y.kind ≡ Directory) (i : In n (chain_at b y.file y.laid).blocks) (j : In n own).
     let number : y.ino ≡ x.ino = blocks_apart placed reads fs made.apart made.numbered made.spread y x n other (there y other) one (there x one) i j in
     let it : y ≡ x = same_one reads fs y x made.apart made.numbered other one number in
-    kinds_apart x.kind (ap (λ (z : OneFile). z.kind) (sym it) ∙ dir) regular in (
+    is_directory-false x.kind regular (ap (λ (z : OneFile). z.kind) (sym it) ∙ dir) in (
       AreMade-left placed reads b b' ls ms cs keeps made
           (λ m i.
           let is = made.made m i in

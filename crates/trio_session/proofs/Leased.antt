@@ -1,4 +1,5 @@
 -- A lease that was granted keeps a session's files and indexes.
+use Rattle.trio_rights.specs.ByKind.{guard_fits}
 use Rattle.trio_session.proofs.Words.{if◌then◌else◌, ◌%◌, ◌&&◌, ◌++◌, ◌<◌, ◌∙◌, ◌∷◌, ◌≡◌, ◌⊎◌, AreApart, AreDirs, AreLaid, AreMade, AreRead, Block, Bool, Chain, CoreRange, DeskSeen, Directory, HasLent, Hold, In, In-cases, In-left, In-map, In-right, IndexedDir, IsFreshLease, IsIndexed, IsNewLaid, IsOn, IsOne, IsTrue, Kind, Laid, LaidLeased, Lease, Leased, LentFile, LentPage, LibNo, LibOut, List, Made, None, OneFile, Parcel, Read, SessionSeen, Shown, Sizes, Some, WasMade, Write, Written, [], and_parts, ap, are_new, arith, block_count, bytes_eq, chain_at, dir_numbers, dir_pages, eqb, eqb-true, false, file_numbers, fresh_places, hold_numbers, inl, ino_numbers, inr, length, length-append, lent_chain, lent_numbers, lent_sheet, made_seen, map, map-append, of_written, option_map, page_in, pages_of, reads_leased, refl, size_in, slice_get, slice_get-map, slice_get_within, subst, suc, sym, true, with_leased, ℕ}
 use Rattle.std.specs.Prelude.{nat_le}
 use Rattle.trio_layout.specs.Body.{body_at, body_bytes, body_fits, body_of, head_fits, size_fits}
@@ -119,7 +120,8 @@ whole_body kind range bytes e dir =
     let b = body_at bytes in
     let both = some_if (bytes_eq bytes (body_bytes b) && body_fits kind range b) b b e in
     let fits = (and_parts (bytes_eq bytes (body_bytes b)) (body_fits kind range b) both).1 in
-    let two = and_parts (nat_le b.mode.0 511 && nat_le (block_count b.size) (core_count range) && size_fits kind b.size) (head_fits range (block_count b.size) b.head) fits in
+    let three = and_parts (nat_le b.mode.0 511 && nat_le (block_count b.size) (core_count range) && size_fits kind b.size && head_fits range (block_count b.size) b.head) (guard_fits kind b.guard) fits in
+    let two = and_parts (nat_le b.mode.0 511 && nat_le (block_count b.size) (core_count range) && size_fits kind b.size) (head_fits range (block_count b.size) b.head) three.0 in
     let one = and_parts (nat_le b.mode.0 511 && nat_le (block_count b.size) (core_count range)) (size_fits kind b.size) two.0 in
     let size : size_fits Directory b.size ≡ true = subst (λ k. size_fits k b.size ≡ true) dir one.1 in
     eqb-true (b.size % 4096) 0 size

@@ -39,6 +39,7 @@ pub mod Relaid
 pub mod Resized
 pub mod GrownDirs
 pub mod Growing
+pub mod Guards
 pub mod Slotted
 pub mod Numbers
 pub mod Removing

@@ -1,5 +1,5 @@
 -- The file that an edit of a session finds, and what the session shows after it.
-use Rattle.trio_session.proofs.Words.{◌-◌, ◌<◌, ◌∙◌, ◌∷◌, ◌≡◌, ◌≤◌, AmongMade, AmongWritten, Bor, Chain, FilePlace, Files, Finds, FoundAt, FreshParts, HasChain, In-left, Inside, IsFile, IsFileOn, IsOne, IsThere, Kind, Laid, LentFile, List, Made, MadeFile, MayGrow, MayGrowAt, None, OneFile, Option, Parcel, SessionSeen, Some, Vec, WasMade, Written, [], ap, arith, block_count, body_at, body_in, chain_at, chain_in, chains_laid, drop, eqb, eqb-true, false, file_of, find, get_or_from_slice_get, growth, home_at, home_in, inl, inr, is_some, length, length-map, made_place, made_room, made_seen, map, min, number_at, of_made, of_written, open_kind, option_map, option_map_or, page_numbers, place_in, position, refl, room_in, room_laid, size_in, slice_get-map, slice_index_or, spare_pages, subst, sym, true, vec_capacity, ℕ}
+use Rattle.trio_session.proofs.Words.{◌-◌, ◌<◌, ◌∙◌, ◌∷◌, ◌≡◌, ◌≤◌, AmongMade, AmongWritten, Bor, Chain, FilePlace, Files, Finds, FoundAt, FreshParts, HasChain, In-left, Inside, IsFile, IsFileOn, IsOne, IsThere, Kind, Laid, LentFile, List, Made, MadeFile, MayGrow, MayGrowAt, None, OneFile, Option, Parcel, SessionSeen, Some, Vec, WasMade, Written, [], ap, arith, block_count, body_at, body_in, chain_at, chain_in, chains_laid, drop, eqb, eqb-true, false, file_of, find, get_or_from_slice_get, growth, home_at, home_in, inl, inr, is_some, length, length-map, made_place, made_room, made_seen, map, min, number_at, of_made, of_written, open_kind, option_map, option_map_or, page_numbers, place_in, position, refl, room_in, room_laid, size_in, slice_get-map, slice_index_or, spare_pages, subst, sym, true, vec_capacity, ℕ, is_directory, Regular}
 use Rattle.trio_session.proofs.Grows.{within_spare}
 use Rattle.trio_session.specs.contracts.session.Session.{the_invariant, the_view}
 use Rattle.trio_session.proofs.Insides.{files_in, view_shows}
@@ -9,6 +9,19 @@ use Rattle.trio_session.proofs.Places.{number_at-map}
 use Rattle.trio_session.proofs.Seeing.{Shows, file_on, none_open, open_made, open_rest}
 use Rattle.trio_session.proofs.Sessions.{chains_left}
 use Rattle.trio_session.proofs.Stays.{LeavesFiles, chain_left}
+
+-- ---- what is open and no directory
+
+pub plain_kind : (o : Option Kind) (k : Kind) → option_map is_directory o ≡ Some false → o ≡ Some k → is_directory k ≡ false
+plain_kind o k plain is = (let t : Some (is_directory k) ≡ Some false = sym (ap (option_map is_directory) is) ∙ plain in cc t)
+
+pub plain_some : (o : Option Kind) → option_map is_directory o ≡ Some false → is_some o ≡ true
+plain_some None plain = absurd (let t : None ≡ Some false = plain in cc t)
+plain_some (Some k) plain = refl
+
+-- a regular file is such
+pub file_plain : (o : Option Kind) → o ≡ Some Regular → option_map is_directory o ≡ Some false
+file_plain o is = ap (option_map is_directory) is
 
 -- ---- what is found
 
@@ -137,7 +150,7 @@ leaves_place v s b' ms' view many places lt =
 
 -- a file that may grow is open
 pub open_some : (v : SessionSeen) (ino size : ℕ) → MayGrow v ino size → is_some (open_kind v ino) ≡ true
-open_some v ino size may = elim may [ inl regular ↦ ap is_some regular | inr dir ↦ ap is_some dir.dir.directory ]
+open_some v ino size may = elim may [ inl plain ↦ plain_some (open_kind v ino) plain | inr dir ↦ ap is_some dir.dir.directory ]
 
 -- the room of a file
 pub room_found : (v : SessionSeen) (s : Inside) (ino : ℕ) (file : FilePlace) (l : Laid) → the_view s ≡ v → FoundAt s.stock s.laid.items s.made.items ino file l → room_in v ino ≡ room_laid l

@@ -1,8 +1,8 @@
 -- Edits go by neither indexes, look-ups nor room.
-use Rattle.trio_session.proofs.Words.{◌++◌, ◌+◌, ◌∙◌, ◌∷◌, ◌≡◌, Bool, Chain, EntryPart, IsAlike, Kind, List, MadeFile, None, Option, Place, Room, SessionSeen, Some, [], ap, block_count, block_number, body_in, chain_cut, chain_grown, chain_in, cleared_slot, cond, empty_shown, entry_shown, eqb, false, filled_at, filter, growth, is_allotted, length, ltb, made_chained, made_file, map, not, number_shown, option_map_or, place_in, place_shown, placed_made, refl, renamed, retitled, size_in, slice_set, spare_pages, true, with_chain, with_made, without_made, ℕ}
+use Rattle.trio_session.proofs.Words.{◌++◌, ◌+◌, ◌∙◌, ◌∷◌, ◌≡◌, Bool, Chain, EntryPart, IsAlike, Kind, List, MadeFile, None, Option, Place, Room, SessionSeen, Some, [], ap, block_count, block_number, body_in, chain_cut, chain_grown, chain_in, cleared_slot, cond, empty_shown, entry_shown, eqb, false, filled_at, filter, growth, is_allotted, length, ltb, made_chained, made_file, map, not, number_shown, option_map_or, place_in, place_shown, placed_made, refl, renamed, retitled, size_in, slice_set, spare_pages, true, with_chain, with_made, without_made, ℕ, Link}
 use Rattle.std.specs.Prelude.{is_some, take}
-use Rattle.trio_session.specs.Deeds.{sized, with_slot}
-use Rattle.trio_session.specs.Seen.{clear, cut, fill, grown, put, retitle}
+use Rattle.trio_session.specs.Deeds.{link_made, sized, with_slot}
+use Rattle.trio_session.specs.Seen.{clear, cut, fill, grown, put, retitle, set_guard}
 use Rattle.trio_session.proofs.Alike.{alike_edited}
 
 module _ (is : List ℕ) (f : ℕ) (r : Room) where
@@ -102,8 +102,20 @@ pub put_alike : (ino at : ℕ) (bytes : List ℕ) (x y : SessionSeen) → IsAlik
 unfolding put
 put_alike ino at bytes x y e = ap (put ino at bytes) e
 
+pub grown_alike : (ino size : ℕ) (x y : SessionSeen) → IsAlike x y → IsAlike (grown ino size x) (grown ino size y)
+grown_alike ino size = alike_edited (grown ino size) (λ is n r x. grown-other is n r ino size x)
+
+pub guard_alike : (ino : ℕ) (on : Bool) (x y : SessionSeen) → IsAlike x y → IsAlike (set_guard ino on x) (set_guard ino on y)
+unfolding set_guard
+guard_alike ino on x y e = ap (set_guard ino on) e
+
 pub slot_alike : (dir : ℕ) (x y : SessionSeen) → IsAlike x y → IsAlike (with_slot dir x) (with_slot dir y)
 slot_alike dir = alike_edited (with_slot dir) (λ is n r x. with_slot-other is n r dir x)
 
 pub fill_alike : (dir : ℕ) (name : List ℕ) (ino : ℕ) (kind : Kind) (body : List ℕ) (x y : SessionSeen) → IsAlike x y → IsAlike (fill dir name ino kind body x) (fill dir name ino kind body y)
 fill_alike dir name ino kind body = alike_edited (fill dir name ino kind body) (λ is n r x. fill-other is n r dir name ino kind body x)
+
+pub link_alike : (dir : ℕ) (name : List ℕ) (ino : ℕ) (body text : List ℕ) (x y : SessionSeen) → IsAlike x y → IsAlike (link_made dir name ino body text x) (link_made dir name ino body text y)
+link_alike dir name ino body text x y e =
+    let made : SessionSeen → SessionSeen = fill dir name ino Link body in
+    put_alike ino 0 text (grown ino (length text) (made x)) (grown ino (length text) (made y)) (grown_alike ino (length text) (made x) (made y) (fill_alike dir name ino Link body x y e))

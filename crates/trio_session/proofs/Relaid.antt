@@ -1,10 +1,10 @@
 -- One file of a session is laid anew, by a growth or a cut: what becomes of its files.
-use Rattle.trio_session.proofs.Words.{◌%◌, ◌++◌, ◌+◌, ◌<◌, ◌∙◌, ◌∷◌, ◌≡◌, ◌≢◌, ◌≤◌, ◌⊎◌, AreDirs, AreLaid, AreMade, AreNumbered, AreRead, AreSpread, Chain, Directory, EntryPart, FilePlace, Files, Fresh, FreshParts, HasChain, HomeInSlot, HomeLeased, In, In-cases, In-left, In-map, In-right, InSlot, IndexedDir, IsAt, IsBlock, IsFile, IsMade, IsOne, IsRelaid, IsWholeAt, Laid, Leased, LentFile, List, Made, MadeAnew, OneFile, Parcel, Regular, Sheet, Shown, Some, WasMade, Written, WrittenAnew, [], ap, are_new, arith, block_count, body_at, body_in_slot, cases_eq, chain_at, drop, entry_at, eqb, eqb-true, every_number, file_numbers, file_of, fresh_places, fresh_sheet, home_at, index_count, inl, ino_at, ino_numbers, inr, length, map, map-In, map-append, number_at, of_made, of_written, option_map, option_map_or, page_in, page_numbers, refl, size_in, slice_get, slice_get-map, slice_get_within, slice_set, slots_of, subst, suc, sym, take, take-append-drop, true, zero, ℕ}
+use Rattle.trio_session.proofs.Words.{◌%◌, ◌++◌, ◌+◌, ◌<◌, ◌∙◌, ◌∷◌, ◌≡◌, ◌≢◌, ◌≤◌, ◌⊎◌, AreDirs, AreLaid, AreMade, AreNumbered, AreRead, AreSpread, Chain, Directory, EntryPart, FilePlace, Files, Fresh, FreshParts, HasChain, HomeInSlot, HomeLeased, In, In-cases, In-left, In-map, In-right, InSlot, IndexedDir, IsAt, IsBlock, IsFile, IsMade, IsOne, IsRelaid, IsWholeAt, Laid, Leased, LentFile, List, Made, MadeAnew, OneFile, Parcel, Regular, Sheet, Shown, Some, WasMade, Written, WrittenAnew, [], ap, are_new, arith, block_count, body_at, body_in_slot, cases_eq, chain_at, drop, entry_at, eqb, eqb-true, every_number, file_numbers, file_of, fresh_places, fresh_sheet, home_at, index_count, inl, ino_at, ino_numbers, inr, length, map, map-In, map-append, number_at, of_made, of_written, option_map, option_map_or, page_in, page_numbers, refl, size_in, slice_get, slice_get-map, slice_get_within, slice_set, slots_of, subst, suc, sym, take, take-append-drop, true, zero, ℕ, is_directory, is_directory-false, false}
 use Rattle.trio_session.proofs.Chains.{there_some}
 use Rattle.trio_session.proofs.Places.{body_at-InSlot, fresh_at, map_at, number_at-map, page_at, slot_parts}
 use Rattle.trio_session.proofs.Untouched.{EditsFile, IsBeside, IsHome, AreRead-file, body-file, entry_on-file, page_in-file, slots_of-file}
 use Rattle.trio_session.proofs.Found.{position-at}
-use Rattle.trio_session.proofs.Kept.{AreApart-left, In-drop_at, IsFile-one, IsOne-back, body_in_lease, files_of, kinds_apart, get_set, map_set, same_written}
+use Rattle.trio_session.proofs.Kept.{AreApart-left, In-drop_at, IsFile-one, IsOne-back, body_in_lease, files_of, get_set, map_set, same_written}
 use Rattle.trio_session.proofs.Lists.{In-slice_get, once_at, set_beside, slice_get-In}
 use Rattle.trio_session.proofs.Owners.{same_one, spare_apart, written_number}
 use Rattle.trio_session.proofs.SlotEdits.{IsWhole, get-behind, get-front, whole_at}
@@ -413,11 +413,11 @@ module _ (placed placed' : ℕ) (reads : List Shown) (b b' : Parcel) (ls ls' : L
         ]
       ]
 
-  -- the indexes, where a regular file is edited
-  pub AreDirs-relaid : (dirs : List IndexedDir) → AreDirs reads fs dirs → x.kind ≡ Regular → AreDirs reads fs' dirs
+  -- the indexes, where what is no directory is edited
+  pub AreDirs-relaid : (dirs : List IndexedDir) → AreDirs reads fs dirs → is_directory x.kind ≡ false → AreDirs reads fs' dirs
   AreDirs-relaid dirs are regular =
       let other = λ (y : OneFile) (one : IsOne fs y) (dir : y.kind ≡ Directory) (same : y.ino ≡ x.ino).
-      kinds_apart x.kind (ap (λ (z : OneFile). z.kind) (sym (same_one reads fs y x all.made.apart all.made.numbered one all.relays.old same)) ∙ dir) regular in
+      is_directory-false x.kind regular (ap (λ (z : OneFile). z.kind) (sym (same_one reads fs y x all.made.apart all.made.numbered one all.relays.old same)) ∙ dir) in
       let left = λ (y : OneFile). ap (λ (c : Chain). map (page_in b') c.blocks) (chain_left b b' y.file y.laid all.leaves) in
       record {
         once = are.once;
@@ -437,7 +437,7 @@ module _ (placed placed' : ℕ) (reads : List Shown) (b b' : Parcel) (ls ls' : L
               })
         ];
         readable = λ y one dir. elim (all.relays.back y one) [
-          | inl same ↦ absurd (kinds_apart x.kind (ap (λ (z : OneFile). z.kind) (sym same) ∙ dir) regular)
+          | inl same ↦ absurd (is_directory-false x.kind regular (ap (λ (z : OneFile). z.kind) (sym same) ∙ dir))
           | inr was ↦ elim (are.readable y was.0 dir) [
             | inl h ↦ inl h
             | inr read ↦ inr (subst AreRead (sym (left y))

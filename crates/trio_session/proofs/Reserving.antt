@@ -1,5 +1,5 @@
 -- What a session has and shows after room was made for one of its files.
-use Rattle.trio_session.proofs.Words.{◌+◌, ◌-◌, ◌<◌, ◌∙◌, ◌≡◌, ◌≤◌, AreDirs, AreLaid, AreMade, Chain, In, IndexedDir, Inside, IsRelaid, Laid, List, Made, MadeFile, None, Ok, OnOk, Option, Parcel, Roomier, SessionSeen, Some, Vec, ap, arith, chains_laid, dir_numbers, eqb, filter, has_names, has_slots, length, made_place, made_room, made_seen, map, min, option_map_or, place_in, position, refl, room_in, room_laid, slice_index_or, subst, sym, vec_capacity, ℕ}
+use Rattle.trio_session.proofs.Words.{◌+◌, ◌-◌, ◌<◌, ◌∙◌, ◌≡◌, ◌≤◌, AreDirs, AreLaid, AreMade, Chain, In, IndexedDir, Inside, IsRelaid, Laid, List, Made, MadeFile, None, Ok, OnOk, Option, Parcel, Roomier, SessionSeen, Some, Vec, ap, arith, chains_laid, dir_numbers, eqb, filter, has_names, has_slots, length, made_place, made_room, made_seen, map, min, option_map_or, place_in, position, refl, room_in, room_laid, slice_index_or, subst, sym, vec_capacity, ℕ, IsBlank}
 use Rattle.std.proofs.Common.{Result}
 use Rattle.trio_session.specs.Seen.{KeepsRoom}
 use Rattle.trio_session.specs.contracts.session.Session.{the_invariant, the_view}
@@ -17,11 +17,11 @@ module _ {E : Type 0} (v : SessionSeen) (s : Inside) (ino blocks : ℕ) (result 
   -- its invariant
   pub inside_reserved : AreDirs s.reads.items (files_in s) dirs'.items
       → AreLaid s.stock laid'.items × (s.placed ≤ length s.stock.pages) × (length s.calls.items < 4294967296) × AreMade s.placed s.reads.items (files_of s.stock laid'.items made'.items s.cleared.items)
-      × AreDirs s.reads.items (files_of s.stock laid'.items made'.items s.cleared.items) dirs'.items × (length made'.items + length s.cleared.items ≤ vec_capacity s.cleared)
+      × AreDirs s.reads.items (files_of s.stock laid'.items made'.items s.cleared.items) dirs'.items × (length made'.items + length s.cleared.items ≤ vec_capacity s.cleared) × IsBlank s.next
   inside_reserved are =
       let kept = kept_reserved s.placed s.reads.items blocks ino result s.stock s.laid.items laid'.items s.made.items made'.items s.cleared.items dirs'.items is.0 is.3 are relaid in
       let many = made_many (Roomier blocks result) s.stock s.laid.items laid'.items s.made.items made'.items ino relaid in
-      (kept.0, is.1, is.2, kept.1, kept.2, rw many is.5)
+      (kept.0, is.1, is.2, kept.1, kept.2, rw many is.5, is.6)
 
   seen : map (made_seen s.stock) made'.items ≡ map (made_seen s.stock) s.made.items
   seen = made_reserved s.placed s.reads.items blocks ino result s.stock s.laid.items laid'.items s.made.items made'.items s.cleared.items is.3 relaid
@@ -62,10 +62,12 @@ module _ {E : Type 0} (v : SessionSeen) (s : Inside) (ino blocks : ℕ) (result 
       let calls : u.room.calls ≤ u'.room.calls = omega arith in
       let same : made_room made' s.cleared ≡ made_room s.made s.cleared = ap (λ n. min n (vec_capacity s.cleared - length s.cleared.items)) places in
       let more : u.room.made ≤ u'.room.made = omega (arith, same) in
+      let same_next : u.room.next_blocks ≤ u'.room.next_blocks = omega arith in
       record {
         calls = subst (λ x. x.room.calls ≤ u'.room.calls) view calls;
         blocks = room_kept;
         made = subst (λ x. x.room.made ≤ u'.room.made) view more;
+        next = subst (λ x. x.room.next_blocks ≤ u'.room.next_blocks) view same_next;
         slots = λ n i. slots n (subst (λ x. In n x.room.slots) (sym view) i);
         names = λ n i. names n (subst (λ x. In n x.room.names) (sym view) i);
       }

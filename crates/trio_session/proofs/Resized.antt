@@ -1,10 +1,10 @@
 -- A growth or a cut of a regular file keeps a session's files and indexes.
-use Rattle.trio_session.proofs.Words.{◌*◌, ◌++◌, ◌+◌, ◌-◌, ◌<◌, ◌∙◌, ◌∷◌, ◌≡◌, ◌≤◌, ◌⊎◌, AreApart, AreDirs, AreLaid, AreMade, Chain, CutDone, Fresh, FreshParts, GrowDone, HasChain, Home, In, In-cases, In-left, In-right, InSlot, IndexedDir, IsOne, IsRelaid, Laid, Leased, List, Made, MadeAnew, OneFile, Parcel, Regular, Shown, WasMade, Written, WrittenAnew, [], ap, are_new, are_new-beside, are_new-first, arith, block_count, body_at, chain_at, chain_grown, count_from, count_up, cut_file, drop, drop-drop, file_of, fresh_places, fresh_sheet, gap, get_or, grown_file, growth, home_at, index_count, inl, inr, length, length-append, length-take, linked, new_index, numbered, page_numbers, put_bytes, refl, size_in, slice_get-get_or, subst, suc, sym, take, take-append-drop, take-append_seam, taken_from, true, unlinked, unnamed, zero, zeros, ℕ}
+use Rattle.trio_session.proofs.Words.{◌*◌, ◌++◌, ◌+◌, ◌-◌, ◌<◌, ◌∙◌, ◌∷◌, ◌≡◌, ◌≤◌, ◌⊎◌, AreApart, AreDirs, AreLaid, AreMade, Chain, CutDone, Fresh, FreshParts, GrowDone, HasChain, Home, In, In-cases, In-left, In-right, InSlot, IndexedDir, IsOne, IsRelaid, Laid, Leased, List, Made, MadeAnew, OneFile, Parcel, Regular, Shown, WasMade, Written, WrittenAnew, [], ap, are_new, are_new-beside, are_new-first, arith, block_count, body_at, chain_at, chain_grown, count_from, count_up, cut_file, drop, drop-drop, file_of, fresh_places, fresh_sheet, gap, get_or, grown_file, growth, home_at, index_count, inl, inr, length, length-append, length-take, linked, new_index, numbered, page_numbers, put_bytes, refl, size_in, slice_get-get_or, subst, suc, sym, take, take-append-drop, take-append_seam, taken_from, true, unlinked, unnamed, zero, zeros, ℕ, is_directory, is_directory-false, false}
 use Rattle.trio_lists.proofs.New.{are_new-take}
 use Rattle.trio_session.proofs.Edited.{linked_keep, numbered_keep, unlinked_keep, unnamed_keep}
 use Rattle.trio_session.proofs.Grows.{bytes_keep}
 use Rattle.trio_session.proofs.Places.{fresh_at, map_at}
-use Rattle.trio_session.proofs.Kept.{IsFile-one, files_of, kinds_apart}
+use Rattle.trio_session.proofs.Kept.{IsFile-one, files_of}
 use Rattle.trio_session.proofs.Lists.{In-take}
 use Rattle.trio_session.proofs.Owners.{are_new-differ, are_new-parts, blocks_apart, index_apart, same_one, spare_apart}
 use Rattle.trio_session.proofs.Relaid.{AreDirs-relaid, AreMade-relaid, EditsOne, FromLease, FromMade, Relays, drop_more, relays}
@@ -69,7 +69,7 @@ cut_leaves_files b b' size ls ls' ms ms' ino (WrittenAnew at l l' none first the
 
 pub kept_cut : (placed : ℕ) (reads : List Shown) (b b' : Parcel) (ls ls' : List Laid) (ms ms' cs : List Made) (dirs : List IndexedDir) (size ino : ℕ)
     → AreLaid b ls → AreMade placed reads (files_of b ls ms cs) → AreDirs reads (files_of b ls ms cs) dirs → IsRelaid (CutDone b b' size) b ls ms ino ls' ms'
-    → ((x : OneFile) → IsOne (files_of b ls ms cs) x → x.ino ≡ ino → x.kind ≡ Regular)
+    → ((x : OneFile) → IsOne (files_of b ls ms cs) x → x.ino ≡ ino → is_directory x.kind ≡ false)
     → AreMade placed reads (files_of b' ls' ms' cs) × AreDirs reads (files_of b' ls' ms' cs) dirs
 kept_cut placed reads b b' ls ls' ms ms' cs dirs size ino laid made are relaid kind =
     let fs = files_of b ls ms cs in
@@ -78,7 +78,7 @@ kept_cut placed reads b b' ls ls' ms ms' cs dirs size ino laid made are relaid k
     let x = r.0 in
     let l' = r.1 in
     let done = r.3 in
-    let regular : x.kind ≡ Regular = kind x r.2.old r.4 in
+    let regular : is_directory x.kind ≡ false = kind x r.2.old r.4 in
     let chain = chain_at b x.file x.laid in
     let file = IsFile-one placed reads fs x laid made r.2.old in
     let has = HasChain-one placed reads b b' ls ls' ms ms' cs x l' laid made r.2 in
@@ -114,8 +114,8 @@ kept_cut placed reads b b' ls ls' ms ms' cs dirs size ino laid made are relaid k
       below = λ at h. made.spread.below x at r.2.old (had at h);
       out = λ y n one dir h k. index_apart placed reads fs made.apart made.numbered made.spread x y n r.2.old file one (IsFile-one placed reads fs y laid made one) k h;
       spare = λ n h k. spare_apart placed reads fs made.apart made.numbered made.spread x n r.2.old file h (In-left n chain.index chain.blocks k);
-      grows = λ dir. absurd (kinds_apart x.kind dir regular);
-      whole = λ dir. absurd (kinds_apart x.kind dir regular);
+      grows = λ dir. absurd (is_directory-false x.kind regular dir);
+      whole = λ dir. absurd (is_directory-false x.kind regular dir);
     } in (
       AreMade-relaid placed placed reads b b' ls ls' ms ms' cs x l' chain.index all,
       AreDirs-relaid placed placed reads b b' ls ls' ms ms' cs x l' chain.index all dirs are regular,
@@ -220,7 +220,7 @@ fresh_differ b placed next n wanted apart e i j =
 
 pub kept_grow : (placed next : ℕ) (reads : List Shown) (b b' : Parcel) (ls ls' : List Laid) (ms ms' cs : List Made) (dirs : List IndexedDir) (size ino : ℕ)
     → AreLaid b ls → AreMade placed reads (files_of b ls ms cs) → AreDirs reads (files_of b ls ms cs) dirs → IsRelaid (GrowDone b b' size placed next) b ls ms ino ls' ms'
-    → ((x : OneFile) → IsOne (files_of b ls ms cs) x → x.ino ≡ ino → x.kind ≡ Regular)
+    → ((x : OneFile) → IsOne (files_of b ls ms cs) x → x.ino ≡ ino → is_directory x.kind ≡ false)
     → AreMade next reads (files_of b' ls' ms' cs) × AreDirs reads (files_of b' ls' ms' cs) dirs
 kept_grow placed next reads b b' ls ls' ms ms' cs dirs size ino laid made are relaid kind =
     let fs = files_of b ls ms cs in
@@ -229,7 +229,7 @@ kept_grow placed next reads b b' ls ls' ms ms' cs dirs size ino laid made are re
     let x = r.0 in
     let l' = r.1 in
     let done = r.3 in
-    let regular : x.kind ≡ Regular = kind x r.2.old r.4 in
+    let regular : is_directory x.kind ≡ false = kind x r.2.old r.4 in
     let chain = chain_at b x.file x.laid in
     let file = IsFile-one placed reads fs x laid made r.2.old in
     let has = HasChain-one placed reads b b' ls ls' ms ms' cs x l' laid made r.2 in
@@ -291,7 +291,7 @@ kept_grow placed next reads b b' ls ls' ms ms' cs dirs size ino laid made are re
               | inr u ↦
                   let number : y.ino ≡ x.ino = blocks_apart placed reads fs made.apart made.numbered made.spread y x n one there r.2.old file h u in
                   let it : y ≡ x = same_one reads fs y x made.apart made.numbered one r.2.old number in
-                  kinds_apart x.kind (ap (λ (z : OneFile). z.kind) (sym it) ∙ dir) regular
+                  is_directory-false x.kind regular (ap (λ (z : OneFile). z.kind) (sym it) ∙ dir)
             ]
           ];
       spare = λ n h k. elim (own_cases n k) [
@@ -299,8 +299,8 @@ kept_grow placed next reads b b' ls ls' ms ms' cs dirs size ino laid made are re
             (drop_more placed next n (page_numbers b.pages) (omega (arith, ends)) h) q
         | inr q ↦ fresh_differ b placed next n wanted made.apart done.ends q h
       ];
-      grows = λ dir. absurd (kinds_apart x.kind dir regular);
-      whole = λ dir. absurd (kinds_apart x.kind dir regular);
+      grows = λ dir. absurd (is_directory-false x.kind regular dir);
+      whole = λ dir. absurd (is_directory-false x.kind regular dir);
     } in (
       AreMade-relaid placed next reads b b' ls ls' ms ms' cs x l' own all,
       AreDirs-relaid placed next reads b b' ls ls' ms ms' cs x l' own all dirs are regular,

@@ -55,21 +55,22 @@ pub use Rattle.trio_lists.proofs.New.{are_new-before, are_new-beside, are_new-fi
 pub use Rattle.trio_lists.specs.Counting.{count_up}
 pub use Rattle.trio_lists.specs.Lists.{In, are_new, both, gathered_below, is_among, tabulated}
 pub use Rattle.trio_names.specs.Name.{is_name}
-pub use Rattle.trio_nodes.specs.Walk.{is_directory}
 pub use Rattle.trio_nodes.specs.declared.answers.GrantFault.TheVariants.{NoMemory as NoGrantMemory}
 pub use Rattle.trio_nodes.specs.declared.grant.GrantKind.{GrantKind}
 pub use Rattle.trio_nodes.specs.declared.grant.GrantKind.TheVariants.{Hold as ToHold}
 pub use Rattle.trio_page.proofs.Cursor.{length-zeros}
 pub use Rattle.trio_page.proofs.Fields.{length-with_number}
 pub use Rattle.trio_page.specs.Field.{with_number, with_part, zeros}
+pub use Rattle.trio_rights.proofs.KindFacts.{is_directory-false, is_directory-true, kind_cases}
 pub use Rattle.trio_rights.specs.Bundle.{bundle_pages, bundle_sheets}
+pub use Rattle.trio_rights.specs.ByKind.{is_directory}
 pub use Rattle.trio_rights.specs.Sheets.{Sheet, sheet_numbers}
 pub use Rattle.trio_rights.specs.declared.kind.Kind.{Kind}
-pub use Rattle.trio_rights.specs.declared.kind.Kind.TheVariants.{Directory, Regular}
+pub use Rattle.trio_rights.specs.declared.kind.Kind.TheVariants.{Directory, Link, Regular}
 pub use Rattle.trio_rights.specs.declared.rights.Creds.{Creds}
 pub use Rattle.trio_rights.specs.declared.rights.LibNo.{LibNo}
 pub use Rattle.trio_session.specs.Asked.{AfterSettle, IsAlike, IsSame, SameBut, TellsGrant, lent_chain, with_lease}
-pub use Rattle.trio_session.specs.Layout.{Home, InSlot as HomeInSlot, Leased as HomeLeased, block_with, blocks_under, body_sized, body_with, chain_cut, chain_grown, cleared, cleared as cleared_slot, cut_file, file_with, filled, fresh_with, gap, grown_file, growth, index_with, linked, new_index, numbered, page_in, put_block, put_blocks, put_bytes, retitled, size_in, unlinked, unnamed, with_block_number, with_body_at, with_number_in, with_page, written_on}
+pub use Rattle.trio_session.specs.Layout.{Home, InSlot as HomeInSlot, Leased as HomeLeased, block_with, blocks_under, body_guarded, body_guarded, body_sized, body_with, chain_cut, chain_grown, cleared, cleared as cleared_slot, cut_file, file_with, filled, fresh_with, gap, grown_file, growth, index_with, linked, new_index, numbered, page_in, put_block, put_blocks, put_bytes, retitled, size_in, unlinked, unnamed, with_block_number, with_body_at, with_number_in, with_page, written_on}
 pub use Rattle.trio_session.specs.Seen.{IsOn, MadeFile, MayGrow, Room, SessionSeen, block_number, body_in, body_shown, chain_in, dir_pages, emptied, empty_shown, entry_count, entry_in, entry_shown, every_number, filled_at, has_out, held_file, home_in, is_allotted, kind_shown, lower, lowest_from, made_body, made_chained, made_file, made_place, no_chain, number_shown, open_kind, place_in, place_of, place_shown, placed_made, read_file, renamed, room_in, serves, slots_shown, spare_pages, used_numbers, with_chain, with_made, without_made, written_file}
 pub use Rattle.trio_session.specs.declared.indexes.IndexedDir.{IndexedDir}
 pub use Rattle.trio_session.specs.declared.laid.FilePlace.{FilePlace}
@@ -79,7 +80,7 @@ pub use Rattle.trio_session.specs.declared.laid.PagePlace.{PagePlace}
 pub use Rattle.trio_session.specs.declared.laid.PagePlace.TheVariants.{Block, Fresh, Index}
 pub use Rattle.trio_session.specs.declared.made.Made.{Made}
 pub use Rattle.trio_session.specs.declared.session.Session.TheInside.{Inside}
-pub use Rattle.trio_session.specs.inner.Found.{AmongMade, AmongWritten, AnIndex, CutDone, Finds, FoundAt, GrowDone, IsNowhere, IsRelaid, IsThere, Kept, MadeAnew, MayGrowAt, NoIndex, Removed, Roomier, TellsGrowth, ToldGrowth, Untold, WrittenAnew, taken_from}
+pub use Rattle.trio_session.specs.inner.Found.{AmongMade, AmongWritten, AnIndex, CutDone, Finds, FoundAt, GrowDone, IsBlank, IsNowhere, IsRelaid, IsThere, Kept, MadeAnew, MayGrowAt, NoIndex, Removed, Roomier, TellsGrowth, ToldGrowth, Untold, WrittenAnew, taken_from}
 pub use Rattle.trio_session.specs.inner.Giving.{AfterGrant, Denied, Gave, Granted, IsNewLaid, LaidLeased, NoGrant, Refused, reads_leased, with_given, with_leased}
 pub use Rattle.trio_session.specs.inner.Indexes.{AreRead, IsIndexOf, IsIndexed, lease_on}
 pub use Rattle.trio_session.specs.inner.Inside.{AreLaid, HasLent, chains_laid}

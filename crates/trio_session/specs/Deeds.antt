@@ -1,8 +1,9 @@
 -- What is done to a file that a session has for writing, as the layout has it, and what is read of one that it has.
-use Rattle.std.specs.Prelude.{◌≡◌, ◌≤◌, ℕ, ◌+◌, nat_lt, IsTrue, List, [], is_some, map, take, length, unwrap_or, Option, None, if◌then◌else◌}
+use Rattle.std.specs.Prelude.{◌≡◌, ◌≤◌, ℕ, ◌+◌, nat_lt, false, IsTrue, List, [], is_some, map, take, length, unwrap_or, Option, None, if◌then◌else◌}
 use Rattle.std.specs.List.{filter_map, flat_map}
 use Rattle.std.specs.Option.{option_map, option_or}
 use Rattle.trio_rights.specs.declared.kind.Kind.{Kind}
+use Rattle.trio_rights.specs.declared.kind.Kind.TheVariants.{Link}
 use Rattle.trio_rights.specs.declared.rights.Creds.{Creds}
 use Rattle.trio_rights.specs.declared.rights.Mode.{Mode}
 use Rattle.trio_lists.specs.Lists.{In, tabulated}
@@ -14,7 +15,7 @@ use Rattle.trio_layout.specs.declared.slot.EntryPart.{EntryPart}
 use Rattle.trio_lease.specs.declared.parts.HoldParts.{HoldParts}
 use Rattle.trio_nodes.specs.Nodes.{entry_name}
 use Rattle.trio_session.specs.Layout.{growth, size_in}
-use Rattle.trio_session.specs.Seen.{MadeFile, SessionSeen, body_in, body_shown, chain_in, cut, empty_shown, entry_in, every_number, grown, held_file, is_allotted, lowest_from, made_body, made_file, pages_shown, spare_numbers}
+use Rattle.trio_session.specs.Seen.{MadeFile, SessionSeen, body_in, body_shown, chain_in, cut, empty_shown, entry_in, every_number, fill, grown, held_file, is_allotted, lowest_from, made_body, made_file, pages_shown, put, spare_numbers}
 
 -- ---- edits
 
@@ -31,13 +32,17 @@ slot_growth s dir = let b = length (chain_in s dir).blocks in if is_some (empty_
 abbrev pub with_slot : ℕ → SessionSeen → SessionSeen
 with_slot dir s = if is_some (empty_shown s dir) then s else grown dir (size_in (body_in s dir) + 4096) s
 
--- the body of a new file: without pages, and the caller's
+-- the body of a new file: without pages and unguarded, and the caller's
 abbrev pub new_body : Creds → Mode → List ℕ
-new_body creds mode = body_bytes (record { mode = mode; uid = creds.uid; gid = creds.gid; head = 0; size = 0 })
+new_body creds mode = body_bytes (record { mode = mode; uid = creds.uid; gid = creds.gid; head = 0; size = 0; guard = false })
 
 -- a new file takes the lowest spare number
 abbrev pub new_number : SessionSeen → ℕ
 new_number s = unwrap_or (lowest_from None (spare_numbers s)) 0
+
+-- A link is made under a name in a directory: a file of this number, with its text put into it.
+abbrev pub link_made : ℕ → List ℕ → ℕ → List ℕ → List ℕ → SessionSeen → SessionSeen
+link_made dir name ino body text s = put ino 0 text (grown ino (length text) (fill dir name ino Link body s))
 
 -- the kind and the body that a file takes with it to another directory: of one that was made its own, and the body of its slot; of a held
 -- one, which has none of the allotted numbers, those of its hold

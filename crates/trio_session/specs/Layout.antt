@@ -1,12 +1,12 @@
--- The layout of an honest library's edits: which bytes of the pages in hand change, and how, when a file grows, is cut or is written,
--- and when a slot of a directory is filled, cleared or gets another name. Nothing else of what is in hand changes.
-use Rattle.std.specs.Prelude.{ℕ, zero, suc, true, ◌+◌, ◌-◌, ◌*◌, ◌/◌, ◌%◌, ◌==◌, List, [], ◌∷◌, ◌++◌, map, take, drop, length, max, min, slice_index, slice_range, if◌then◌else◌}
+-- The layout of an honest library's edits: which bytes of the pages in hand change, and how, when a file grows, is cut, is written or is
+-- guarded, and when a slot of a directory is filled, cleared or gets another name. Nothing else of what is in hand changes.
+use Rattle.std.specs.Prelude.{Bool, ℕ, zero, suc, true, ◌+◌, ◌-◌, ◌*◌, ◌/◌, ◌%◌, ◌==◌, List, [], ◌∷◌, ◌++◌, map, take, drop, length, max, min, slice_index, slice_range, if◌then◌else◌}
 use Rattle.std.specs.Int.{w32, w64}
 use Rattle.std.specs.List.{find}
 use Rattle.std.specs.Option.{option_map_or}
 use Rattle.trio_page.specs.Field.{number_at, with_number, with_part, zeros}
 use Rattle.trio_rights.specs.Bundle.{bundle_sheets}
-use Rattle.trio_layout.specs.Body.{block_count}
+use Rattle.trio_layout.specs.Body.{block_count, guard_byte}
 use Rattle.trio_layout.specs.Chain.{Chain, index_count}
 use Rattle.trio_layout.specs.Slot.{entry_bytes}
 use Rattle.trio_layout.specs.declared.slot.EntryPart.{EntryPart}
@@ -100,6 +100,10 @@ head_in body = number_at w32 12 body
 -- a body with another head and size
 abbrev pub body_sized : ℕ → ℕ → List ℕ → List ℕ
 body_sized head size body = with_number w64 16 size (with_number w32 12 head body)
+
+-- a body with another guard
+abbrev pub body_guarded : Bool → List ℕ → List ℕ
+body_guarded on body = with_part 24 (guard_byte on ∷ []) body
 
 -- ---- writing
 

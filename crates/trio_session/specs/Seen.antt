@@ -1,11 +1,12 @@
 -- What contracts see of a session, and what it shows.
-use Rattle.std.specs.Prelude.{◌≡◌, ◌≢◌, ◌⊎◌, ℕ, ◌+◌, ◌%◌, ◌<◌, ◌≤◌, ◌==◌, not, ◌||◌, Bool, IsTrue, List, [], ◌∷◌, ◌++◌, map, take, drop, length, min, slice_get, slice_index_or, slice_set, Option, None, Some, if◌then◌else◌}
+use Rattle.std.specs.Prelude.{◌≡◌, ◌≢◌, ◌⊎◌, ℕ, ◌+◌, ◌%◌, ◌<◌, ◌≤◌, ◌==◌, not, ◌||◌, Bool, false, IsTrue, List, [], ◌∷◌, ◌++◌, map, take, drop, length, min, slice_get, slice_index_or, slice_set, Option, None, Some, if◌then◌else◌}
 use Rattle.std.specs.List.{filter, find, position}
 use Rattle.std.specs.Option.{is_some, option_map, option_map_or, option_and_then, option_or}
 use Rattle.trio_rights.specs.declared.rights.LibNo.{LibNo}
 use Rattle.trio_rights.specs.declared.rights.Creds.{Creds}
 use Rattle.trio_rights.specs.declared.kind.Kind.{Kind}
 use Rattle.trio_rights.specs.declared.kind.Kind.TheVariants.{Directory, Regular}
+use Rattle.trio_rights.specs.ByKind.{is_directory}
 use Rattle.trio_lists.specs.Lists.{In, is_among}
 use Rattle.trio_layout.specs.Range.{is_core}
 use Rattle.trio_layout.specs.Entries.{body_in_slot, slot_bytes}
@@ -23,11 +24,10 @@ use Rattle.trio_lease.specs.declared.parts.HoldParts.{HoldParts}
 use Rattle.trio_nodes.specs.declared.call.Done.{Done}
 use Rattle.trio_nodes.specs.declared.grant.GrantKind.{GrantKind}
 use Rattle.trio_nodes.specs.declared.grant.GrantKind.TheVariants.{Read, Write, Hold}
-use Rattle.trio_nodes.specs.Walk.{is_directory}
 use Rattle.trio_desk.specs.Out.{LibOut, Parcel, OutAlike, IsWellLent, page_numbers, ino_numbers}
 use Rattle.trio_desk.specs.Call.{DeskSeen}
 use Rattle.trio_desk.specs.Edits.{InHand, nothing}
-use Rattle.trio_session.specs.Layout.{Home, InSlot, Leased, page_in, growth, grown_file, chain_grown, chain_cut, cleared as cleared_slot, cut_file, filled as filled_slot, put_bytes, retitled, size_in}
+use Rattle.trio_session.specs.Layout.{Home, InSlot, Leased, page_in, body_guarded, with_body_at, growth, grown_file, chain_grown, chain_cut, cleared as cleared_slot, cut_file, filled as filled_slot, put_bytes, retitled, size_in}
 
 -- A file that the session made: a slot of a directory's page names it, and has its body; its pages are allotted ones.
 pub record MadeFile : Type 0 where
@@ -38,13 +38,14 @@ pub record MadeFile : Type 0 where
   pub chain : Chain
 
 -- For how many calls there are places, those that are there counted in; beside each written file and each that was made up to how many
--- blocks it may come by edits that take no memory; how many files may be made, those that were counted in; the directories whose index
--- has a place for one block more; and those whose index has one for one name more.
+-- blocks it may come by edits that take no memory; how many files may be made, those that were counted in, and up to how many blocks the
+-- next new one may come; the directories whose index has a place for one block more; and those whose index has one for one name more.
 pub record Room : Type 0 where
   pub calls : ℕ
   pub blocks : List ℕ
   pub made_blocks : List ℕ
   pub made : ℕ
+  pub next_blocks : ℕ
   pub slots : List ℕ
   pub names : List ℕ
 
@@ -212,7 +213,7 @@ pages_shown s ino =
 abbrev pub slots_shown : SessionSeen → ℕ → List (Option (List ℕ))
 slots_shown s dir = slots_of every_number (pages_shown s dir)
 
--- where a name stands among the slots of a file of this kind; a regular file has no names
+-- where a name stands among the slots of a file of this kind; what is no directory has no names
 abbrev pub place_of : Option Kind → List (Option (List ℕ)) → List ℕ → Option Place
 place_of (Some Directory) slots name = place_at_name name slots
 place_of other slots name = None
@@ -225,7 +226,7 @@ place_shown s dir name = place_of (kind_shown s dir) (slots_shown s dir) name
 abbrev pub entry_count : List (Option (List ℕ)) → ℕ
 entry_count slots = length (filter is_some slots)
 
--- the number of entries of a file that was made; a regular file has none
+-- the number of entries of a file that was made; what is no directory has none
 abbrev pub made_children : SessionSeen → MadeFile → ℕ
 made_children s m = if is_directory m.kind then entry_count (slots_shown s m.ino) else 0
 
@@ -296,6 +297,10 @@ cut ino size s =
 unfoldable pub put : ℕ → ℕ → List ℕ → SessionSeen → SessionSeen
 put ino at new s = record s { parcel = put_bytes (chain_in s ino).blocks at new s.parcel }
 
+-- The session after the guard of a file was set.
+unfoldable pub set_guard : ℕ → Bool → SessionSeen → SessionSeen
+set_guard ino on s = record s { parcel = with_body_at (home_in s ino) (body_guarded on (body_in s ino)) s.parcel }
+
 -- ---- edits of a directory's slots
 
 -- the page of a directory's block
@@ -365,9 +370,13 @@ retitle dir old new s =
 
 -- ---- conditions of edits
 
--- the session has this regular file for writing, or made it
+-- the session has this file for writing, or made it, and it is no directory
 abbrev pub IsOpen : SessionSeen → ℕ → Type 0
-IsOpen s ino = open_kind s ino ≡ Some Regular
+IsOpen s ino = option_map is_directory (open_kind s ino) ≡ Some false
+
+-- it is a regular file
+abbrev pub IsOpenFile : SessionSeen → ℕ → Type 0
+IsOpenFile s ino = open_kind s ino ≡ Some Regular
 
 -- and this directory, with its index
 pub record IsOpenDir (s : SessionSeen) (ino : ℕ) : Type 0 where
@@ -381,7 +390,7 @@ pub record MayGrowDir (s : SessionSeen) (ino size : ℕ) : Type 0 where
   pub one : block_count size ≤ length (chain_in s ino).blocks + 1
   pub place : In ino s.room.slots
 
--- a regular file grows to any size
+-- a regular file or a link grows to any size
 abbrev pub MayGrow : SessionSeen → ℕ → ℕ → Type 0
 MayGrow s ino size = IsOpen s ino ⊎ MayGrowDir s ino size
 
@@ -409,5 +418,6 @@ pub record KeepsRoom (s s' : SessionSeen) : Type 0 where
   pub calls : s.room.calls ≤ s'.room.calls
   pub blocks : (n : ℕ) → room_in s n ≤ room_in s' n
   pub made : s.room.made ≤ s'.room.made
+  pub next : s.room.next_blocks ≤ s'.room.next_blocks
   pub slots : (n : ℕ) → In n s.room.slots → In n s'.room.slots
   pub names : (n : ℕ) → In n s.room.names → In n s'.room.names

@@ -47,10 +47,10 @@ impl Session {
         ensures on { IsOn (D.seen desk.new) self.new }
     {
         if let Some(of) = self.serves_as(ino, kind) {
-            return match of {
-                Kind::Directory => self.index_dir(ino),
-                Kind::Regular => Ok(()),
-            };
+            if of.is_directory() {
+                return self.index_dir(ino);
+            }
+            return Ok(());
         }
         if self.serves(ino, kind) {
             return self.index(ino);
@@ -116,8 +116,14 @@ impl Session {
         ensures fault { IfErr result (λ fault. fault ≡ GrantFault.NoMemory) }
     {
         match self.kind(ino) {
-            Some(Kind::Directory) => self.index_dir(ino),
-            Some(Kind::Regular) | None => Ok(()),
+            Some(kind) => {
+                if kind.is_directory() {
+                    self.index_dir(ino)
+                } else {
+                    Ok(())
+                }
+            }
+            None => Ok(()),
         }
     }
 

@@ -7,9 +7,9 @@ ghost use Rattle.trio_session.specs.Layout.{growth, size_in};
 ghost use Rattle.trio_session.specs.declared.laid.FilePlace.{FilePlace};
 ghost use Rattle.trio_session.specs.declared.laid.Laid.{Laid};
 ghost use Rattle.trio_session.specs.inner.Found.{CutDone, FoundAt, GrowDone, IsRelaid, IsThere, MayCutAt, MayGrowAt};
-ghost use Rattle.trio_session.specs.Seen.{IsOpen, LeavesPlace, LeavesRoom, MayGrow, body_in, chain_in, cut, grown, put, room_in, spare_pages};
+ghost use Rattle.trio_session.specs.Seen.{IsOpen, IsOpenFile, LeavesPlace, LeavesRoom, MayGrow, body_in, chain_in, cut, grown, put, room_in, set_guard, spare_pages};
 
-use crate::edits::{cut_file, grow_file, put_bytes, size_of};
+use crate::edits::{cut_file, grow_file, guard_file, put_bytes, size_of};
 use crate::indexes::tell_growth;
 use crate::laid::{FilePlace, Laid};
 use crate::made::{Made, file_among, made_of};
@@ -19,8 +19,9 @@ use trio_rights::Kind;
 
 impl Session {
     /// A file that the session writes or made grows to a size, by the first of the allotted pages that
-    /// are not put in place: a regular file, or a directory by a block of empty slots. It takes no
-    /// memory: a [`reserve`](Self::reserve) made its room.
+    /// are not put in place: a regular file or a link, or a directory by a block of empty slots. It takes
+    /// no memory: a [`reserve`](Self::reserve) made its room, or a [`reserve_made`](Self::reserve_made)
+    /// that of a new file.
     pub fn grow(&mut self, ino: u32, size: u64)
         requires open { MayGrow self.old ino size }
         requires size { size_in (body_in self.old ino) ≤ size }
@@ -30,6 +31,8 @@ impl Session {
         ensures room { LeavesRoom ino self.old self.new }
         ensures names { In ino self.old.room.names → In ino self.new.room.names }
         ensures place { LeavesPlace self.old self.new }
+        ensures next { self.new.room.next_blocks ≡ self.old.room.next_blocks }
+        ensures sized { size_in (body_in self.new ino) ≡ size }
     {
         let size = size as usize;
         let kind = self.open_kind(ino).unwrap();
@@ -46,7 +49,7 @@ impl Session {
         tell_growth(&mut self.dirs, kind, ino, more);
     }
 
-    /// A regular file is cut to a size. What it gives up stays in hand, and isn't used again.
+    /// A regular file or a link is cut to a size. What it gives up stays in hand, and isn't used again.
     pub fn cut(&mut self, ino: u32, size: u64)
         requires open { IsOpen self.old ino }
         requires size { size ≤ size_in (body_in self.old ino) }
@@ -63,7 +66,7 @@ impl Session {
         );
     }
 
-    /// Writes bytes into a regular file from `at` on, within its size. It takes no memory.
+    /// Writes bytes into a regular file or a link from `at` on, within its size. It takes no memory.
     pub fn put(&mut self, ino: u32, at: u64, bytes: &[u8])
         requires open { IsOpen self.old ino }
         requires within { at + length bytes.now ≤ size_in (body_in self.old ino) }
@@ -73,6 +76,15 @@ impl Session {
         // the size is a number of 64 bits, and the bytes stay within it
         let _size = size_of(&self.stock, file);
         put_bytes(&mut self.stock, laid, file, at as usize, bytes);
+    }
+
+    /// Sets whether a regular file is guarded. It takes no memory.
+    pub fn set_guard(&mut self, ino: u32, on: bool)
+        requires { IsOpenFile self.old ino }
+        ensures { self.new ≡ set_guard ino on self.old }
+    {
+        let (file, _) = file_among(&self.stock, &self.laid, &self.made, ino).unwrap();
+        guard_file(&mut self.stock, file, on);
     }
 }
 

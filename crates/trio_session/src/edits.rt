@@ -6,13 +6,14 @@ ghost use Rattle.trio_page.specs.Field.{zeros};
 ghost use Rattle.trio_layout.specs.Body.{block_count};
 ghost use Rattle.trio_layout.specs.Chain.{index_count};
 ghost use Rattle.trio_desk.specs.Out.{page_numbers};
-ghost use Rattle.trio_session.specs.Layout.{body_sized, chain_cut, chain_grown, cut_file, grown_file, growth, linked, numbered, put_blocks, put_bytes, put_block, size_in, unlinked, unnamed, with_block_number, with_number_in};
+ghost use Rattle.trio_session.specs.Layout.{body_guarded, body_sized, chain_cut, chain_grown, cut_file, grown_file, growth, linked, numbered, put_blocks, put_bytes, put_block, size_in, unlinked, unnamed, with_block_number, with_body_at, with_number_in};
 ghost use Rattle.trio_session.specs.inner.Found.{CutDone, GrowDone, MayCutAt, MayGrowAt};
-ghost use Rattle.trio_session.specs.inner.Places.{IsFile, IsSlot, body_at, chain_at, shown_at};
+ghost use Rattle.trio_session.specs.inner.Places.{IsFile, IsSlot, IsWholeAt, body_at, chain_at, home_at, shown_at};
+ghost use Rattle.trio_session.specs.declared.laid.FilePlace.TheVariants.{Leased};
 
 use crate::laid::{FilePlace, Laid, PER_INDEX, index_count};
 use crate::stock::Stock;
-use trio_page::field::{put_u32_in, put_u64_in, u64_in};
+use trio_page::field::{put_bytes_in, put_u32_in, put_u64_in, u64_in};
 
 /// Writes what falls on block `k` of bytes that are written from `at` on.
 fn put_block(stock: &mut Stock, laid: &Laid, file: FilePlace, k: usize, at: usize, bytes: &[u8])
@@ -151,6 +152,29 @@ fn with_sizes(body: &[u8; 64], head: u32, size: u64) -> [u8; 64]
     put_u32_in(&mut sized, 12, head);
     put_u64_in(&mut sized, 16, size);
     sized
+}
+
+/// The file gets this guard.
+pub(crate) fn guard_file(stock: &mut Stock, file: FilePlace, on: bool)
+    requires there { IsSome (shown_at stock.old file) }
+    requires slot { IsSlot file }
+    ensures guarded { stock.new ≡ with_body_at (home_at stock.old file) (body_guarded on (body_at stock.old file)) stock.old }
+    ensures has { body_at stock.new file ≡ body_guarded on (body_at stock.old file) }
+    ensures full { length (body_at stock.old file) ≡ 64 }
+    ensures whole { IsWholeAt stock.old file }
+    ensures others { (i : ℕ) → Leased i ≢ file → body_at stock.new (Leased i) ≡ body_at stock.old (Leased i) }
+{
+    let body = *stock.body(file);
+    stock.put_body(file, &with_guard(&body, on));
+}
+
+/// A body with another guard.
+fn with_guard(body: &[u8; 64], on: bool) -> [u8; 64]
+    ensures { result ≡ body_guarded on body.now }
+{
+    let mut guarded = *body;
+    put_bytes_in(&mut guarded, 24, &[if on { 1 } else { 0 }]);
+    guarded
 }
 
 /// The file grows to a size, by the allotted pages from place `from` on. Returns the place behind

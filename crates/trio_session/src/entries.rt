@@ -1,14 +1,15 @@
 //! Edits of the slots of directories.
 
-ghost use Rattle.std.specs.Prelude.{◌≡◌, ◌+◌, ◌<◌, ◌≤◌, IfSome, IsSome, IsTrue, None, Some, length, slice_get, vec_capacity};
+ghost use Rattle.std.specs.Prelude.{◌≡◌, ◌==◌, ◌+◌, ◌<◌, ◌≤◌, IfSome, IsSome, IsTrue, None, Some, length, slice_get, vec_capacity};
+ghost use Rattle.std.specs.List.{position};
 ghost use Rattle.trio_auxdir.specs.Places.{slot_number};
 ghost use Rattle.trio_lists.specs.Lists.{In};
 ghost use Rattle.trio_layout.specs.Slot.{entry_fits};
 ghost use Rattle.trio_session.specs.Layout.{cleared as cleared_slot, filled as filled_slot, page_in};
-ghost use Rattle.trio_session.specs.Seen.{IsOpenDir, LeavesPlace, LeavesRoom, MayBeMade, block_number, chain_in, clear, empty_shown, every_number, fill, is_allotted, place_shown, retitle, slots_shown, with_made};
-ghost use Rattle.trio_session.specs.inner.Found.{RemovesMade, TakesLaid};
+ghost use Rattle.trio_session.specs.Seen.{IsOpenDir, LeavesPlace, LeavesRoom, MayBeMade, block_number, body_in, chain_in, clear, cleared_file, empty_shown, every_number, fill, is_allotted, place_shown, retitle, room_in, slots_shown, with_made};
+ghost use Rattle.trio_session.specs.inner.Found.{IsBlank, RemovesMade, TakesLaid};
 ghost use Rattle.trio_session.specs.inner.Made.{IsMadeAt};
-ghost use Rattle.trio_session.specs.inner.Places.{IsAt, number_at};
+ghost use Rattle.trio_session.specs.inner.Places.{IsAt, number_at, room_laid};
 
 use crate::dir_slots::{clear_slot, fill_slot, retitle_slot};
 use crate::indexes::{index_on, index_place};
@@ -16,6 +17,7 @@ use crate::laid::{Laid, PagePlace};
 use crate::made::{Made, made_of};
 use crate::session::Session;
 use std::alloc::Global;
+use std::mem::replace;
 use trio_auxdir::{Finds, Place};
 use trio_layout::EntryPart;
 use trio_names::Name;
@@ -23,9 +25,9 @@ use trio_rights::Kind;
 
 impl Session {
     /// The first empty slot of a directory gets an entry, with the body of its file. An allotted number
-    /// is then a file that the session made; a held file is moved. It takes no memory: a
-    /// [`reserve`](Self::reserve) of the directory and a [`reserve_made`](Self::reserve_made) made its
-    /// room.
+    /// is then a file that the session made, a new one with the room that is kept for the next; a held file
+    /// is moved. It takes no memory: a [`reserve`](Self::reserve) of the directory and a
+    /// [`reserve_made`](Self::reserve_made) made its room.
     pub fn fill(&mut self, dir: u32, name: &Name, ino: u32, kind: Kind, body: &[u8; 64])
         requires open { IsOpenDir self.old dir }
         requires new { place_shown self.old dir name.now ≡ None }
@@ -35,6 +37,8 @@ impl Session {
         requires room { In dir self.old.room.names }
         ensures kept { self.new ≡ record (fill dir name.now ino kind body.now self.old) { room = self.new.room } }
         ensures room { LeavesRoom dir self.old self.new }
+        ensures next { IsTrue (is_allotted self.old ino) → cleared_file self.old ino ≡ None → room_in self.new ino ≡ self.old.room.next_blocks }
+        ensures body { IsTrue (is_allotted self.old ino) → body_in self.new ino ≡ body.now }
     {
         let place = self.first_empty(dir).unwrap();
         let page = self.slot_page(dir, place);
@@ -127,6 +131,7 @@ impl Session {
         } }
         ensures room { LeavesRoom dir self.old self.new }
         ensures made { self.new.room.made ≡ self.old.room.made }
+        ensures next { self.new.room.next_blocks ≡ self.old.room.next_blocks }
         ensures fits { IsTrue (entry_fits every_number entry.now) }
         ensures whole { length (page_in self.old.parcel (block_number self.old dir place.block)) ≡ 4096 }
     {
@@ -143,8 +148,9 @@ impl Session {
         ensures calls { self.new.room.calls ≡ self.old.room.calls }
         ensures slots { self.new.room.slots ≡ self.old.room.slots }
         ensures names { self.new.room.names ≡ self.old.room.names }
+        ensures next { cleared_file self.old ino ≡ None → room_in self.new ino ≡ self.old.room.next_blocks }
     {
-        let laid = take_laid(self.alloc, &mut self.cleared, ino);
+        let laid = take_laid(self.alloc, &mut self.next, &mut self.cleared, ino);
         self.made.push_reserved(Made {
             ino,
             kind,
@@ -173,9 +179,12 @@ fn remove_made(made: &mut Vec<Made>, cleared: &mut Vec<Made>, ino: u32)
 }
 
 /// Where the pages of a file stand that is made: those of a file of its number whose slot was cleared,
-/// which is then none of these any more; or else none.
-fn take_laid(alloc: Global, cleared: &mut Vec<Made>, ino: u32) -> Laid
+/// which is then none of these any more; or else none, with the room that is kept for the next new one.
+fn take_laid(alloc: Global, next: &mut Laid, cleared: &mut Vec<Made>, ino: u32) -> Laid
+    requires { IsBlank next.old }
     ensures taken { TakesLaid cleared.old.items ino result cleared.new.items }
+    ensures room { position (λ m. m.ino == ino) cleared.old.items ≡ None → room_laid result ≡ room_laid next.old }
+    ensures next { IsBlank next.new }
     ensures places { vec_capacity cleared.new ≡ vec_capacity cleared.old }
 {
     match made_of(cleared, ino) {
@@ -183,6 +192,6 @@ fn take_laid(alloc: Global, cleared: &mut Vec<Made>, ino: u32) -> Laid
             let Made { laid, .. } = cleared.remove(at);
             laid
         }
-        None => Laid::new(alloc),
+        None => replace(next, Laid::new(alloc)),
     }
 }

@@ -67,13 +67,8 @@ pub(crate) fn tell_growth(dirs: &mut Vec<IndexedDir>, kind: Kind, ino: u32, more
     requires once { IsTrue (are_new [] (dir_numbers dirs.old.items)) }
     ensures { TellsGrowth kind more dirs.old.items ino dirs.new.items }
 {
-    match kind {
-        Kind::Regular => {}
-        Kind::Directory => {
-            if more > 0 {
-                let at = index_place(dirs, ino).unwrap();
-                dirs[at].dir.grow();
-            }
-        }
+    if kind.is_directory() && more > 0 {
+        let at = index_place(dirs, ino).unwrap();
+        dirs[at].dir.grow();
     }
 }

@@ -51,6 +51,8 @@ pub struct Session {
     // of directories that are lent or were made
     pub(crate) dirs: Vec<IndexedDir>,
     pub(crate) calls: Vec<Done>,
+    // of the next new file: no page yet, and room for some
+    pub(crate) next: Laid,
     // so many allotted pages, the first ones, are put in place
     pub(crate) placed: usize,
     finds: Finds,
@@ -63,6 +65,7 @@ impl Model for Session {
 
     ghost Value = { SessionSeen };
 
+    ghost use Rattle.trio_session.specs.inner.Found.{IsBlank};
     ghost use Rattle.trio_session.specs.inner.Inside.{AreLaid, chains_laid};
     ghost use Rattle.trio_session.specs.inner.Made.{AreDirs, AreMade, dir_numbers, has_names, has_slots, made_room, made_seen};
     ghost use Rattle.trio_session.specs.inner.Places.{room_laid};
@@ -84,6 +87,7 @@ impl Model for Session {
         blocks = map room_laid s.laid.items;
         made_blocks = map (λ m. room_laid m.laid) s.made.items;
         made = made_room s.made s.cleared;
+        next_blocks = room_laid s.next;
         slots = dir_numbers (filter has_slots s.dirs.items);
         names = dir_numbers (filter has_names s.dirs.items);
       };
@@ -93,7 +97,8 @@ impl Model for Session {
         AreLaid s.stock s.laid.items × (s.placed ≤ length s.stock.pages) × (length s.calls.items < 2 ^ 32)
         × AreMade s.placed s.reads.items (record { parcel = s.stock; laid = s.laid.items; made = s.made.items; cleared = s.cleared.items })
         × AreDirs s.reads.items (record { parcel = s.stock; laid = s.laid.items; made = s.made.items; cleared = s.cleared.items }) s.dirs.items
-        × (length s.made.items + length s.cleared.items ≤ vec_capacity s.cleared) };
+        × (length s.made.items + length s.cleared.items ≤ vec_capacity s.cleared)
+        × IsBlank s.next };
 }
 
 impl Session {
@@ -112,6 +117,7 @@ impl Session {
             reads: Vec::new(alloc),
             dirs: Vec::new(alloc),
             calls: Vec::new(alloc),
+            next: Laid::new(alloc),
             placed: 0,
             finds: Finds::new(),
         }
@@ -131,6 +137,7 @@ impl Session {
             reads,
             dirs: _,
             calls: _,
+            next: _,
             placed: _,
             finds: _,
         } = self;
@@ -261,17 +268,20 @@ impl Session {
         }
     }
 
-    /// How many entries a directory has that the session holds or made; 0 of a regular file. `None`
+    /// How many entries a directory has that the session holds or made; 0 of any other file. `None`
     /// exactly where it neither holds nor made the file.
     pub fn children(&self, ino: u32) -> Option<u32>
         requires { (m : MadeFile) → made_file self.now ino ≡ Some m → m.kind ≡ Kind.Directory → In ino self.now.indexed }
         ensures { result ≡ children_shown self.now ino }
     {
         match made_of(&self.made, ino) {
-            Some(at) => match self.made[at].kind {
-                Kind::Regular => Some(0),
-                Kind::Directory => Some(index_on(&self.dirs, ino)?.dir.len()),
-            },
+            Some(at) => {
+                if self.made[at].kind.is_directory() {
+                    Some(index_on(&self.dirs, ino)?.dir.len())
+                } else {
+                    Some(0)
+                }
+            }
             None => Some(self.stock.hold_on(ino)?.children()),
         }
     }
@@ -365,15 +375,18 @@ impl Session {
         self.calls.pop()
     }
 
-    /// Makes room for one file more that the session makes. After [`NoMemory`] too nothing else has
-    /// changed.
-    pub fn reserve_made(&mut self) -> Result<(), NoMemory>
-        ensures kept { self.new ≡ record self.old { room = record self.old.room { made = self.new.room.made } } }
+    /// Makes room for one file more that the session makes, and for edits by which it comes to so many
+    /// blocks if it is a new one. After [`NoMemory`] too nothing else has changed.
+    pub fn reserve_made(&mut self, blocks: u32) -> Result<(), NoMemory>
+        ensures kept { self.new ≡ record self.old { room = record self.old.room { made = self.new.room.made; next_blocks = self.new.room.next_blocks } } }
         ensures room { OnOk result (length self.new.made < self.new.room.made) }
+        ensures blocks { OnOk result (blocks ≤ self.new.room.next_blocks) }
         ensures grows { self.old.room.made ≤ self.new.room.made }
+        ensures next { self.old.room.next_blocks ≤ self.new.room.next_blocks }
     {
         self.made.reserve(1)?;
-        self.cleared.reserve(self.made.len() + 1)
+        self.cleared.reserve(self.made.len() + 1)?;
+        self.next.reserve(blocks as usize)
     }
 
     /// Makes room for edits by which a file that the session has for writing, or made, comes to so many
@@ -425,8 +438,5 @@ fn reserve_one(
 fn in_directory(kind: Option<Kind>, place: Option<Place>) -> Option<Place>
     ensures { (slots : List (Option (List ℕ))) (name : List ℕ) → place ≡ place_at_name name slots → result ≡ place_of kind slots name }
 {
-    match kind {
-        Some(Kind::Directory) => place,
-        Some(Kind::Regular) | None => None,
-    }
+    if kind?.is_directory() { place } else { None }
 }

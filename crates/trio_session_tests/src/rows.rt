@@ -232,6 +232,69 @@ fn calls_on_directories(rt: HostRuntime) -> Result<(), Fail> {
     Ok(())
 }
 
+// Links that are made, read, met on a path, renamed and removed, and a guard that is set and taken off.
+const LINKED: &[Row] = &[
+    ("symlink /a/l ../some/where", "ok"),
+    ("readlink /a/l", "ok 13 ../some/where"),
+    ("stat /a/l", "ok l 777 0 0 13"),
+    ("symlink /a/l other", "exists"),
+    ("symlink /a/f other", "exists"),
+    ("readlink /a/f", "notlink"),
+    ("readlink /a", "notlink"),
+    ("read /a/l 0 10", "islink"),
+    ("write /a/l 0 x", "islink"),
+    ("truncate /a/l 0", "islink"),
+    ("guard /a/l 1", "islink"),
+    ("guard /a 1", "isdir"),
+    ("stat /a/l/x", "notdir"),
+    ("guard /a/f 1", "ok"),
+    ("write /a/f 4096 x", "ok 1"),
+    ("read /a/f 0 5", "ok 5 hello"),
+    ("rename /a/l /k", "ok"),
+    ("readlink /k", "ok 13 ../some/where"),
+    ("guard /a/f 0", "ok"),
+    ("symlink /m gone", "ok"),
+    ("unlink /m", "ok"),
+];
+
+const LINKS: &[Library] = &[Library {
+    head: "lib 1 honest 0 0",
+    rows: LINKED,
+}];
+
+// The root has `a`, with `f` of two blocks, and the link.
+const LINKS_LEFT: Counts = Counts {
+    inodes: 4,
+    pages: 9,
+    free: 20,
+};
+
+// The lines are told so, and the settled image has the link.
+#[derive(Clone, Copy)]
+struct Linked;
+
+impl Inspect for Linked {
+    fn inspect(
+        &mut self,
+        alloc: Global,
+        ctl: &mut Ctl,
+        tolds: &[LibTold],
+    ) -> Result<(), &'static str> {
+        are_told(alloc, LINKS, tolds)?;
+        if has(ctl, &LINKS_LEFT) {
+            Ok(())
+        } else {
+            Err("the image has other counts")
+        }
+    }
+}
+
+#[test]
+fn calls_on_links_and_guards(rt: HostRuntime) -> Result<(), Fail> {
+    plays(rt.alloc(), Start::OneFile, LINKS, &mut Linked)?;
+    Ok(())
+}
+
 // Calls of a library where one page and two inode numbers are free, since another one keeps the
 // others: 22 of the 23 free pages, and 59 of the 61 free inode numbers. What the library gave up is free
 // again once it has settled.

@@ -16,7 +16,7 @@ use Rattle.trio_edit_laws.proofs.directories.Mades.{In-part, In-parted, In-witho
 use Rattle.trio_edit_laws.proofs.directories.Places.{IsNamedPlace, named_place}
 use Rattle.trio_edit_laws.proofs.directories.Sees.{pages_open, slot_wide}
 use Rattle.trio_edit_laws.proofs.directories.Slotted.{no_entries}
-use Rattle.trio_edit_laws.proofs.directories.Stays.{EditsDirs, IsAsBefore, IsNewFile, WritesDirs, body_else, chain_else, grant-none, open_else, unlent_still}
+use Rattle.trio_edit_laws.proofs.directories.Stays.{EditsDirs, IsAsBefore, IsNewFile, IsTurned, WritesDirs, body_else, chain_else, grant-none, open_else, unlent_still}
 use Rattle.trio_edit_laws.proofs.directories.Writes.{WritesSlot, write_of, slot_writes}
 
 -- ---- what is left of the files that were made
@@ -290,7 +290,7 @@ module _ (desk : DeskSeen) (s : SessionSeen) (dir : ℕ) (place : Place) (e : En
       body = body_else s then' writes k f body;
     }
 
-    opens_then : (k : ℕ) (kind : Kind) → open_kind then' k ≡ Some kind → IsAsBefore s then' k kind ⊎ IsNewFile desk then' k kind
+    opens_then : (k : ℕ) (kind : Kind) → open_kind then' k ≡ Some kind → IsAsBefore s then' k kind ⊎ (IsNewFile desk then' k kind ⊎ IsTurned desk s then' k kind)
     opens_then k kind o = elim (cases_eq k e.ino) [
       | inr d ↦ inl (before_is k kind (found_else k d) (λ y f. (let at = made_at s k y f in body_same y at.0 (λ same. d (sym at.1 ∙ same)))) o)
       | inl same ↦ inl (subst (λ j. IsAsBefore s then' j kind) (sym same) (here (made_file s e.ino) refl (ap (open_kind then') (sym same) ∙ o)))

@@ -1,5 +1,5 @@
 -- A new file is put into the first empty slot of a directory.
-use Rattle.trio_edit_laws.proofs.Words.{if◌then◌else◌, ◌&&◌, ◌*◌, ◌++◌, ◌<◌, ◌∙◌, ◌∷◌, ◌≡◌, ◌≤◌, ◌⊎◌, AreSlotWrites, AreWithinLimits, Bad, Body, Bool, Chain, Changes, CoreRange, DeskSeen, Directory, EditsSlotIn, Empty, Entry, EntryPart, HasSlot, In, In-cases, In-is_among, In-left, In-map, In-right, InHand, InoParts, IsEntry, IsInSlot, IsOpenDir, IsTree, IsUnlent, IsView, IsWhole, Kind, LeavesFiles, List, MadeFile, MayEdit, Met, Naming, Nodes, None, Option, Place, Row, SessionSeen, Shows, SlotRead, SlotWrite, Some, StaysTree, [], and_from, and_parts, ap, append-nil, append_assoc, are_new, arith, block_number, body-else, body-filled, body_in_slot, body_in_slot-filled, body_sized, body_stands, case_as_stands, cases_eq, chain_in, chained, cleared_file, cond, edits_filled, empty_shown, entry-filled, entry_bytes, entry_fits, entry_in, entry_on, entry_value, eq-eqb, eqb, eqb-true, every_number, false, false≢true, filled, filter, filter-In, filter-same, flat_map-append, grant_in, held_file, in_hand, inl, ino_numbers, inr, is_allotted, is_among, is_among-not, is_name, is_some, le-leb, leb, length, length-entry_bytes, length-with_part, lt-ltb, ltb, made_body, made_by, made_file, made_met, map, map-append, met_in, naming_after, naming_of, ne_eqb, no_chain, not, open_kind, option_map_or, page_in, page_in-with_page_same, parcel_case, place_shown, plain, read_file, refl, slot_bytes, slot_bytes-else, slot_of, spare_numbers, subst, sym, true, used_numbers, with_node, with_part, written_file, ℕ}
+use Rattle.trio_edit_laws.proofs.Words.{if◌then◌else◌, ◌&&◌, ◌*◌, ◌++◌, ◌<◌, ◌∙◌, ◌∷◌, ◌≡◌, ◌≤◌, ◌⊎◌, AreSlotWrites, AreWithinLimits, Bad, Body, Bool, Chain, Changes, CoreRange, DeskSeen, Directory, EditsSlotIn, Empty, Entry, EntryPart, HasSlot, In, In-cases, In-is_among, In-left, In-map, In-right, InHand, InoParts, IsEntry, IsInSlot, IsOpenDir, IsTree, IsUnlent, IsView, IsWhole, Kind, LeavesFiles, List, MadeFile, MayEdit, Met, Naming, Nodes, None, Option, Place, Row, SessionSeen, Shows, SlotRead, SlotWrite, Some, StaysTree, [], and_from, and_parts, ap, append-nil, append_assoc, are_new, arith, block_number, body-else, body-filled, body_in_slot, body_in_slot-filled, body_sized, body_stands, case_as_stands, cases_eq, chain_in, chained, cleared_file, cond, edits_filled, empty_shown, entry-filled, entry_bytes, entry_fits, entry_in, entry_on, entry_value, eq-eqb, eqb, eqb-true, every_number, false, false≢true, filled, filter, filter-In, filter-same, flat_map-append, grant_in, held_file, in_hand, inl, ino_numbers, inr, is_allotted, is_among, is_among-not, is_name, is_some, le-leb, leb, length, length-entry_bytes, length-with_part, lt-ltb, ltb, made_body, made_by, made_file, made_met, map, map-append, met_in, naming_after, naming_of, ne_eqb, no_chain, not, open_kind, option_map_or, page_in, page_in-with_page_same, parcel_case, place_shown, plain, read_file, refl, slot_bytes, slot_bytes-else, slot_of, spare_numbers, subst, sym, true, used_numbers, with_node, with_part, written_file, ℕ, TakesMore, ArePossible, listed_in_hand}
 use Rattle.std.proofs.Common.{length-append}
 use Rattle.trio_lists.proofs.Filters.{filter-filter}
 use Rattle.trio_layout.specs.Body.{body_of}
@@ -12,6 +12,8 @@ use Rattle.trio_edit_laws.specs.DirLaws.{FillLeaves, FillShows, IsEmptyBody, Lea
 use Rattle.trio_edit_laws.proofs.Anew.{body-made}
 use Rattle.trio_edit_laws.proofs.Keeps.{made_at}
 use Rattle.trio_edit_laws.proofs.Opens.{chain-made}
+use Rattle.trio_edit_laws.proofs.HandStays.{takes_more}
+use Rattle.trio_edit_laws.proofs.Whole.{view_then}
 use Rattle.trio_edit_laws.proofs.Touches.{touches_page}
 use Rattle.trio_edit_laws.proofs.directories.After.{IsListedThen, OthersStay}
 use Rattle.trio_edit_laws.proofs.directories.Changes.{Turns, changes_by}
@@ -19,7 +21,7 @@ use Rattle.trio_edit_laws.proofs.directories.Leaves.{block_at, blocks_edited, ha
 use Rattle.trio_edit_laws.proofs.directories.Mades.{filter-absent, find-absent, find-added_other, find-added_same, number_of, one_more}
 use Rattle.trio_edit_laws.proofs.directories.Places.{IsEmptyPlace, empty_place, free_name}
 use Rattle.trio_edit_laws.proofs.directories.Sees.{r, slot_good, slot_wide}
-use Rattle.trio_edit_laws.proofs.directories.Stays.{EditsDirs, IsAsBefore, IsDirBlock, IsNewFile, WritesDirs, body_else, chain_else, no_grant, open_else, unlent_still}
+use Rattle.trio_edit_laws.proofs.directories.Stays.{EditsDirs, IsAsBefore, IsDirBlock, IsNewFile, IsTurned, WritesDirs, body_else, chain_else, hand_stays, no_grant, open_else, unlent_still}
 use Rattle.trio_edit_laws.proofs.directories.Writes.{WritesSlot, block_whole, body-written_slot, length-slot_with_part, slot_bytes-written, slot_with_part, with_part-slot, write_of, slot_writes}
 use Rattle.trio_edit_laws.proofs.session.SlotCases.{named_so}
 
@@ -44,7 +46,7 @@ unnamed desk s h' nodes nodes' rows n m v new none = by (naming_of (case_as_stan
         let some = m.made.only nodes rows (v.more nodes rows v.shows.possible) x judged new' in
         absurd (false≢true (sym (ap (λ k. is_some (made_file s k)) number ∙ ap is_some none) ∙ some))
 
-cond_some : (t : Bool) (x y : Body) → cond t (Some x) None ≡ Some y → (t ≡ true) × (x ≡ y)
+pub cond_some : (t : Bool) (x y : Body) → cond t (Some x) None ≡ Some y → (t ≡ true) × (x ≡ y)
 cond_some true x y e = (refl, let both : Some x ≡ Some y = e in cc both)
 cond_some false x y e = absurd (let both : None ≡ Some y = e in cc both)
 
@@ -114,13 +116,13 @@ module _ (desk : DeskSeen) (s : SessionSeen) (dir : ℕ) (place : Place) (name :
 
   -- ---- the number
 
-  spare : In n (ino_numbers s.parcel.inodes) × (not (is_among n (used_numbers s)) ≡ true)
+  pub spare : In n (ino_numbers s.parcel.inodes) × (not (is_among n (used_numbers s)) ≡ true)
   spare = filter-In (λ k. not (is_among k (used_numbers s))) n (ino_numbers s.parcel.inodes) q.spare
 
   unused : In n (map number_of (s.made ++ s.cleared)) → ⊥
   unused i = false≢true (ap not (sym (In-is_among n (used_numbers s) i)) ∙ spare.1)
 
-  unused_made : In n (map number_of s.made) → ⊥
+  pub unused_made : In n (map number_of s.made) → ⊥
   unused_made i = unused (subst (λ l. In n l) (sym (map-append number_of s.made s.cleared)) (In-left n (map number_of s.made) (map number_of s.cleared) i))
 
   unused_cleared : In n (map number_of s.cleared) → ⊥
@@ -129,7 +131,7 @@ module _ (desk : DeskSeen) (s : SessionSeen) (dir : ℕ) (place : Place) (name :
   none_made : made_file s n ≡ None
   none_made = find-absent n s.made unused_made
 
-  none_cleared : cleared_file s n ≡ None
+  pub none_cleared : cleared_file s n ≡ None
   none_cleared = find-absent n s.cleared unused_cleared
 
   fill_is : fill dir name n kind body s ≡ record s {
@@ -148,11 +150,11 @@ module _ (desk : DeskSeen) (s : SessionSeen) (dir : ℕ) (place : Place) (name :
   fits_here =
       and_from (ltb 0 n && leb n desk.sizes.inodes) (is_name name) (and_from (ltb 0 n) (leb n desk.sizes.inodes) (lt-ltb 0 n numbers.0) (le-leb n desk.sizes.inodes numbers.1)) q.name
 
-  fits : entry_fits every_number (record { ino = n; kind = kind; name = name }) ≡ true
+  pub fits : entry_fits every_number (record { ino = n; kind = kind; name = name }) ≡ true
   fits =
       (let small = q.limits.inodes in let within = numbers.1 in entry_fits-every (record { ino = n; kind = kind; name = name }) (omega (arith, small, within)) q.name numbers.0)
 
-  sized : length body ≡ 64
+  pub sized : length body ≡ 64
   sized = body_sized kind desk.sizes.range body b q.body.is
 
   part_sized : length (entry_bytes (record { ino = n; kind = kind; name = name }) ++ body) ≡ 256
@@ -287,7 +289,7 @@ module _ (desk : DeskSeen) (s : SessionSeen) (dir : ℕ) (place : Place) (name :
         kind = refl;
       }
 
-  opens_then : (k : ℕ) (kind' : Kind) → open_kind then' k ≡ Some kind' → IsAsBefore s then' k kind' ⊎ IsNewFile desk then' k kind'
+  opens_then : (k : ℕ) (kind' : Kind) → open_kind then' k ≡ Some kind' → IsAsBefore s then' k kind' ⊎ (IsNewFile desk then' k kind' ⊎ IsTurned desk s then' k kind')
   opens_then k kind' o = elim (cases_eq k n) [
     | inr d ↦
         inl (record {
@@ -295,7 +297,7 @@ module _ (desk : DeskSeen) (s : SessionSeen) (dir : ℕ) (place : Place) (name :
           chain = chain_else s then' front k (found_else k d);
           body = body_else s then' front k (found_else k d) (λ y found. body_same y (made_at s k y found).0);
         })
-    | inl same ↦ inr (subst (λ j. IsNewFile desk then' j kind') (sym same) (new_file (ap (open_kind then') (sym same) ∙ o)))
+    | inl same ↦ inr (inl (subst (λ j. IsNewFile desk then' j kind') (sym same) (new_file (ap (open_kind then') (sym same) ∙ o))))
   ]
     where
       new_file : open_kind then' n ≡ Some kind' → IsNewFile desk then' n kind'
@@ -316,7 +318,7 @@ module _ (desk : DeskSeen) (s : SessionSeen) (dir : ℕ) (place : Place) (name :
   written_none : written_file s n ≡ None
   written_none = search (arith, none_made)
 
-  unlent_new : IsUnlent s n
+  pub unlent_new : IsUnlent s n
   unlent_new = record { written = written_none; held = q.unheld; read = q.unread }
 
   edits_dirs : EditsDirs desk s then'
@@ -412,6 +414,28 @@ module _ (desk : DeskSeen) (s : SessionSeen) (dir : ℕ) (place : Place) (name :
       subst (λ y. Changes desk s y change) (sym fill_is)
       (changes_by desk s then' n change m edits_dirs others (λ nodes nodes' rows v. turns nodes nodes' rows v tree') tree')
 
+  -- what is possible then was before, and no page is listed that wasn't
+  pub fill_more : TakesMore desk (in_hand s) (in_hand (fill dir name n kind body s))
+  fill_more = subst (λ y. TakesMore desk (in_hand s) (in_hand y)) (sym fill_is) (takes_more desk s then' m (hand_stays s then' front))
+
+  listed_before : StaysTree desk s then' (λ ns. with_node ns n (Some (node_made dir name kind b))) → (nodes : Nodes) (rows : List (Option Row))
+      → ArePossible desk then'.parcel then'.reads nodes rows → (k : ℕ) → In k (listed_in_hand desk (in_hand then')) → In k (listed_in_hand desk (in_hand s))
+  listed_before tree nodes rows possible k i =
+      let v = view_then desk s (in_hand then') nodes rows m (takes_more desk s then' m (hand_stays s then' front)) possible in
+      (turns nodes v.0 rows v.1 tree).rewrites.after.pages k i
+
+  pub fill_pages : StaysTree desk s (fill dir name n kind body s) (λ ns. with_node ns n (Some (node_made dir name kind b))) → (nodes : Nodes) (rows : List (Option Row))
+      → ArePossible desk (fill dir name n kind body s).parcel (fill dir name n kind body s).reads nodes rows
+      → (k : ℕ) → In k (listed_in_hand desk (in_hand (fill dir name n kind body s))) → In k (listed_in_hand desk (in_hand s))
+  fill_pages =
+      subst
+      (λ y. StaysTree desk s y (λ ns. with_node ns n (Some (node_made dir name kind b))) → (nodes : Nodes) (rows : List (Option Row)) → ArePossible desk y.parcel y.reads nodes rows
+      → (k : ℕ) → In k (listed_in_hand desk (in_hand y)) → In k (listed_in_hand desk (in_hand s)))
+      (sym fill_is) listed_before
+
+  pub chained_filled : chained (fill dir name n kind body s) ≡ chained s
+  chained_filled = ap chained fill_is ∙ chained_same
+
   -- ---- what is left
 
   left : LeavesFiles s then' (dir ∷ []) n
@@ -484,7 +508,7 @@ module _ (desk : DeskSeen) (s : SessionSeen) (dir : ℕ) (place : Place) (name :
       subst (λ y. LeavesFilled s y dir place (record { ino = n; kind = kind; name = name })) (sym fill_is) (record { files = left; slot = slot_has; numbers = spare_then })
 
 -- what a fill is given, by its law's premises
-needs_of : (desk : DeskSeen) (s : SessionSeen) (dir : ℕ) (place : Place) (name : List ℕ) (n : ℕ) (kind : Kind) (body : List ℕ) (b : Body)
+pub needs_of : (desk : DeskSeen) (s : SessionSeen) (dir : ℕ) (place : Place) (name : List ℕ) (n : ℕ) (kind : Kind) (body : List ℕ) (b : Body)
     → AreWithinLimits desk.sizes → MayEdit desk s → IsOpenDir s dir → empty_shown s dir ≡ Some place → place_shown s dir name ≡ None → is_name name ≡ true
     → In n (spare_numbers s) → grant_in s n ≡ None → IsEmptyBody desk kind body b → FillNeeds desk s dir place name n kind body b
 needs_of desk s dir place name n kind body b limits m open_dir empty free is spare nothing body_is = search (arith, FillNeeds, spare, no_grant)

@@ -156,11 +156,19 @@ pub record IsNewFile (desk : DeskSeen) (s' : SessionSeen) (n' : ℕ) (kind' : Ki
   pub size : body.size ≡ 0
   pub head : body.head ≡ 0
 
--- What a session keeps of its files holds after the edit: each that is open is as it was, or new; the chains have no page more; and the
+-- or is open under another kind, for which its body is in the grammar as well
+pub record IsTurned (desk : DeskSeen) (s s' : SessionSeen) (n' : ℕ) (kind' : Kind) : Type 0 where
+  pub was : Kind
+  pub opens : open_kind s n' ≡ Some was
+  pub chain : chain_in s' n' ≡ chain_in s n'
+  pub body : body_in s' n' ≡ body_in s n'
+  pub fits : (b : Body) → body_of was desk.sizes.range (body_in s n') ≡ Some b → body_of kind' desk.sizes.range (body_in s n') ≡ Some b
+
+-- What a session keeps of its files holds after the edit: each that is open is as it was, or new, or of another kind; the chains have no page more; and the
 -- files that it made stand in slots of open directories.
 pub record EditsDirs (desk : DeskSeen) (s s' : SessionSeen) : Type 0 where
   pub writes : WritesDirs s s'
-  pub opens : (n : ℕ) (kind : Kind) → open_kind s' n ≡ Some kind → IsAsBefore s s' n kind ⊎ IsNewFile desk s' n kind
+  pub opens : (n : ℕ) (kind : Kind) → open_kind s' n ≡ Some kind → IsAsBefore s s' n kind ⊎ (IsNewFile desk s' n kind ⊎ IsTurned desk s s' n kind)
   pub own : (n : ℕ) → In n (chained s') → In n (chained s)
   pub once : are_new [] (chained s') ≡ true
   pub numbers : (x : MadeFile) → In x s'.made → In x.ino (ino_numbers s.parcel.inodes)
@@ -184,23 +192,24 @@ module _ (desk : DeskSeen) (s s' : SessionSeen) (m : MayEdit desk s) (e : EditsD
   abbrev hand : HandStays s s'
   hand = hand_stays s s' e.writes
 
-  before_reads : (n : ℕ) (kind : Kind) → IsAsBefore s s' n kind → ReadsBy desk s' n kind
-  before_reads n kind b =
-      let r = m.chains n kind b.opens in
+  kept_reads : (n : ℕ) (was' kind : Kind) → open_kind s n ≡ Some was' → chain_in s' n ≡ chain_in s n → body_in s' n ≡ body_in s n
+      → ((x : Body) → body_of was' desk.sizes.range (body_in s n) ≡ Some x → body_of kind desk.sizes.range (body_in s n) ≡ Some x) → ReadsBy desk s' n kind
+  kept_reads n was' kind opens chain body fits =
+      let r = m.chains n was' opens in
       let was : Chain = chain_in s n in
       record {
         body = r.body;
-        is = ap (body_of kind desk.sizes.range) b.body ∙ r.is;
-        count = r.count ∙ ap (λ (c : Chain). length c.blocks) (sym b.chain);
-        head = r.head ∙ ap (λ (c : Chain). get_or c.index 0 0) (sym b.chain);
-        named = subst (λ (c : Chain). IsNamed (core_in_hand desk (in_hand s')) c.index c.blocks) (sym b.chain) (record {
+        is = ap (body_of kind desk.sizes.range) body ∙ fits r.body r.is;
+        count = r.count ∙ ap (λ (c : Chain). length c.blocks) (sym chain);
+        head = r.head ∙ ap (λ (c : Chain). get_or c.index 0 0) (sym chain);
+        named = subst (λ (c : Chain). IsNamed (core_in_hand desk (in_hand s')) c.index c.blocks) (sym chain) (record {
           many = r.named.many;
           each = λ i lt.
               let share = r.named.each i lt in
               record {
                 bytes = share.bytes;
                 there =
-                    core_same desk s s' m e.writes (get_or was.index i 0) (index_else desk s s' m e.writes n kind (get_or was.index i 0) b.opens (get_or-In was.index i 0 lt))
+                    core_same desk s s' m e.writes (get_or was.index i 0) (index_else desk s s' m e.writes n was' (get_or was.index i 0) opens (get_or-In was.index i 0 lt))
                     ∙ share.there;
                 names = share.names;
               };
@@ -211,7 +220,10 @@ module _ (desk : DeskSeen) (s s' : SessionSeen) (m : MayEdit desk s) (e : EditsD
   new_reads n kind b = search arith
 
   chains_then : ChainsRead desk s'
-  chains_then n kind o = elim (e.opens n kind o) [ inl b ↦ before_reads n kind b | inr b ↦ new_reads n kind b ]
+  chains_then n kind o = elim (e.opens n kind o) [
+    | inl b ↦ kept_reads n kind kind b.opens b.chain b.body (λ x is. is)
+    | inr c ↦ elim c [ inl b ↦ new_reads n kind b | inr b ↦ kept_reads n b.was kind b.opens b.chain b.body b.fits ]
+  ]
 
   -- all that a session keeps holds
   pub may_then : (change : Nodes → Nodes) → Becomes desk (in_hand s) (in_hand s') change → KeepsJudged desk s' → MayEdit desk s'

@@ -1,7 +1,10 @@
 -- What a file reads, by its index pages and its blocks.
-use Rattle.trio_edit_laws.proofs.Words.{◌*◌, ◌++◌, ◌+◌, ◌-◌, ◌<◌, ◌∙◌, ◌∷◌, ◌≡◌, ◌≤◌, ◌⊎◌, Body, Bool, Chain, Core, CoreRange, In, Index, Kind, List, None, Ok, Option, Some, [], and_parts, ap, append-nil, append_assoc, are_new-first, arith, at_page, block_count, cases_lt, chain_within, cond_some, drop, drop-drop, drop-take, drop_all, entries_within, eq-eqb, eqb, eqb-true, false≢true, flat_map-append, flat_map-same, get_or-In, index_count, index_within, inl, inr, is_some, length, length-append, length-drop, min, nat_tests, nil_from_length, page_of, pages_bytes, refl, rest_of, result_map, result_map-Ok, result_then, result_then-Ok, slice_index_or, subst, suc, sym, take, take-append-add, take-append-drop, take_all, there_or, there_or-Ok, true, unwrap_or, with_index, within_from, within_to, zero, ℕ}
+use Rattle.trio_edit_laws.proofs.Words.{◌*◌, ◌++◌, ◌+◌, ◌-◌, ◌<◌, ◌∙◌, ◌∷◌, ◌≡◌, ◌≤◌, ◌⊎◌, Body, Bool, Chain, Core, CoreRange, In, Index, Kind, List, None, Ok, Option, Some, [], and_parts, ap, append-nil, append_assoc, are_new-first, arith, at_page, block_count, cases_lt, chain_within, cond_some, drop, drop-drop, drop-take, drop_all, entries_within, eq-eqb, eqb, eqb-true, false≢true, flat_map-append, flat_map-same, get_or-In, index_count, index_within, inl, inr, is_some, length, length-append, length-drop, min, nat_tests, nil_from_length, page_of, pages_bytes, refl, rest_of, result_map, result_map-Ok, result_then, result_then-Ok, slice_index_or, subst, suc, sym, take, take-append-add, take-append-drop, take_all, there_or, there_or-Ok, true, unwrap_or, with_index, within_from, within_to, zero, ℕ, cond}
 use Rattle.std.proofs.Math.Seq.{drop-append-add, take-append_seam}
 use Rattle.trio_layout.specs.Body.{body_of}
+use Rattle.trio_layout.specs.Entries.{with_names_apart}
+use Rattle.trio_layout.specs.Within.{entries_where}
+use Rattle.trio_lists.specs.Lists.{gathered}
 use Rattle.trio_layout.specs.Index.{index_of, link_fits}
 use Rattle.trio_edit_laws.specs.session.Chains.{BytesCut, BytesGrow, BytesMany, BytesPut, NamedReads, NamesShare, ReadsNamed, SharesStay}
 
@@ -49,9 +52,9 @@ reads_named core m body index blocks kind reads count head named =
     let chain = named_chain core index blocks fits named.each in
     let pages : index_count (block_count body.size) ≡ length index = ap index_count count ∙ sym many in
     within_to core m (record { body = body; chain = record { index = index; blocks = blocks }; entries = [] }) (record {
-      body = ap (λ k. body_of k core.range m.body) kind ∙ reads;
+      body = reads;
       chain = search arith;
-      entries = ap (λ k. entries_within core k blocks) kind;
+      entries = ap (λ t. cond t (result_then with_names_apart (gathered (λ page. entries_where core.inodes page (page_of core page)) blocks)) (Ok [])) kind;
     })
 
 -- ---- bytes of blocks

@@ -1,5 +1,5 @@
 -- What a directory reads where the body in one slot of its pages is exchanged: the entry in this slot has the new body, and all else is as it was.
-use Rattle.trio_edit_laws.proofs.Words.{◌&&◌, ◌++◌, ◌<◌, ◌||◌, ◌∙◌, ◌∷◌, ◌≡◌, Bad, Bool, Core, Directory, Empty, Entry, Err, FileRead, In, In-left, In-right, Kind, List, Listed, Location, Met, None, Ok, Option, Pages, Placed, Regular, Result, SlotRead, Some, [], and_from, and_parts, ap, arith, below_from, block_count, body_in_slot, both, bytes_eq, cases_eq, chain_same, cond, entries_where, entries_within, eq-eqb, eqb, eqb-true, false, false≢true, file_within, gathered, gathered_below, gathered_from, has_name, index_count, inl, inr, length, listed_at, map, map-append, page_of, refl, repeated_name, result_map, result_then, result_then-Ok, slot_bytes, slot_entries, slot_of, subst, suc, sym, true, unless_repeated, with_body_in, with_names_apart, with_other, within_from, within_to, zero, ℕ}
+use Rattle.trio_edit_laws.proofs.Words.{◌&&◌, ◌++◌, ◌<◌, ◌||◌, ◌∙◌, ◌∷◌, ◌≡◌, Bad, Bool, Core, Directory, Empty, Entry, Err, FileRead, In, In-left, In-right, Kind, List, Listed, Location, Met, None, Ok, Option, Pages, Placed, Regular, Result, SlotRead, Some, [], and_from, and_parts, ap, arith, below_from, block_count, body_in_slot, both, bytes_eq, cases_eq, chain_same, cond, entries_where, entries_within, eq-eqb, eqb, eqb-true, false, false≢true, file_within, gathered, gathered_below, gathered_from, has_name, index_count, inl, inr, length, listed_at, map, map-append, page_of, refl, repeated_name, result_map, result_then, result_then-Ok, slot_bytes, slot_entries, slot_of, subst, suc, sym, true, unless_repeated, with_body_in, with_names_apart, with_other, within_from, within_to, zero, ℕ, Link}
 use Rattle.trio_layout.specs.Entries.{place_of}
 use Rattle.trio_layout.specs.Entries.{entries_on}
 use Rattle.trio_surveys.proofs.Places.{at_place, below_has, gathered_has}
@@ -49,6 +49,7 @@ unless-same ls es (Some place) e = absurd cc
 
 entries-stand : (core : Core) (kind : Kind) (blocks : List ℕ) (es : List Listed) (l : Listed) → entries_within core kind blocks ≡ Ok es → In l es → Placed core blocks l
 entries-stand core Regular blocks es l e i = let none : [] ≡ es = cc e in absurd (subst (λ x. In l x) (sym none) i)
+entries-stand core Link blocks es l e i = let none : [] ≡ es = cc e in absurd (subst (λ x. In l x) (sym none) i)
 entries-stand core Directory blocks es l e i =
     let f : ℕ → Result (List Listed) Location = λ page. entries_where core.inodes page (page_of core page) in
     let s = result_then-Ok with_names_apart (gathered f blocks) es e in
@@ -148,6 +149,8 @@ module _ (q s : ℕ) (body : List ℕ) where
     entries-now : (kind : Kind) (blocks : List ℕ) (es : List Listed) → ((p : ℕ) → In p blocks → (p ≡ q → ⊥) → page_of other p ≡ page_of core p)
         → entries_within core kind blocks ≡ Ok es → entries_within other kind blocks ≡ Ok (map (placed_with q s body) es)
     entries-now Regular blocks es else' e =
+        let none : [] ≡ es = cc e in ap (λ l. Ok (map (placed_with q s body) l)) none
+    entries-now Link blocks es else' e =
         let none : [] ≡ es = cc e in ap (λ l. Ok (map (placed_with q s body) l)) none
     entries-now Directory blocks es else' e =
         let f : ℕ → Result (List Listed) Location = λ p. entries_where core.inodes p (page_of core p) in

@@ -1,9 +1,9 @@
 -- A file is made in an empty slot: the nodes that are shown have it.
-use Rattle.trio_edit_laws.proofs.Words.{◌∙◌, ◌∷◌, ◌≡◌, Body, Case, Core, DeskSeen, Directory, EntryPart, FileRead, In, InHand, IsFreeName, IsInOrder, IsTree, Kind, List, Listed, Naming, Nodes, None, Ok, Option, Regular, Row, SlotWrite, Some, [], ap, block_count, body_after, body_before, body_of, bundle_core, bundle_of, bytes_now, case_with, chain_within, entries_within, entry_in_grammar, entry_is_own, entry_keeps_rights, file_within, held_by, index_count, inl, inr, is_kept, is_some, listed_at, made_by, map, named_alike, naming_after, naming_of, node_listed, option_map, or_right, refl, slot_after, slot_before, subst, sym, true, with_bytes, with_node-else, with_node-same, within_to}
+use Rattle.trio_edit_laws.proofs.Words.{◌∙◌, ◌∷◌, ◌≡◌, Body, Case, Core, DeskSeen, Directory, EntryPart, FileRead, In, InHand, IsInOrder, IsTree, Kind, List, Listed, Naming, Nodes, None, Ok, Option, Regular, Row, SlotWrite, Some, [], ap, block_count, body_after, body_before, body_of, bundle_core, bundle_of, bytes_now, case_with, chain_within, entries_within, entry_in_grammar, entry_is_own, entry_keeps_rights, file_within, held_by, index_count, inl, inr, is_kept, is_some, listed_at, made_by, map, named_alike, naming_after, naming_of, node_listed, option_map, or_right, refl, slot_after, slot_before, subst, sym, true, with_bytes, with_node-else, with_node-same, within_to, Link}
 use Rattle.trio_edit_laws.specs.session.SlotEdits.{AfterFill, FillShows, IsFill, filled}
-use Rattle.trio_edit_laws.proofs.session.Judged.{IsShown, bytes_unnamed, no_node}
+use Rattle.trio_edit_laws.proofs.session.Judged.{IsShown, judged_data, data_unnamed, no_node}
 use Rattle.trio_edit_laws.proofs.session.NamedAnew.{IsBare, met_at}
-use Rattle.trio_edit_laws.proofs.session.SlotWrites.{IsRelisting, IsSuited, after_is, anew, becomes, had_in, has_in, view}
+use Rattle.trio_edit_laws.proofs.session.SlotWrites.{IsFreeElse, IsRelisting, IsSuited, after_is, anew, becomes, had_in, has_in, view}
 use Rattle.trio_edit_laws.proofs.session.SlotCases.{in_none, in_one, listed_empty, listed_entry, named_so, new_keeps, new_own, not_none, one_in, only, reads_empty, reads_entry}
 
 module _ (desk : DeskSeen) (h h' : InHand) (w : SlotWrite) (e : EntryPart) (body : Body) (o : IsInOrder desk h) (p : IsFill desk h h' w e body) where
@@ -24,7 +24,7 @@ module _ (desk : DeskSeen) (h h' : InHand) (w : SlotWrite) (e : EntryPart) (body
     had = λ x l i j. only w (λ x. In l (had_in desk x) → l.entry.ino ≡ e.ino) (λ k. absurd (in_none l (had_in desk w) had k)) x i j;
     has = λ x l i j. only w (λ x. In l (has_in desk x) → Some N ≡ Some (record { directory = x.directory.ino; listed = l })) (λ k. ap (λ z. Some (record { directory = w.directory.ino; listed = z })) (sym (in_one N.listed l (has_in desk w) has k))) x i j;
     come = named_so N (λ x. (z : SlotWrite) × In z (w ∷ []) × (z.directory.ino ≡ x.directory) × In x.listed (has_in desk z)) (w, inl refl, refl, one_in N.listed (has_in desk w) has);
-    free = λ x l i j. only w (λ x. In l (has_in desk x) → IsFreeName x l.entry.name) (λ k. subst (λ (z : Listed). IsFreeName w z.entry.name) (sym (in_one N.listed l (has_in desk w) has k)) p.name) x i j;
+    free = λ x l i j. only w (λ x. In l (has_in desk x) → IsFreeElse x e.ino l.entry.name) (λ k. subst (λ (z : Listed). IsFreeElse w e.ino z.entry.name) (sym (in_one N.listed l (has_in desk w) has k)) (λ y i d. p.name y i)) x i j;
     was = inl p.unnamed;
   }
 
@@ -53,6 +53,7 @@ module _ (desk : DeskSeen) (h h' : InHand) (w : SlotWrite) (e : EntryPart) (body
         by : (k : Kind) → entries_within core2 k [] ≡ Ok []
         by Regular = refl
         by Directory = refl
+        by Link = refl
 
     fill_suits : IsTree (filled w e nodes') → IsSuited desk h h' (w ∷ []) o p.writes rows nodes nodes' v e.ino (Some (naming_after w e)) fill_relists (filled w e nodes')
     unfolding empty_file
@@ -64,8 +65,8 @@ module _ (desk : DeskSeen) (h h' : InHand) (w : SlotWrite) (e : EntryPart) (body
       rights = named_so N (λ x. entry_keeps_rights c (met_at x) ≡ true) (new_keeps v (met_at N) p.made);
       here =
           with_node-same nodes' e.ino (Some (made_by N))
-          ∙ ap (λ q. option_map (with_bytes q) (node_listed N None)) (sym (bytes_unnamed v e.ino p.made unnamed))
-          ∙ ap (λ q. option_map (with_bytes (bytes_now c e.ino)) (node_listed N q)) (sym (no_node v e.ino p.made));
+          ∙ ap (λ q. option_map q (node_listed N None)) (sym (data_unnamed v e.ino p.made unnamed))
+          ∙ ap (λ q. option_map (judged_data c e.ino) (node_listed N q)) (sym (no_node v e.ino p.made));
       there = λ m d. with_node-else nodes' e.ino m (Some (made_by N)) d;
       none = λ t. absurd (not_none N t);
       tree = tree;

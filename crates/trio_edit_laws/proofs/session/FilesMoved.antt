@@ -1,13 +1,13 @@
 -- An entry goes to a slot of another directory: of the nodes that are shown the file lies there.
-use Rattle.trio_edit_laws.proofs.Words.{◌∙◌, ◌∷◌, ◌≡◌, Case, Core, DeskSeen, EntryPart, HoldParts, In, In-is_among, In-map, InHand, IsFreeName, IsInOrder, IsTree, List, Listed, MayShow, Naming, Node, Nodes, None, Ok, Option, Rights, Row, Said, SlotWrite, Some, [], ap, arith, body_after, body_before, body_of, both_ways, bundle_core, bundle_of, case_with, entry_in_grammar, entry_is_own, entry_keeps_rights, eqb, eqb-true, find, find-In, find_map, has_kind, held_by, inl, inr, is_among, is_kept, is_some, judged_entries, lent_body, listed_at, made_by, map, mapped, moved, naming_after, naming_of, node_at, node_listed, option_map, or_right, refl, rights_in, rights_of, row_in, slot_after, slot_before, some_of, subst, sym, true, with_bytes, with_node-else, with_node-same, ℕ}
+use Rattle.trio_edit_laws.proofs.Words.{◌∙◌, ◌∷◌, ◌≡◌, Case, Core, DeskSeen, EntryPart, HoldParts, In, In-is_among, In-map, InHand, IsInOrder, IsTree, List, Listed, MayShow, Naming, Node, Nodes, None, Ok, Option, Rights, Row, Said, SlotWrite, Some, [], ap, arith, body_after, body_before, body_of, both_ways, bundle_core, bundle_of, case_with, entry_in_grammar, entry_is_own, entry_keeps_rights, eqb, eqb-true, find, find-In, find_map, has_kind, held_by, inl, inr, is_among, is_kept, is_some, judged_entries, lent_body, listed_at, made_by, map, mapped, moved, naming_after, naming_of, node_at, node_listed, option_map, or_right, refl, rights_in, rights_of, row_in, slot_after, slot_before, some_of, subst, sym, true, with_bytes, with_node-else, with_node-same, ℕ, Bool, guard_in, guard_now, with_judged, is_directory, placed, bytes_now, node_left}
 use Rattle.trio_laws.proofs.judgement.RuleParts.{has_kind_is}
 use Rattle.trio_laws.proofs.session.Again.{said_alike}
 use Rattle.trio_edit_laws.proofs.session.JudgedReads.{file_within-alike}
 use Rattle.trio_edit_laws.specs.session.SlotEdits.{AfterMove, IsMove, MoveShows, rehung}
-use Rattle.trio_edit_laws.proofs.session.Judged.{IsShown}
+use Rattle.trio_edit_laws.proofs.session.Judged.{IsShown, judged_data}
 use Rattle.trio_edit_laws.proofs.session.NamedAnew.{IsTaken, met_at}
-use Rattle.trio_edit_laws.proofs.session.SlotWrites.{IsRelisting, IsSuited, after_is, anew, becomes, had_in, had_judged, had_met, has_in, view}
-use Rattle.trio_edit_laws.proofs.session.SlotCases.{either, held_keeps, held_kind, held_own, held_there, in_none, in_one, listed_empty, listed_entry, made_same, named_so, naming_before, new_body, new_keeps, new_own, new_unheld, not_none, one_in, reads_empty, reads_entry}
+use Rattle.trio_edit_laws.proofs.session.SlotWrites.{IsFreeElse, IsRelisting, IsSuited, after_is, anew, becomes, had_in, had_judged, had_met, has_in, view}
+use Rattle.trio_edit_laws.proofs.session.SlotCases.{either, held_keeps, held_kind, held_own, held_there, in_none, in_one, listed_empty, listed_entry, made_same, moved-judged, named_so, naming_before, new_body, new_keeps, new_own, new_unheld, not_none, one_in, reads_empty, reads_entry}
 
 module _ (desk : DeskSeen) (h h' : InHand) (from to : SlotWrite) (e now : EntryPart) (o : IsInOrder desk h) (p : IsMove desk h h' from to e now) where
   abbrev O : Naming
@@ -40,8 +40,8 @@ module _ (desk : DeskSeen) (h h' : InHand) (from to : SlotWrite) (e now : EntryP
     has = λ x l i j. either from to (λ x. In l (has_in desk x) → Some N ≡ Some (record { directory = x.directory.ino; listed = l }))
         (λ k. absurd (in_none l (has_in desk from) has k)) (λ k. ap (λ z. Some (record { directory = to.directory.ino; listed = z })) (sym (in_one N.listed l (has_in desk to) has_to k))) x i j;
     come = named_so N (λ x. (z : SlotWrite) × In z (from ∷ to ∷ []) × (z.directory.ino ≡ x.directory) × In x.listed (has_in desk z)) (to, inr (inl refl), refl, one_in N.listed (has_in desk to) has_to);
-    free = λ x l i j. either from to (λ x. In l (has_in desk x) → IsFreeName x l.entry.name)
-        (λ k. absurd (in_none l (has_in desk from) has k)) (λ k. subst (λ (z : Listed). IsFreeName to z.entry.name) (sym (in_one N.listed l (has_in desk to) has_to k)) p.name) x i j;
+    free = λ x l i j. either from to (λ x. In l (has_in desk x) → IsFreeElse x now.ino l.entry.name)
+        (λ k. absurd (in_none l (has_in desk from) has k)) (λ k. subst (λ (z : Listed). IsFreeElse to now.ino z.entry.name) (sym (in_one N.listed l (has_in desk to) has_to k)) (λ y i d. p.name y i)) x i j;
     was = inr (from, inl refl, O.listed, one_in O.listed (had_in desk from) had);
   }
 
@@ -79,18 +79,16 @@ module _ (desk : DeskSeen) (h h' : InHand) (from to : SlotWrite) (e now : EntryP
         has_kind_is e.kind (row_in rows e.ino) r.0 r.1 (held_kind v (met_at O) listed.0 (held_in k t))
         ∙ ap (λ (z : Said). z.rights.kind) says ∙ ap (λ (z : Rights). z.kind) x.2
 
-    moves : (q : Option (List ℕ)) (z : Option Node) → node_at nodes now.ino ≡ z → option_map (moved to.directory.ino now.name) (option_map (with_bytes q) (node_listed O z)) ≡ option_map (with_bytes q) (node_listed N z)
-    moves None (Some x) t = refl
-    moves (Some l) (Some x) t = refl
-    moves q None t =
+    moves : (q : Option (List ℕ)) (g : Option Bool) (z : Option Node) → node_at nodes now.ino ≡ z
+        → option_map (moved to.directory.ino now.name) (option_map (with_judged q g) (node_listed O z)) ≡ option_map (with_judged q g) (node_listed N z)
+    moves q g (Some x) t = ap Some (moved-judged to.directory.ino now.name q g (placed O x))
+    moves q g None t =
         elim p.body [
-          | inl made ↦ by q (made_same to.directory.ino now.name e.kind now.kind (body_before from) (body_after to) (sym p.kind) (sym made.1))
+          | inl made ↦
+              ap Some (moved-judged to.directory.ino now.name q g (made_by O))
+              ∙ ap (λ (y : Node). Some (with_judged q g y)) (made_same to.directory.ino now.name e.kind now.kind (body_before from) (body_after to) (sym p.kind) (sym made.1))
           | inr q ↦ absurd (held_there v e.ino (held_in q.0 q.1) (ap (node_at nodes) (sym p.number) ∙ t))
         ]
-      where
-        by : (q : Option (List ℕ)) → moved to.directory.ino now.name (made_by O) ≡ made_by N → option_map (moved to.directory.ino now.name) (option_map (with_bytes q) (Some (made_by O))) ≡ option_map (with_bytes q) (Some (made_by N))
-        by None same = ap Some same
-        by (Some l) same = ap (λ (y : Node). Some (record y { bytes = l })) same
 
     in_grammar : is_some (body_of now.kind desk.sizes.range (body_after to)) ≡ true
     in_grammar =
@@ -124,7 +122,8 @@ module _ (desk : DeskSeen) (h h' : InHand) (from to : SlotWrite) (e now : EntryP
             was = met_at O;
             judged = had_judged desk h h' (from ∷ to ∷ []) o p.writes rows nodes nodes' v now.ino (Some N) move_relists from O.listed (inl refl) (one_in O.listed (had_in desk from) had) new;
             number = sym p.number;
-            kind = sym p.kind;
+            kind = ap is_directory (sym p.kind);
+            guard = ap guard_in (sym made.1);
             reads = file_within-alike core2 (met_at N) (met_at O) p.kind made.1;
           }
           | inr q ↦ absurd (both_ways (is_among e.ino c.bundle.holds) (new_unheld v e.ino (subst (λ n. In n c.bundle.numbers) p.number new)) (In-is_among e.ino c.bundle.holds (held_in q.0 q.1)))
@@ -136,7 +135,10 @@ module _ (desk : DeskSeen) (h h' : InHand) (from to : SlotWrite) (e now : EntryP
       grammar = named_so N (λ x. entry_in_grammar c (met_at x) ≡ true) (or_right (is_kept c (met_at N)) (is_some (body_of now.kind desk.sizes.range (body_after to))) in_grammar);
       own = named_so N (λ x. entry_is_own c (met_at x) ≡ true) own_now;
       rights = named_so N (λ x. entry_keeps_rights c (met_at x) ≡ true) rights_now;
-      here = search (arith, with_node-same, listed, moves);
+      here =
+          with_node-same nodes' now.ino (option_map (moved to.directory.ino now.name) (node_at nodes' now.ino))
+          ∙ ap (option_map (moved to.directory.ino now.name)) (v.shows.each now.ino ∙ ap (λ q. option_map (judged_data c now.ino) (node_left c now.ino q (node_at nodes now.ino))) listed.1)
+          ∙ moves (bytes_now c now.ino) (guard_now c now.ino) (node_at nodes now.ino) refl;
       there = λ m d. with_node-else nodes' now.ino m (option_map (moved to.directory.ino now.name) (node_at nodes' now.ino)) d;
       none = λ t. absurd (not_none N t);
       tree = tree;

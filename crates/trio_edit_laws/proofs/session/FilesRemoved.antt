@@ -1,8 +1,8 @@
 -- A slot is emptied: the nodes that are shown lack the file.
-use Rattle.trio_edit_laws.proofs.Words.{◌∙◌, ◌∷◌, ◌≡◌, Bool, Case, DeskSeen, EntryPart, In, In-is_among, InHand, IsFreeName, IsInOrder, IsTree, List, Listed, Naming, Node, Nodes, None, Ok, Option, Row, SlotWrite, Some, [], ap, arith, body_after, body_before, bundle_of, case_with, cond, false, held_by, inl, inr, is_among, listed_at, map, node_at, node_left, refl, slot_after, slot_before, true, with_node-else, with_node-same}
+use Rattle.trio_edit_laws.proofs.Words.{◌∙◌, ◌∷◌, ◌≡◌, Bool, Case, DeskSeen, EntryPart, In, In-is_among, InHand, IsInOrder, IsTree, List, Listed, Naming, Node, Nodes, None, Ok, Option, Row, SlotWrite, Some, [], ap, arith, body_after, body_before, bundle_of, case_with, cond, false, held_by, inl, inr, is_among, listed_at, map, node_at, node_left, refl, slot_after, slot_before, true, with_node-else, with_node-same}
 use Rattle.trio_edit_laws.specs.session.SlotEdits.{AfterClear, ClearShows, IsClear, cleared}
 use Rattle.trio_edit_laws.proofs.session.Judged.{IsShown, no_node}
-use Rattle.trio_edit_laws.proofs.session.SlotWrites.{IsRelisting, IsSuited, after_is, anew, becomes, had_in, has_in, view}
+use Rattle.trio_edit_laws.proofs.session.SlotWrites.{IsFreeElse, IsRelisting, IsSuited, after_is, anew, becomes, had_in, has_in, view}
 use Rattle.trio_edit_laws.proofs.session.SlotCases.{in_none, in_one, listed_empty, listed_entry, naming_before, none_not, one_in, only, reads_empty, reads_entry}
 
 module _ (desk : DeskSeen) (h h' : InHand) (w : SlotWrite) (e : EntryPart) (o : IsInOrder desk h) (p : IsClear desk h h' w e) where
@@ -23,7 +23,7 @@ module _ (desk : DeskSeen) (h h' : InHand) (w : SlotWrite) (e : EntryPart) (o : 
     had = λ x l i j. only w (λ x. In l (had_in desk x) → l.entry.ino ≡ e.ino) (λ k. ap (λ (z : Listed). z.entry.ino) (in_one O.listed l (had_in desk w) had k)) x i j;
     has = λ x l i j. only w (λ x. In l (has_in desk x) → ◌≡◌ {A = Option Naming} None (Some (record { directory = x.directory.ino; listed = l }))) (λ k. absurd (in_none l (has_in desk w) has k)) x i j;
     come = λ x t. absurd (none_not x t);
-    free = λ x l i j. only w (λ x. In l (has_in desk x) → IsFreeName x l.entry.name) (λ k. absurd (in_none l (has_in desk w) has k)) x i j;
+    free = λ x l i j. only w (λ x. In l (has_in desk x) → IsFreeElse x e.ino l.entry.name) (λ k. absurd (in_none l (has_in desk w) has k)) x i j;
     was = inr (w, inl refl, O.listed, one_in O.listed (had_in desk w) had);
   }
 

@@ -1,5 +1,5 @@
 -- What is known of a case that shows nodes: its files read, each number is judged and named once, and what is new has no node.
-use Rattle.trio_edit_laws.proofs.Words.{◌∙◌, ◌≡◌, Case, DeskSeen, FileRead, In, In-find, In-flat, In-left, In-map, InHand, IsAmong, IsTree, IsView, List, Listed, Met, Naming, Nodes, None, Ok, Ok-one, Option, Row, Shows, Some, Written, [], and_parts, ap, are_new, arith, bundle_core, bytes_now, bytes_read, case_in_hand, entries_in, eq-eqb, eqb, eqb-true, file_within, find, find-In, flat_map-In, fronts_listed, hand_files_once, inl, inr, is_ok, is_ok-Ok, judged_once, list_all-In, map, met_in, naming_of, naming_once, namings, namings_in, new_dead, new_entries, new_entry, node_at, numbers, option_and_then, owning_parts, plain, refl, row_in, same_met, some_of, start_from, subst, sym, true, written_files, written_ino, ℕ}
+use Rattle.trio_edit_laws.proofs.Words.{◌∙◌, ◌≡◌, Case, DeskSeen, FileRead, In, In-find, In-flat, In-left, In-map, InHand, IsAmong, IsTree, IsView, List, Listed, Met, Naming, Nodes, None, Ok, Ok-one, Option, Row, Shows, Some, Written, [], and_parts, ap, are_new, arith, bundle_core, bytes_now, bytes_read, case_in_hand, entries_in, eq-eqb, eqb, eqb-true, file_within, find, find-In, flat_map-In, fronts_listed, hand_files_once, inl, inr, is_ok, is_ok-Ok, judged_once, list_all-In, map, met_in, naming_of, naming_once, namings, namings_in, new_dead, new_entries, new_entry, node_at, numbers, option_and_then, owning_parts, plain, refl, row_in, same_met, some_of, start_from, subst, sym, true, written_files, written_ino, ℕ, Core, Kind, Result, Location, Err, is_directory, cond, take, pages_bytes, guard_now, guard_in, with_judged, Node, option_map}
 use Rattle.trio_layout.specs.JudgedFiles.{judged_files}
 use Rattle.trio_edit_laws.proofs.session.Closed.{entry_read, judged_closed}
 use Rattle.trio_laws.proofs.session.Ruled.{IsOwned}
@@ -16,12 +16,34 @@ pub bytes_in : (z : Case) → are_new [] (numbers (judged_files z)) ≡ true →
 bytes_in z new m k i e =
     ap (bytes_now z) (sym e) ∙ ap (option_and_then (λ m. bytes_read (bundle_core z) m.kind (file_within (bundle_core z) m))) (found_in z new m i)
 
-pub bytes_none : (z : Case) (k : ℕ) → ((m : Met) → In m (judged_files z) → m.ino ≡ k → ⊥) → bytes_now z k ≡ None
-bytes_none z k out = ap (option_and_then (λ m. bytes_read (bundle_core z) m.kind (file_within (bundle_core z) m))) (by (find (λ (m : Met). eqb m.ino k) (judged_files z)) refl)
+none_found : (z : Case) (k : ℕ) → ((m : Met) → In m (judged_files z) → m.ino ≡ k → ⊥) → find (λ (m : Met). eqb m.ino k) (judged_files z) ≡ None
+none_found z k out = by (find (λ (m : Met). eqb m.ino k) (judged_files z)) refl
   where
     by : (o : Option Met) → find (λ (m : Met). eqb m.ino k) (judged_files z) ≡ o → o ≡ None
     by None h = refl
     by (Some m) h = let f = find-In (λ (x : Met). eqb x.ino k) (judged_files z) m h in absurd (out m f.0 (eqb-true m.ino k f.1))
+
+pub bytes_none : (z : Case) (k : ℕ) → ((m : Met) → In m (judged_files z) → m.ino ≡ k → ⊥) → bytes_now z k ≡ None
+bytes_none z k out = ap (option_and_then (λ m. bytes_read (bundle_core z) m.kind (file_within (bundle_core z) m))) (none_found z k out)
+
+-- a file's bytes go by whether it is a directory
+pub bytes_kind : (core : Core) (k k' : Kind) (r : Result FileRead Location) → is_directory k ≡ is_directory k' → bytes_read core k r ≡ bytes_read core k' r
+bytes_kind core k k' (Ok f) e = ap (λ t. cond t None (Some (take f.body.size (pages_bytes core f.chain.blocks)))) e
+bytes_kind core k k' (Err place) e = refl
+
+-- ---- guards
+
+pub guard_judged : (z : Case) → are_new [] (numbers (judged_files z)) ≡ true → (m : Met) (k : ℕ) → In m (judged_files z) → m.ino ≡ k → guard_now z k ≡ Some (guard_in m.body)
+guard_judged z new m k i e = ap (guard_now z) (sym e) ∙ ap (option_map (λ (m : Met). guard_in m.body)) (found_in z new m i)
+
+-- ---- bytes and guards
+
+-- what a case makes of a node in its place
+abbrev pub judged_data : Case → ℕ → Node → Node
+judged_data z k = with_judged (bytes_now z k) (guard_now z k)
+
+pub data_none : (z : Case) (k : ℕ) → ((m : Met) → In m (judged_files z) → m.ino ≡ k → ⊥) → judged_data z k ≡ with_judged None None
+data_none z k out = ap (λ o. with_judged o (guard_now z k)) (bytes_none z k out) ∙ ap (λ o. with_judged None (option_map (λ (m : Met). guard_in m.body) o)) (none_found z k out)
 
 -- ---- a case that shows nodes
 
@@ -99,9 +121,9 @@ module _ {c : Case} {nodes nodes' : Nodes} (v : IsShown c nodes nodes') where
       let number : q.2.entry.ino ≡ n = sym (ap (λ (w : Met). w.ino) q.4) ∙ same in
       let wrong : None ≡ Some (record { directory = z.0.ino; listed = q.2 }) = sym free ∙ ap (naming_of c) (sym number) ∙ entry_named z.0 q.0 q.2 z.1 q.1 q.3 in cc wrong
 
-  -- a number that is new and that nothing names has no bytes
-  pub bytes_unnamed : (n : ℕ) → In n c.bundle.numbers → naming_of (c) n ≡ None → bytes_now (c) n ≡ None
-  bytes_unnamed n new free = bytes_none c n (λ m i t. unnamed_unjudged n m i t new free)
+  -- a number that is new and that nothing names has neither bytes nor guard
+  pub data_unnamed : (n : ℕ) → In n c.bundle.numbers → naming_of (c) n ≡ None → judged_data c n ≡ with_judged None None
+  data_unnamed n new free = data_none c n (λ m i t. unnamed_unjudged n m i t new free)
 
 -- what is in hand, where it is viewed
 pub seen : (desk : DeskSeen) (h h' : InHand) (nodes nodes' : Nodes) (rows : List (Option Row)) → IsView desk h h' nodes nodes' rows → IsShown (case_in_hand desk rows h) nodes nodes'

@@ -1,5 +1,5 @@
 -- What the judged files are and read where one of them is edited, written or made.
-use Rattle.trio_edit_laws.proofs.Words.{◌&&◌, ◌++◌, ◌<◌, ◌∙◌, ◌∷◌, ◌≡◌, ◌⊎◌, Bool, Bundle, Case, Core, DeskSeen, Entry, EntryPart, FileRead, Front, Held, In, In-flat, In-is_among, In-map, In-right, InHand, IsJudgedEdit, LentFile, List, Listed, Met, None, Ok, Option, Placed, Regular, Row, Some, Written, [], and_from, and_parts, ap, are_new, are_new-append, are_new-before, arith, bare, bare_at, bare_file, body-number, bundle_core, bundle_of, case_with, cases_Bool, cases_eq, children_in, cond, each_new, entries_in, eq-eqb, eqb, eqb-true, false_from_ne_true, false≢true, file_as_before, files_in_hand, flat_map, flat_map-In, fronts, held_by, inl, inr, is_among, is_among-In, judged_entries, judged_once, judged_pages, judged_there, listed_with, map, map-In, map-each, map-map, met_in, met_with, ne_eqb, new_entries, numbers, numbers-flat, one_keyed, one_of, page_of, pages_in, pages_listed, pages_within, plain, refl, regular_entries, row_in, same_met, slot_bytes, slot_of, sorted-map, sorted_by, subst, suc, sym, true, written_at, written_files, written_in, written_ino_at, written_met, ℕ}
+use Rattle.trio_edit_laws.proofs.Words.{◌&&◌, ◌++◌, ◌<◌, ◌∙◌, ◌∷◌, ◌≡◌, ◌⊎◌, Bool, Bundle, Case, Core, DeskSeen, Entry, EntryPart, FileRead, Front, Held, In, In-flat, In-is_among, In-map, In-right, InHand, IsJudgedEdit, LentFile, List, Listed, Met, None, Ok, Option, Placed, Regular, Row, Some, Written, [], and_from, and_parts, ap, are_new, are_new-append, are_new-before, arith, bare, bare_at, bare_file, body-number, bundle_core, bundle_of, case_with, cases_Bool, cases_eq, children_in, cond, each_new, entries_in, eq-eqb, eqb, eqb-true, false_from_ne_true, false≢true, file_as_before, files_in_hand, flat_map, flat_map-In, fronts, held_by, inl, inr, is_among, is_among-In, judged_entries, judged_once, judged_pages, judged_there, listed_with, map, map-In, map-each, map-map, met_in, met_with, ne_eqb, new_entries, numbers, numbers-flat, one_keyed, one_of, page_of, pages_in, pages_listed, pages_within, plain, refl, plain_entries, row_in, same_met, slot_bytes, slot_of, sorted-map, sorted_by, subst, suc, sym, true, written_at, written_files, written_in, written_ino_at, written_met, ℕ, is_directory, false}
 use Rattle.trio_laws.specs.session.FileEdits.{with_body}
 use Rattle.trio_layout.specs.Within.{file_within}
 use Rattle.trio_layout.specs.JudgedFiles.{judged_files}
@@ -330,14 +330,14 @@ module _ (desk : DeskSeen) (h h' : InHand) (m : Met) (body : List ℕ) (file fil
                 ]
           ]
 
-      -- the blocks of a regular file have the bytes that they had
-      pub blocks_same : x.kind ≡ Regular → (q : ℕ) → In q f.chain.blocks → page_of (bundle_core c2) q ≡ page_of (bundle_core c) q
+      -- the blocks of what is no directory have the bytes that they had
+      pub blocks_same : is_directory x.kind ≡ false → (q : ℕ) → In q f.chain.blocks → page_of (bundle_core c2) q ≡ page_of (bundle_core c) q
       blocks_same kind q j =
           page_same q (In-right q f.chain.index f.chain.blocks j) (λ new same.
           let t : made ≡ true = In-is_among m.ino b.numbers new in
           elim (cases_eq x.ino (p t).ino) [
             | inr other ↦ away t other q (In-right q f.chain.index f.chain.blocks j) new same
-            | inl e ↦ search (arith, same_met, once, p_in, slot_listed, regular_entries)
+            | inl e ↦ search (arith, same_met, once, p_in, slot_listed, plain_entries)
           ])
 
     -- ---- all judged files

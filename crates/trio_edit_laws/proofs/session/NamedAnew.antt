@@ -1,12 +1,12 @@
 -- A bundle in whose directories the file of one number is listed anew, elsewhere or not at all: which files it judges then, that rules I1,
 -- I2 and I4 hold of it, and which nodes it shows.
-use Rattle.trio_edit_laws.proofs.Words.{◌&&◌, ◌++◌, ◌∙◌, ◌∷◌, ◌≡◌, ◌⊎◌, Body, Bool, Bundle, Case, Creds, Directory, FileRead, Held, In, In-flat, In-is_among, In-left, In-map, IsDirectory, IsEmptyFile, IsTree, Kind, List, Listed, Met, Naming, Node, Nodes, None, Ok, Option, Path, Regular, Row, Sheet, Shows, Sizes, Some, Up, Written, [], and_from, and_parts, ap, are_new, arith, both_ways, bundle_core, bundle_pages, bytes_now, bytes_read, case_with, cases_Bool, cases_eq, children_in, cond, each_new, entries_in, entry_in_grammar, entry_is_own, entry_keeps_rights, eq-eqb, eqb, eqb-true, false, false_from_ne_true, file_keeps_rights, file_within, find-In, flat_map-In, fronts_keep, fronts_listed, gathered_new, has_rights, inl, inr, is_among, is_among-In, is_ok, is_some, is_written, judged_entries, judged_once, judged_pages, list_all, list_all-In, list_all-each, made_by, map, map-In, map-map, meets_grammar, meets_owning, meets_rights, met_in, naming_is, naming_of, naming_once, namings, namings_in, new_entries, new_entry, node_at, node_left, node_now, numbers, numbers-flat, one_of, option_map, pages_bytes, pages_in, pages_within, plain, refl, row_in, some_one, start_from, start_judged, subst, suc, sym, true, with_bytes, written_among, written_files, written_ino, zero, ℕ}
+use Rattle.trio_edit_laws.proofs.Words.{◌&&◌, ◌++◌, ◌∙◌, ◌∷◌, ◌≡◌, ◌⊎◌, Body, Bool, Bundle, Case, Creds, Directory, FileRead, Held, In, In-flat, In-is_among, In-left, In-map, IsDirectory, IsEmptyFile, IsTree, Kind, List, Listed, Met, Naming, Node, Nodes, None, Ok, Option, Path, Regular, Row, Sheet, Shows, Sizes, Some, Up, Written, [], and_from, and_parts, ap, are_new, arith, both_ways, bundle_core, bundle_pages, bytes_now, bytes_read, case_with, cases_Bool, cases_eq, children_in, cond, each_new, entries_in, entry_in_grammar, entry_is_own, entry_keeps_rights, eq-eqb, eqb, eqb-true, false, false_from_ne_true, file_keeps_rights, file_within, find-In, flat_map-In, fronts_keep, fronts_listed, gathered_new, has_rights, inl, inr, is_among, is_among-In, is_ok, is_some, is_written, judged_entries, judged_once, judged_pages, list_all, list_all-In, list_all-each, made_by, map, map-In, map-map, meets_grammar, meets_owning, meets_rights, met_in, naming_is, naming_of, naming_once, namings, namings_in, new_entries, new_entry, node_at, node_left, node_now, numbers, numbers-flat, one_of, option_map, pages_bytes, pages_in, pages_within, plain, refl, row_in, some_one, start_from, start_judged, subst, suc, sym, true, with_bytes, written_among, written_files, written_ino, zero, ℕ, is_directory, guard_in, guard_now, with_judged}
 use Rattle.std.specs.Prelude.{take}
 use Rattle.trio_layout.specs.JudgedFiles.{judged_files}
 use Rattle.trio_laws.proofs.session.Climbing.{way_of}
 use Rattle.trio_edit_laws.proofs.session.Closed.{entry_above, entry_read, judged_closed}
 use Rattle.trio_laws.proofs.session.Edges.{listed_now, unlisted_now}
-use Rattle.trio_edit_laws.proofs.session.Judged.{IsShown, bytes_in, bytes_none, bytes_unnamed, closed_before, entries_of, judged_listed, named_before, naming_in, no_node, one_before, owned, reads_before, root_dead, unnamed_unjudged, written_live}
+use Rattle.trio_edit_laws.proofs.session.Judged.{IsShown, bytes_in, bytes_kind, judged_data, data_none, data_unnamed, guard_judged, closed_before, entries_of, judged_listed, named_before, naming_in, no_node, one_before, owned, reads_before, root_dead, unnamed_unjudged, written_live}
 use Rattle.trio_laws.proofs.session.Namings.{judged_named, met_of}
 use Rattle.trio_laws.proofs.session.Ruled.{naming_from}
 
@@ -43,7 +43,8 @@ module _ (sizes : Sizes) (creds : Creds) (rows : List (Option Row)) (b : Bundle)
     pub was : Met
     pub judged : In was (judged_files c)
     pub number : was.ino ≡ n
-    pub kind : was.kind ≡ e.listed.entry.kind
+    pub kind : is_directory was.kind ≡ is_directory e.listed.entry.kind
+    pub guard : guard_in was.body ≡ guard_in e.listed.body
     pub reads :
         file_within (bundle_core c') (met_at e)
         ≡ file_within (bundle_core c') was
@@ -69,7 +70,7 @@ module _ (sizes : Sizes) (creds : Creds) (rows : List (Option Row)) (b : Bundle)
     pub grammar : (e : Naming) → now ≡ Some e → entry_in_grammar c (met_at e) ≡ true
     pub own : (e : Naming) → now ≡ Some e → entry_is_own c (met_at e) ≡ true
     pub rights : (e : Naming) → now ≡ Some e → entry_keeps_rights c (met_at e) ≡ true
-    pub here : node_at after n ≡ option_map (with_bytes (bytes_now c n)) (node_left c n now (node_at nodes n))
+    pub here : node_at after n ≡ option_map (judged_data c n) (node_left c n now (node_at nodes n))
     pub there : (k : ℕ) → (k ≡ n → ⊥) → node_at after k ≡ node_at nodes' k
     pub none : now ≡ None → node_at after n ≡ None
     pub tree : IsTree after
@@ -94,7 +95,8 @@ module _ (sizes : Sizes) (creds : Creds) (rows : List (Option Row)) (b : Bundle)
       pub was : Met
       pub judged : In was (judged_files c)
       pub number : was.ino ≡ x.ino
-      pub kind : was.kind ≡ x.kind
+      pub kind : is_directory was.kind ≡ is_directory x.kind
+      pub guard : guard_in was.body ≡ guard_in x.body
       pub reads :
           file_within (bundle_core c') x
           ≡ file_within (bundle_core c') was
@@ -107,14 +109,15 @@ module _ (sizes : Sizes) (creds : Creds) (rows : List (Option Row)) (b : Bundle)
       pub bare : IsBare entry
 
     source : (x : Met) → New x ⊎ Old x → Source x ⊎ Begun x
-    source x (inr o) = inl (record { was = x; judged = o.0; number = refl; kind = refl; reads = refl })
+    source x (inr o) = inl (record { was = x; judged = o.0; number = refl; kind = refl; guard = refl; reads = refl })
     source x (inl w) =
         elim (g.file w.0 w.1 w.2) [
           | inl t ↦ inl (record {
             was = t.was;
             judged = t.judged;
             number = t.number ∙ sym (new_number x w);
-            kind = t.kind ∙ sym (ap (λ (m : Met). m.kind) w.3);
+            kind = t.kind ∙ sym (ap (λ (m : Met). is_directory m.kind) w.3);
+            guard = t.guard ∙ sym (ap (λ (m : Met). guard_in m.body) w.3);
             reads = ap (file_within (bundle_core c')) w.3 ∙ t.reads;
           })
           | inr t ↦ inr (record { entry = w.0; is_now = w.1; new = w.2; is = w.3; bare = t })
@@ -446,27 +449,34 @@ module _ (sizes : Sizes) (creds : Creds) (rows : List (Option Row)) (b : Bundle)
         let r = again q.was q.judged in
         let f = reads_before v q.was q.judged in
         bytes_in c' once_then x x.ino (judged_to x j) refl
-        ∙ ap (λ k. bytes_read (bundle_core c') k (file_within (bundle_core c') x)) (sym q.kind)
+        ∙ bytes_kind (bundle_core c') x.kind q.was.kind (file_within (bundle_core c') x) (sym q.kind)
         ∙ ap (bytes_read (bundle_core c') q.was.kind) (q.reads ∙ r.read)
         ∙ r.bytes
         ∙ ap (bytes_read (bundle_core c) q.was.kind) (sym f.1)
         ∙ sym (bytes_in c (judged_once c v.once) q.was x.ino q.judged q.number)
 
+    -- and its guard
+    data_source : (x : Met) (j : New x ⊎ Old x) (q : Source x) → judged_data c' x.ino ≡ judged_data c x.ino
+    data_source x j q =
+        let guard : guard_now c' x.ino ≡ guard_now c x.ino =
+        guard_judged c' once_then x x.ino (judged_to x j) refl ∙ ap Some (sym q.guard) ∙ sym (guard_judged c (judged_once c v.once) q.was x.ino q.judged q.number) in
+        ap (λ o. with_judged o (guard_now c' x.ino)) (bytes_source x j q) ∙ ap (with_judged (bytes_now c x.ino)) guard
+
     -- so does every number but that of a new file
-    bytes_then : (k : ℕ) → (now ≡ None → k ≡ n → ⊥) → (bytes_now c' k ≡ bytes_now c k) ⊎ ((x : Met) × Begun x × (k ≡ n))
-    bytes_then k ok =
+    data_then : (k : ℕ) → (now ≡ None → k ≡ n → ⊥) → (judged_data c' k ≡ judged_data c k) ⊎ ((x : Met) × Begun x × (k ≡ n))
+    data_then k ok =
         elim (cases_Bool (is_among k (numbers (judged_files c')))) [
           | inl t ↦
               let m = map-In (λ (z : Met). z.ino) k (judged_files c') (is_among-In k (numbers (judged_files c')) t) in
               let j = judged_from m.0 m.1 in
               elim (source m.0 j) [
-                | inl q ↦ inl (ap (bytes_now c') m.2 ∙ bytes_source m.0 j q ∙ ap (bytes_now c) (sym m.2))
+                | inl q ↦ inl (ap (judged_data c') m.2 ∙ data_source m.0 j q ∙ ap (judged_data c) (sym m.2))
                 | inr q ↦ inr (m.0, q, m.2 ∙ ap (λ (z : Met). z.ino) q.is ∙ g.number q.entry q.is_now)
               ]
           | inr t ↦
               let out' : (m : Met) → In m (judged_files c') → m.ino ≡ k → ⊥ =
               λ m i e. both_ways (is_among k (numbers (judged_files c'))) t (In-is_among k (numbers (judged_files c')) (subst (λ z. In z (numbers (judged_files c'))) e (In-map (λ (z : Met). z.ino) m (judged_files c') i))) in
-              inl (bytes_none c' k out' ∙ sym (bytes_none c k (λ m i e. out m i e out')))
+              inl (data_none c' k out' ∙ sym (data_none c k (λ m i e. out m i e out')))
         ]
       where
         out : (m : Met) → In m (judged_files c) → m.ino ≡ k → ((m : Met) → In m (judged_files c') → m.ino ≡ k → ⊥) → ⊥
@@ -491,26 +501,29 @@ module _ (sizes : Sizes) (creds : Creds) (rows : List (Option Row)) (b : Bundle)
     begun_now x q =
         let e : Naming = q.entry in
         let dead : node_at nodes n ≡ None = no_node v n q.new in
-        let was : bytes_now c n ≡ None = bytes_unnamed v n q.new q.bare.unnamed in
+        let was : judged_data c n ≡ with_judged None None = data_unnamed v n q.new q.bare.unnamed in
         let is : bytes_now c' n ≡ bytes_read (bundle_core c') e.listed.entry.kind (Ok q.bare.file) =
         bytes_in c' once_then (met_at e) n (judged_to (met_at e) (inl (e, q.is_now, q.new, refl))) (g.number e q.is_now)
         ∙ ap (bytes_read (bundle_core c') e.listed.entry.kind) q.bare.read in
+        let guard : guard_now c' n ≡ Some (guard_in e.listed.body) = guard_judged c' once_then (met_at e) n (judged_to (met_at e) (inl (e, q.is_now, q.new, refl))) (g.number e q.is_now) in
         g.here
-        ∙ ap (λ z. option_map (with_bytes z) (node_left c n now (node_at nodes n))) was
-        ∙ ap (λ z. option_map (with_bytes None) (node_left c n now z)) dead
-        ∙ ap (λ z. option_map (with_bytes None) (node_left c n z None)) q.is_now
-        ∙ no_bytes e.listed.entry.kind
-        ∙ ap (λ z. option_map (with_bytes z) (Some (made_by e))) (sym is)
-        ∙ ap (λ z. option_map (with_bytes (bytes_now c' n)) (node_left c' n z None)) (sym (named_here ∙ q.is_now))
-        ∙ ap (λ z. option_map (with_bytes (bytes_now c' n)) (node_left c' n (naming_of c' n) z)) (sym dead)
+        ∙ ap (λ z. option_map z (node_left c n now (node_at nodes n))) was
+        ∙ ap (λ z. option_map (with_judged None None) (node_left c n now z)) dead
+        ∙ ap (λ z. option_map (with_judged None None) (node_left c n z None)) q.is_now
+        ∙ no_bytes (is_directory e.listed.entry.kind)
+        ∙ ap (λ z. option_map (with_judged z (Some (guard_in e.listed.body))) (Some (made_by e))) (sym is)
+        ∙ ap (λ z. option_map (with_judged (bytes_now c' n) z) (Some (made_by e))) (sym guard)
+        ∙ ap (λ z. option_map (judged_data c' n) (node_left c' n z None)) (sym (named_here ∙ q.is_now))
+        ∙ ap (λ z. option_map (judged_data c' n) (node_left c' n (naming_of c' n) z)) (sym dead)
       where
         taken_none : (k : ℕ) → take {A = ℕ} k [] ≡ []
         taken_none zero = refl
         taken_none (suc k) = refl
 
-        no_bytes : (k : Kind) → Some (made_by q.entry) ≡ option_map (with_bytes (bytes_read (bundle_core c') k (Ok q.bare.file))) (Some (made_by q.entry))
-        no_bytes Directory = refl
-        no_bytes Regular =
+        no_bytes : (t : Bool) → Some (made_by q.entry)
+            ≡ option_map (with_judged (cond t None (Some (take q.bare.file.body.size (pages_bytes (bundle_core c') q.bare.file.chain.blocks)))) (Some (guard_in q.entry.listed.body))) (Some (made_by q.entry))
+        no_bytes true = refl
+        no_bytes false =
             ap (λ l. Some (record (made_by q.entry) { bytes = l }))
             (sym (ap (λ l. take q.bare.file.body.size (pages_bytes (bundle_core c') l)) q.bare.empty.1 ∙ taken_none q.bare.file.body.size))
 
@@ -519,31 +532,31 @@ module _ (sizes : Sizes) (creds : Creds) (rows : List (Option Row)) (b : Bundle)
         elim (cases_eq k n) [
           | inl e ↦ subst (λ z. node_at after z ≡ node_now c' z (node_at nodes z)) (sym e) (by now refl)
           | inr d ↦
-              elim (bytes_then k (λ t e. d e)) [
+              elim (data_then k (λ t e. d e)) [
                 | inl same ↦
                     g.there k d ∙ v.shows.each k
-                    ∙ ap (λ q. option_map (with_bytes (bytes_now c k)) (node_left c k q (node_at nodes k))) (sym (named_else k d))
-                    ∙ ap (λ q. option_map (with_bytes q) (node_left c' k (naming_of c' k) (node_at nodes k))) (sym same)
+                    ∙ ap (λ q. option_map (judged_data c k) (node_left c k q (node_at nodes k))) (sym (named_else k d))
+                    ∙ ap (λ q. option_map q (node_left c' k (naming_of c' k) (node_at nodes k))) (sym same)
                 | inr q ↦ absurd (d q.2)
               ]
         ]
       where
         by : (o : Option Naming) → now ≡ o → node_at after n ≡ node_now c' n (node_at nodes n)
         by None t =
-            let gone : node_left c n None (node_at nodes n) ≡ None = left (node_left c n None (node_at nodes n)) (sym (g.none t) ∙ g.here ∙ ap (λ q. option_map (with_bytes (bytes_now c n)) (node_left c n q (node_at nodes n))) t) in
+            let gone : node_left c n None (node_at nodes n) ≡ None = left (node_left c n None (node_at nodes n)) (sym (g.none t) ∙ g.here ∙ ap (λ q. option_map (judged_data c n) (node_left c n q (node_at nodes n))) t) in
             g.none t
-            ∙ ap (option_map (with_bytes (bytes_now c' n))) (sym gone)
-            ∙ ap (λ q. option_map (with_bytes (bytes_now c' n)) (node_left c' n q (node_at nodes n))) (sym (named_here ∙ t))
+            ∙ ap (option_map (judged_data c' n)) (sym gone)
+            ∙ ap (λ q. option_map (judged_data c' n) (node_left c' n q (node_at nodes n))) (sym (named_here ∙ t))
           where
-            left : (o : Option Node) → None ≡ option_map (with_bytes (bytes_now c n)) o → o ≡ None
+            left : (o : Option Node) → None ≡ option_map (judged_data c n) o → o ≡ None
             left None e = refl
-            left (Some x) e = absurd (let wrong : None ≡ Some (with_bytes (bytes_now c n) x) = e in cc wrong)
+            left (Some x) e = absurd (let wrong : None ≡ Some (judged_data c n x) = e in cc wrong)
         by (Some e) t =
-            elim (bytes_then n (λ w h. (let wrong : None ≡ Some e = sym w ∙ t in cc wrong))) [
+            elim (data_then n (λ w h. (let wrong : None ≡ Some e = sym w ∙ t in cc wrong))) [
               | inl same ↦
                   g.here
-                  ∙ ap (λ q. option_map (with_bytes (bytes_now c n)) (node_left c n q (node_at nodes n))) (sym named_here)
-                  ∙ ap (λ q. option_map (with_bytes q) (node_left c' n (naming_of c' n) (node_at nodes n))) (sym same)
+                  ∙ ap (λ q. option_map (judged_data c n) (node_left c n q (node_at nodes n))) (sym named_here)
+                  ∙ ap (λ q. option_map q (node_left c' n (naming_of c' n) (node_at nodes n))) (sym same)
               | inr q ↦ begun_now q.0 q.1
             ]
 
@@ -574,7 +587,7 @@ module _ (sizes : Sizes) (creds : Creds) (rows : List (Option Row)) (b : Bundle)
         empty k x at e new free y there =
             let none : node_at nodes' n ≡ None =
             unlisted_now c nodes nodes' v.tree v.tree' v.among v.shows n free
-            ∙ ap (λ o. option_map (with_bytes (bytes_now c n)) (cond (is_among n b.holds) None o)) (no_node v n new)
+            ∙ ap (λ o. option_map (judged_data c n) (cond (is_among n b.holds) None o)) (no_node v n new)
             ∙ nothing (is_among n b.holds) in
             elim (cases_eq k 1) [
               | inl one ↦
@@ -584,7 +597,7 @@ module _ (sizes : Sizes) (creds : Creds) (rows : List (Option Row)) (b : Bundle)
               | inr d ↦ subst IsDirectory (ap (node_at nodes') e ∙ none) (v.tree'.parents k x at d)
             ]
           where
-            nothing : (t : Bool) → option_map (with_bytes (bytes_now c n)) (cond t None None) ≡ None
+            nothing : (t : Bool) → option_map (judged_data c n) (cond t None None) ≡ None
             nothing true = refl
             nothing false = refl
 

@@ -1,6 +1,7 @@
 -- What slots list before and after they are written, and which entries keep to the rules.
-use Rattle.trio_edit_laws.proofs.Words.{◌||◌, ◌∙◌, ◌∷◌, ◌≡◌, Case, Empty, Entry, EntryPart, In, In-is_among, Kind, List, Listed, Met, Naming, Node, Nodes, None, Ok, SlotRead, SlotWrite, Some, [], and_from, and_parts, ap, arith, body_at, body_before, body_of, entries_or_none, entry_in_grammar, entry_is_own, entry_keeps_rights, false, false_from_ne_true, has_kind, inl, inr, is_among, is_among-In, is_kept, is_place_of, is_some, judged_entries, lent_body, list_all, list_all-In, listed_at, node_at, not_from_false, or_left, or_right, refl, row_in, some_of, subst, sym, true, true-bytes_eq, ℕ}
+use Rattle.trio_edit_laws.proofs.Words.{◌||◌, ◌∙◌, ◌∷◌, ◌≡◌, Case, Empty, Entry, EntryPart, In, In-is_among, Kind, List, Listed, Met, Naming, Node, Nodes, None, Ok, SlotRead, SlotWrite, Some, [], and_from, and_parts, ap, arith, body_at, body_before, body_of, entries_or_none, entry_in_grammar, entry_is_own, entry_keeps_rights, false, false_from_ne_true, has_kind, inl, inr, is_among, is_among-In, is_kept, is_place_of, is_some, judged_entries, lent_body, list_all, list_all-In, listed_at, node_at, not_from_false, or_left, or_right, refl, row_in, some_of, subst, sym, true, true-bytes_eq, ℕ, guard_in, with_judged, Bool, Option}
 use Rattle.trio_laws.proofs.session.Edges.{row_node}
+use Rattle.trio_edit_laws.specs.session.SlotEdits.{moved, rekinded, retitled}
 use Rattle.trio_edit_laws.proofs.session.Judged.{IsShown, owned}
 
 -- ---- slots
@@ -54,10 +55,31 @@ none_not N t = cc t
 -- a file that is made, by the kind and the body in its slot
 abbrev pub made_node : ℕ → List ℕ → Kind → List ℕ → Node
 made_node directory name kind body =
-    record { parent = directory; name = name; kind = kind; mode = (body_at body).mode; uid = (body_at body).uid; gid = (body_at body).gid; bytes = [] }
+    record { parent = directory; name = name; kind = kind; mode = (body_at body).mode; uid = (body_at body).uid; gid = (body_at body).gid; guard = guard_in body; bytes = [] }
 
 pub made_same : (directory : ℕ) (name : List ℕ) (k k' : Kind) (l l' : List ℕ) → k ≡ k' → l ≡ l' → made_node directory name k l ≡ made_node directory name k' l'
 made_same directory name k k' l l' kind body = ap (made_node directory name k) body ∙ ap (λ x. made_node directory name x l') kind
+
+-- ---- nodes
+
+-- another name, or another place, goes with bytes and guard
+pub retitled-judged : (name : List ℕ) (q : Option (List ℕ)) (g : Option Bool) (x : Node) → retitled name (with_judged q g x) ≡ with_judged q g (retitled name x)
+retitled-judged name None None x = refl
+retitled-judged name None (Some guarded) x = refl
+retitled-judged name (Some bytes) None x = refl
+retitled-judged name (Some bytes) (Some guarded) x = refl
+
+pub moved-judged : (directory : ℕ) (name : List ℕ) (q : Option (List ℕ)) (g : Option Bool) (x : Node) → moved directory name (with_judged q g x) ≡ with_judged q g (moved directory name x)
+moved-judged directory name None None x = refl
+moved-judged directory name None (Some guarded) x = refl
+moved-judged directory name (Some bytes) None x = refl
+moved-judged directory name (Some bytes) (Some guarded) x = refl
+
+pub rekinded-judged : (kind : Kind) (q : Option (List ℕ)) (g : Option Bool) (x : Node) → rekinded kind (with_judged q g x) ≡ with_judged q g (rekinded kind x)
+rekinded-judged kind None None x = refl
+rekinded-judged kind None (Some guarded) x = refl
+rekinded-judged kind (Some bytes) None x = refl
+rekinded-judged kind (Some bytes) (Some guarded) x = refl
 
 -- ---- a case that shows nodes
 

@@ -1,12 +1,12 @@
 -- Slots of directories are written anew, so that the file of one number is listed elsewhere, or not at all: each judged file reads as before
 -- but for that; and what follows of the nodes that are shown and of what is judged then.
-use Rattle.trio_edit_laws.proofs.Words.{◌++◌, ◌∙◌, ◌≡◌, ◌⊎◌, AreSlotWrites, Becomes, Bundle, Case, Core, DeskSeen, Directory, FileRead, Held, In, In-cases, In-flat, In-is_among, In-left, In-map, In-right, InHand, IsEmptyFile, IsFreeName, IsInOrder, IsTree, Kind, List, Listed, MayShow, Met, Naming, Nodes, None, Ok, Ok-one, Option, Regular, Row, Shows, SlotWrite, Some, Written, [], and_from, and_parts, ap, append_assoc, are_new, are_new-append, are_new-before, are_new-fewer, arith, bare, bare_at, body_after, body_before, both_ways, bundle_core, bundle_of, bytes_as_before, bytes_now, bytes_read, case_as_stands, case_in_hand, case_with, cases_Bool, children_in, each_new, entries_in, entries_or_none, entry_in_grammar, entry_is_own, entry_keeps_rights, file_as_before, file_within, flat_map-In, fronts_listed, hand_files_once, held_by, inl, inr, is_among, is_among-In, is_written, judged_also, judged_entries, judged_made, judged_once, judged_pages, listed_at, listed_in_hand, map, map-In, map-append, map-each, map-map, met_in, named_alike, naming_of, new_between, new_entries, new_entry, node_at, node_left, numbers, numbers-flat, one_keyed, one_of, option_map, page_of, pages_in, pages_listed, pages_within, plain, refl, row_in, slot_after, slot_before, some_one, sorted-map, sorted_by, start_judged, start_number, subst, sym, true, with_bytes, written_among, written_files, written_met, ℕ}
+use Rattle.trio_edit_laws.proofs.Words.{◌++◌, ◌∙◌, ◌≡◌, ◌⊎◌, AreSlotWrites, Becomes, Bundle, Case, Core, DeskSeen, Directory, FileRead, Held, In, In-cases, In-flat, In-is_among, In-left, In-map, In-right, InHand, IsEmptyFile, IsFreeName, IsInOrder, IsTree, Kind, List, Listed, MayShow, Met, Naming, Nodes, None, Ok, Ok-one, Option, Regular, Row, Shows, SlotWrite, Some, Written, [], and_from, and_parts, ap, append_assoc, are_new, are_new-append, are_new-before, are_new-fewer, arith, bare, bare_at, body_after, body_before, both_ways, bundle_core, bundle_of, bytes_as_before, bytes_now, bytes_read, case_as_stands, case_in_hand, case_with, cases_Bool, children_in, each_new, entries_in, entries_or_none, entry_in_grammar, entry_is_own, entry_keeps_rights, file_as_before, file_within, flat_map-In, fronts_listed, hand_files_once, held_by, inl, inr, is_among, is_among-In, is_written, judged_also, judged_entries, judged_made, judged_once, judged_pages, listed_at, listed_in_hand, map, map-In, map-append, map-each, map-map, met_in, named_alike, naming_of, new_between, new_entries, new_entry, node_at, node_left, numbers, numbers-flat, one_keyed, one_of, option_map, page_of, pages_in, pages_listed, pages_within, plain, refl, row_in, slot_after, slot_before, some_one, sorted-map, sorted_by, start_judged, start_number, subst, sym, true, with_bytes, written_among, written_files, written_met, ℕ, is_directory, cond, take, pages_bytes, false, Bool}
 use Rattle.std.proofs.Common.{◌↔◌}
 use Rattle.std.specs.Prelude.{take}
 use Rattle.trio_layout.specs.JudgedFiles.{judged_files}
 use Rattle.trio_edit_laws.specs.session.SlotEdits.{IsAfter, IsListedBy, KeepsTree}
 use Rattle.trio_edit_laws.proofs.session.EditedOrder.{bundle_then, case_is, order_stays, possible_before}
-use Rattle.trio_edit_laws.proofs.session.Judged.{IsShown, closed_before, entry_named, owned, seen, written_live}
+use Rattle.trio_edit_laws.proofs.session.Judged.{judged_data, IsShown, closed_before, entry_named, owned, seen, written_live}
 use Rattle.trio_edit_laws.proofs.session.NamedAnew.{IsBare, IsNamedAnew, IsTaken, New, Old, Rereads, judged_from, judged_to, listed_before, met_at, named_else, named_here, shown}
 use Rattle.trio_edit_laws.proofs.session.SlotPages.{AtMostOne, IsRewritten, SlotAround, listed_one, slot_around}
 use Rattle.trio_laws.proofs.session.Stands.{IsAlike}
@@ -47,7 +47,11 @@ had_in desk w = entries_or_none (listed_at w.page w.slot (body_before w) (slot_b
 abbrev pub has_in : DeskSeen → SlotWrite → List Listed
 has_in desk w = entries_or_none (listed_at w.page w.slot (body_after w) (slot_after desk w))
 
--- By these slots the file of a number is listed anew: they listed nothing but it, of names that are free, and nothing else in hand lists it.
+-- no entry of the directory but that of this number has this name
+abbrev pub IsFreeElse : SlotWrite → ℕ → List ℕ → Type 0
+IsFreeElse w n name = (l : Listed) → In l w.file.entries → (l.entry.ino ≡ n → ⊥) → l.entry.name ≡ name → ⊥
+
+-- By these slots the file of a number is listed anew: they listed nothing but it, of names that no other file has there, and nothing else in hand lists it.
 pub record IsRelisting (desk : DeskSeen) (h : InHand) (writes : List SlotWrite) (n : ℕ) (now : Option Naming) : Type 0 where
   pub before : (w : SlotWrite) → In w writes → listed_at w.page w.slot (body_before w) (slot_before desk w) ≡ Ok (had_in desk w)
   pub after : (w : SlotWrite) → In w writes → listed_at w.page w.slot (body_after w) (slot_after desk w) ≡ Ok (has_in desk w)
@@ -55,7 +59,7 @@ pub record IsRelisting (desk : DeskSeen) (h : InHand) (writes : List SlotWrite) 
   pub had : (w : SlotWrite) (l : Listed) → In w writes → In l (had_in desk w) → l.entry.ino ≡ n
   pub has : (w : SlotWrite) (l : Listed) → In w writes → In l (has_in desk w) → now ≡ Some (record { directory = w.directory.ino; listed = l })
   pub come : (e : Naming) → now ≡ Some e → (w : SlotWrite) × In w writes × (w.directory.ino ≡ e.directory) × In e.listed (has_in desk w)
-  pub free : (w : SlotWrite) (l : Listed) → In w writes → In l (has_in desk w) → IsFreeName w l.entry.name
+  pub free : (w : SlotWrite) (l : Listed) → In w writes → In l (has_in desk w) → IsFreeElse w n l.entry.name
   pub was : (naming_of (case_as_stands desk h) n ≡ None) ⊎ ((w : SlotWrite) × In w writes × (l : Listed) × In l (had_in desk w))
 
 module _ (desk : DeskSeen) (h h' : InHand) (writes : List SlotWrite) (o : IsInOrder desk h) (u : AreSlotWrites desk h h' writes) where
@@ -240,7 +244,7 @@ module _ (desk : DeskSeen) (h h' : InHand) (writes : List SlotWrite) (o : IsInOr
             let came : (l : Listed) → In l has → l.entry.ino ≡ n = λ l t. k.number (record { directory = y.ino; listed = l }) (here l t) in
             record {
               then = then;
-              read = a.put has (k.after w i) (λ l x t q same. k.free w l i t x (beside x q) same);
+              read = a.put has (k.after w i) (λ l x t q same. k.free w l i t x (beside x q) (other x q) same);
               body = refl;
               chain = refl;
               from = λ l t. elim (In-cases l a.front (has ++ a.back) t) [
@@ -297,12 +301,12 @@ module _ (desk : DeskSeen) (h h' : InHand) (writes : List SlotWrite) (o : IsInOr
                   let q = k.come (record { directory = y.ino; listed = l }) t in
                   absurd (out (subst (λ s. In s directories) q.2 (In-map (λ (x : SlotWrite). x.directory.ino) q.0 writes q.1)));
               once = entries_once y f j e;
-              bytes = by y.kind;
+              bytes = by (is_directory y.kind);
             }
           where
-            by : (d : Kind) → bytes_read core2 d (Ok f) ≡ bytes_read core d (Ok f)
-            by Directory = refl
-            by Regular =
+            by : (t : Bool) → cond t None (Some (take f.body.size (pages_bytes core2 f.chain.blocks))) ≡ cond t None (Some (take f.body.size (pages_bytes core f.chain.blocks)))
+            by true = refl
+            by false =
                 ap (λ l. Some (take f.body.size l))
                 (bytes_as_before core core2.pages f.chain.blocks (λ p i. pages_else y f j e out p (In-right p f.chain.index f.chain.blocks i)))
 
@@ -347,7 +351,7 @@ module _ (desk : DeskSeen) (h h' : InHand) (writes : List SlotWrite) (o : IsInOr
           pub rights : (e : Naming) → now ≡ Some e → entry_keeps_rights c (met_at e) ≡ true
           pub here :
               node_at after n
-              ≡ option_map (with_bytes (bytes_now c n))
+              ≡ option_map (judged_data c n)
               (node_left c n now (node_at nodes n))
           pub there : (m : ℕ) → (m ≡ n → ⊥) → node_at after m ≡ node_at nodes' m
           pub none : now ≡ None → node_at after n ≡ None

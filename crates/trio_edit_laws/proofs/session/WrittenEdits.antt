@@ -1,7 +1,7 @@
--- A written regular file is edited: of the nodes that are shown it alone has other bytes. It is a judged file, and this is an edit of one.
-use Rattle.trio_edit_laws.proofs.Words.{◌∙◌, ◌≡◌, Becomes, Body, Bundle, Case, DeskSeen, FileRead, Held, In, In-map, InHand, IsInOrder, IsJudgedEdit, LentFile, List, MayShow, Met, Nodes, None, Ok, Option, Regular, Row, Shows, Written, [], ap, bare, bare_at, bare_file, body-number, body_at, body_stands, bundle_core, bundle_of, bytes_listed, case_in_hand, case_with, content_of, core_in_hand, file_within, files_in_hand, held_by, inl, judged_files, judged_reads, map, map-each, map-map, pages_in, read_in_hand, refl, regular_entries, row_in, start_judged, start_to, subst, sym, with_content, within_from, written_at, written_in, written_met, ℕ}
+-- A written file that is no directory is edited: of the nodes that are shown it alone has other bytes and another guard. It is a judged file, and this is an edit of one.
+use Rattle.trio_edit_laws.proofs.Words.{◌∙◌, ◌≡◌, Becomes, Body, Bundle, Case, DeskSeen, FileRead, Held, In, In-map, InHand, IsInOrder, IsJudgedEdit, LentFile, List, MayShow, Met, Nodes, None, Ok, Option, Regular, Row, Shows, Written, [], ap, bare, bare_at, bare_file, body-number, body_at, body_stands, bundle_core, bundle_of, bytes_listed, case_in_hand, case_with, content_of, core_in_hand, file_within, files_in_hand, held_by, inl, judged_files, judged_reads, map, map-each, map-map, pages_in, read_in_hand, refl, plain_entries, row_in, start_judged, start_to, subst, sym, with_content, within_from, written_at, written_in, written_met, ℕ, cond, is_directory, false}
 use Rattle.trio_laws.specs.session.FileEdits.{with_body}
-use Rattle.trio_edit_laws.specs.session.FileEdits.{FileEditShows, IsFileEdit}
+use Rattle.trio_edit_laws.specs.session.FileEdits.{FileEditShows, IsFileEdit, with_data}
 use Rattle.trio_edit_laws.specs.session.Listed.{ListedAfterEdit}
 use Rattle.trio_edit_laws.proofs.session.EditedOrder.{order_stays, possible_before}
 use Rattle.trio_edit_laws.proofs.session.JudgedEdits.{judged_edit_shows, listed_after_judged_edit}
@@ -54,7 +54,7 @@ module _ (desk : DeskSeen) (h h' : InHand) (f : LentFile) (body : List ℕ) (fil
           uid = u.rights.uid ∙ ap (λ (x : Body). x.uid) stands;
           gid = u.rights.gid ∙ ap (λ (x : Body). x.gid) stands;
         };
-    entries = regular_entries (core_in_hand desk h') (record met { body = body }) file u.kind u.reads ∙ sym (regular_entries (core_in_hand desk h) met before u.kind read);
+    entries = plain_entries (core_in_hand desk h') (record met { body = body }) file u.kind u.reads ∙ sym (plain_entries (core_in_hand desk h) met before u.kind read);
     own = u.own;
     once = u.once;
     apart = u.apart;
@@ -74,12 +74,12 @@ module _ (desk : DeskSeen) (h h' : InHand) (f : LentFile) (body : List ℕ) (fil
     abbrev bytes : List ℕ
     bytes = bytes_listed (core_in_hand desk h') file
 
-    becomes : (nodes nodes' : Nodes) (rows : List (Option Row)) → MayShow desk h h' nodes nodes' rows → Becomes desk h h' (content_of Regular f.stands.ino bytes)
+    becomes : (nodes nodes' : Nodes) (rows : List (Option Row)) → MayShow desk h h' nodes nodes' rows → Becomes desk h h' (with_data f.stands.ino bytes file.body.guard)
     becomes nodes nodes' rows may =
         let r = read_before nodes nodes' rows may.shows in
-        subst (λ k. Becomes desk h h' (content_of k f.stands.ino bytes)) u.kind (judged_edit_shows desk h h' met body r.0 file o (judged_edit r.0 r.1))
+        subst (λ t. Becomes desk h h' (λ nodes. cond t nodes (with_data f.stands.ino bytes file.body.guard nodes))) u.kind (judged_edit_shows desk h h' met body r.0 file o (judged_edit r.0 r.1))
 
-    pub file_edit_here : Becomes desk h h' (with_content f.stands.ino (bytes_listed (core_in_hand desk h') file))
+    pub file_edit_here : Becomes desk h h' (with_data f.stands.ino (bytes_listed (core_in_hand desk h') file) file.body.guard)
     file_edit_here = record {
       more = possible_before desk h h' u.holds u.inodes u.lent u.back;
       shows = λ nodes nodes' rows may. (becomes nodes nodes' rows may).shows nodes nodes' rows may;

@@ -1,6 +1,6 @@
 -- What a file reads, by its index pages and its blocks: what stays of a chain that grows or is cut, and of bytes that are put.
-use Rattle.std.specs.Prelude.{◌≡◌, ℕ, suc, ◌-◌, ◌*◌, ◌<◌, ◌≤◌, ◌==◌, min, List, [], ◌++◌, length, take, drop, slice_index_or, Some, is_some, Ok, IsTrue}
-use Rattle.trio_rights.specs.declared.kind.Kind.TheVariants.{Regular}
+use Rattle.std.specs.Prelude.{◌≡◌, false, ℕ, suc, ◌-◌, ◌*◌, ◌<◌, ◌≤◌, ◌==◌, min, List, [], ◌++◌, length, take, drop, slice_index_or, Some, is_some, Ok, IsTrue}
+use Rattle.trio_rights.specs.ByKind.{is_directory}
 use Rattle.trio_lists.specs.Lists.{In, are_new}
 use Rattle.trio_layout.specs.declared.body.Body.{Body}
 use Rattle.trio_layout.specs.Body.{block_count, body_of}
@@ -26,11 +26,11 @@ pub record IsNamed (core : Core) (index blocks : List ℕ) : Type 0 where
   pub many : length index ≡ index_count (length blocks)
   pub each : (k : ℕ) → k < length index → NamesShare core index blocks k
 
--- A regular file of these index pages and blocks reads so.
+-- A file that is no directory, of these index pages and blocks, reads so.
 abbrev pub ReadsNamed : Type 0
 ReadsNamed =
     (core : Core) (m : Met) (body : Body) (index blocks : List ℕ)
-    → m.kind ≡ Regular → body_of Regular core.range m.body ≡ Some body
+    → is_directory m.kind ≡ false → body_of m.kind core.range m.body ≡ Some body
     → block_count body.size ≡ length blocks → body.head ≡ slice_index_or index 0 0 → IsNamed core index blocks
     → file_within core m ≡ Ok (record { body = body; chain = record { index = index; blocks = blocks }; entries = [] })
 

@@ -1,8 +1,8 @@
--- A judged file is edited, regular or a directory, whether its body stands with its lease or, as it was made, in a slot of a directory's page.
-use Rattle.std.specs.Prelude.{◌≡◌, ◌≢◌, ◌⊎◌, ℕ, ◌==◌, List, [], map, length, Option, Some, Ok, if◌then◌else◌, IsTrue}
+-- A judged file is edited, of any kind, whether its body stands with its lease or, as it was made, in a slot of a directory's page.
+use Rattle.std.specs.Prelude.{◌≡◌, ◌≢◌, ◌⊎◌, Bool, ℕ, ◌==◌, List, [], map, length, Option, Some, Ok, if◌then◌else◌, IsTrue}
 use Rattle.trio_rights.specs.Row.{Row}
 use Rattle.trio_rights.specs.declared.kind.Kind.{Kind}
-use Rattle.trio_rights.specs.declared.kind.Kind.TheVariants.{Regular, Directory}
+use Rattle.trio_rights.specs.ByKind.{is_directory}
 use Rattle.trio_lists.specs.Lists.{In, is_among, are_new}
 use Rattle.trio_layout.specs.Accept.{with_body_in}
 use Rattle.trio_layout.specs.Core.{page_of}
@@ -17,8 +17,8 @@ use Rattle.trio_desk.specs.Out.{ino_numbers}
 use Rattle.trio_desk.specs.Ready.{lent_files}
 use Rattle.trio_desk.specs.Edits.{InHand}
 use Rattle.trio_laws.specs.session.Takes.{IsInOrder, Becomes, case_as_stands, pages_in_hand}
-use Rattle.trio_laws.specs.session.FileEdits.{bytes_listed, core_in_hand, with_body, with_content}
-use Rattle.trio_edit_laws.specs.session.FileEdits.{SameRights, files_in_hand, pages_listed}
+use Rattle.trio_laws.specs.session.FileEdits.{bytes_listed, core_in_hand, with_body}
+use Rattle.trio_edit_laws.specs.session.FileEdits.{SameRights, files_in_hand, pages_listed, with_data}
 use Rattle.trio_edit_laws.specs.session.Listed.{listed_in_hand}
 use Rattle.trio_laws.specs.session.Sees.{IsView}
 
@@ -80,17 +80,16 @@ pub record IsJudgedEdit (desk : DeskSeen) (h h' : InHand) (m : Met) (body : List
       (page : ℕ) → (In page (pages_listed file) → ⊥) → (In page (pages_listed file') → ⊥) → (In m.ino (ino_numbers h.parcel.inodes) → page ≢ m.page)
       → page_of (core_in_hand desk h') page ≡ page_of (core_in_hand desk h) page
 
--- the nodes with these bytes of one regular file; a directory has its entries, and no bytes
-abbrev pub content_of : Kind → ℕ → List ℕ → Nodes → Nodes
-content_of Regular ino bytes nodes = with_content ino bytes nodes
-content_of Directory ino bytes nodes = nodes
+-- the nodes with these bytes and this guard of one file that is no directory; a directory has its entries, and neither
+abbrev pub content_of : Kind → ℕ → List ℕ → Bool → Nodes → Nodes
+content_of kind ino bytes guarded nodes = if is_directory kind then nodes else with_data ino bytes guarded nodes
 
--- Then the nodes that are shown have the bytes that the file now reads; where it is a directory they are the same.
+-- Then the nodes that are shown have the bytes that the file now reads, and the guard; where it is a directory they are the same.
 abbrev pub JudgedEditShows : Type 0
 JudgedEditShows =
     (desk : DeskSeen) (h h' : InHand) (m : Met) (body : List ℕ) (file file' : FileRead)
     → IsInOrder desk h → IsJudgedEdit desk h h' m body file file'
-    → Becomes desk h h' (content_of m.kind m.ino (bytes_listed (core_in_hand desk h') file'))
+    → Becomes desk h h' (content_of m.kind m.ino (bytes_listed (core_in_hand desk h') file') file'.body.guard)
 
 -- ---- what is read after an edit
 

@@ -1,10 +1,12 @@
 -- Slots of directories are written anew: a file is made, renamed, removed or moved, and the nodes that are shown change so.
-use Rattle.std.specs.Prelude.{◌≡◌, ◌≢◌, ◌⊎◌, ◌↔◌, ℕ, ◌<◌, ◌*◌, ◌==◌, List, [], ◌∷◌, map, length, Option, None, Some, Ok, IsTrue}
+use Rattle.std.specs.Prelude.{◌≡◌, ◌≢◌, ◌⊎◌, ◌↔◌, false, ℕ, ◌<◌, ◌*◌, ◌==◌, List, [], ◌∷◌, map, length, Option, None, Some, Ok, IsTrue}
 use Rattle.std.specs.List.{find}
 use Rattle.std.specs.Option.{option_map}
 use Rattle.trio_page.specs.Field.{with_part}
 use Rattle.trio_rights.specs.Row.{Row}
 use Rattle.trio_rights.specs.declared.kind.Kind.TheVariants.{Directory}
+use Rattle.trio_rights.specs.declared.kind.Kind.{Kind}
+use Rattle.trio_rights.specs.ByKind.{is_directory}
 use Rattle.trio_lists.specs.Lists.{In, are_new}
 use Rattle.trio_layout.specs.declared.body.Body.{Body}
 use Rattle.trio_layout.specs.declared.slot.EntryPart.{EntryPart}
@@ -93,7 +95,7 @@ pub record AreSlotWrites (desk : DeskSeen) (h h' : InHand) (writes : List SlotWr
   pub inodes : h'.parcel.inodes ≡ h.parcel.inodes
   pub back : h'.back ≡ h.back
 
--- ---- the four edits
+-- ---- the five edits
 
 -- the file has one of the allotted numbers
 abbrev pub IsMade : InHand → ℕ → Type 0
@@ -126,6 +128,21 @@ pub record IsRetitle (desk : DeskSeen) (h h' : InHand) (w : SlotWrite) (e now : 
   pub kind : now.kind ≡ e.kind
   pub body : body_after w ≡ body_before w
   pub name : IsFreeName w now.name
+
+-- The entry in a slot of a file that was made gets another kind; it was no directory, and is none. The body in the slot is in the grammar for
+-- the new kind, and no other entry in the directory has the name.
+pub record IsRekind (desk : DeskSeen) (h h' : InHand) (w : SlotWrite) (e now : EntryPart) : Type 0 where
+  pub writes : AreSlotWrites desk h h' (w ∷ [])
+  pub before : slot_before desk w ≡ Entry e
+  pub after : slot_after desk w ≡ Entry now
+  pub number : now.ino ≡ e.ino
+  pub name : now.name ≡ e.name
+  pub plain : is_directory e.kind ≡ false
+  pub plain_now : is_directory now.kind ≡ false
+  pub made : IsMade h e.ino
+  pub body : body_after w ≡ body_before w
+  pub body_is : body_of now.kind desk.sizes.range (body_after w) ≡ Some (body_at (body_after w))
+  pub alone : (l : Listed) → In l w.file.entries → l.entry.ino ≢ e.ino → l.entry.name ≡ now.name → ⊥
 
 -- The slot of an entry is emptied, of a file that is held or was made.
 pub record IsClear (desk : DeskSeen) (h h' : InHand) (w : SlotWrite) (e : EntryPart) : Type 0 where
@@ -162,16 +179,23 @@ with_changed n change nodes = with_node nodes n (option_map change (node_at node
 abbrev pub retitled : List ℕ → Node → Node
 retitled name x = record x { name = name }
 
+-- of another kind
+abbrev pub rekinded : Kind → Node → Node
+rekinded kind x = record x { kind = kind }
+
 -- and in another directory
 abbrev pub moved : ℕ → List ℕ → Node → Node
 moved directory name x = record x { parent = directory; name = name }
 
--- the nodes with the file that is made, as its slot says; renamed; without it; and moved
+-- the nodes with the file that is made, as its slot says; renamed; turned into one of another kind; without it; and moved
 abbrev pub filled : SlotWrite → EntryPart → Nodes → Nodes
 filled w e nodes = with_node nodes e.ino (Some (made_by (naming_after w e)))
 
 abbrev pub renamed : EntryPart → Nodes → Nodes
 renamed now nodes = with_changed now.ino (retitled now.name) nodes
+
+abbrev pub turned : EntryPart → Nodes → Nodes
+turned now nodes = with_changed now.ino (rekinded now.kind) nodes
 
 abbrev pub cleared : EntryPart → Nodes → Nodes
 cleared e nodes = with_node nodes e.ino None
@@ -194,6 +218,12 @@ abbrev pub RetitleShows : Type 0
 RetitleShows =
     (desk : DeskSeen) (h h' : InHand) (w : SlotWrite) (e now : EntryPart)
     → IsInOrder desk h → IsRetitle desk h h' w e now → KeepsTree desk h h' (renamed now) → Becomes desk h h' (renamed now)
+
+-- One that gets another kind has it.
+abbrev pub RekindShows : Type 0
+RekindShows =
+    (desk : DeskSeen) (h h' : InHand) (w : SlotWrite) (e now : EntryPart)
+    → IsInOrder desk h → IsRekind desk h h' w e now → KeepsTree desk h h' (turned now) → Becomes desk h h' (turned now)
 
 -- One that is removed is gone. That it has no entries is said by the tree.
 abbrev pub ClearShows : Type 0
@@ -246,7 +276,7 @@ pub record IsAfter (desk : DeskSeen) (h h' : InHand) (writes : List SlotWrite) (
       ⊎ ((f : FileRead) × (file_in (case_as_stands desk h') x ≡ Ok f) × IsEmptyFile f)
   pub pages : (page : ℕ) → In page (listed_in_hand desk h') → In page (listed_in_hand desk h)
 
--- So it is after each of the four edits.
+-- So it is after each of the five edits.
 abbrev pub AfterFill : Type 0
 AfterFill =
     (desk : DeskSeen) (h h' : InHand) (w : SlotWrite) (e : EntryPart) (body : Body) (nodes nodes' : Nodes) (rows : List (Option Row))
@@ -257,6 +287,12 @@ abbrev pub AfterRetitle : Type 0
 AfterRetitle =
     (desk : DeskSeen) (h h' : InHand) (w : SlotWrite) (e now : EntryPart) (nodes nodes' : Nodes) (rows : List (Option Row))
     → IsRetitle desk h h' w e now → IsView desk h h' nodes nodes' rows → IsTree (renamed now nodes')
+    → IsAfter desk h h' (w ∷ []) now.ino (Some (naming_after w now))
+
+abbrev pub AfterRekind : Type 0
+AfterRekind =
+    (desk : DeskSeen) (h h' : InHand) (w : SlotWrite) (e now : EntryPart) (nodes nodes' : Nodes) (rows : List (Option Row))
+    → IsRekind desk h h' w e now → IsView desk h h' nodes nodes' rows → IsTree (turned now nodes')
     → IsAfter desk h h' (w ∷ []) now.ino (Some (naming_after w now))
 
 abbrev pub AfterClear : Type 0

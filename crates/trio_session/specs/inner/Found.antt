@@ -122,6 +122,13 @@ pub data IsRoomier {E : Type 0} (result : Result Unit E) (ds : List IndexedDir) 
   AnIndex : (at : ℕ) (d d' : IndexedDir) → position (λ x. x.ino == ino) ds ≡ Some at → slice_get ds at ≡ Some d → RoomierDir result d d' → ds' ≡ slice_set ds at d'
       → IsRoomier result ds ino ds'
 
+-- no page is laid
+pub record IsBlank (l : Laid) : Type 0 where
+  pub index_kept : l.index_kept ≡ 0
+  pub blocks_kept : l.blocks_kept ≡ 0
+  pub index : l.index_more.items ≡ []
+  pub blocks : l.blocks_more.items ≡ []
+
 -- the pages of a file that is cleared, which is then none of these any more; or none
 pub data TakesLaid (cs : List Made) (ino : ℕ) (l : Laid) (cs' : List Made) : Type 0 where
   Kept : (at : ℕ) (m : Made) → position (λ x. x.ino == ino) cs ≡ Some at → slice_get cs at ≡ Some m → l ≡ m.laid → cs' ≡ remove cs at → TakesLaid cs ino l cs'

@@ -26,5 +26,5 @@ returns c =
           (subst (λ b. s2 ≡ record (fill c.args.dir c.args.name.now c.in-Some.ino c.args.kind b s) { room = s2.room }) c.new_body.ensures.body c.fill.ensures.kept);
       room = c.fill.ensures.room;
       number = n;
-      body = λ range. ap (body_of c.args.kind range) (sym c.new_body.ensures.body) ∙ c.new_body.ensures.read c.args.kind range;
+      body = λ range. ap (body_of c.args.kind range) (sym c.new_body.ensures.body) ∙ c.new_body.ensures.read c.args.kind range c.requires.kind;
     }

@@ -1,4 +1,4 @@
-use Rattle.trio_session.proofs.Words.{◌∙◌, ◌≡◌, Bool, Kept, List, Made, ap, eqb, refl, slice_get, sym}
+use Rattle.trio_session.proofs.Words.{◌∙◌, ◌≡◌, Bool, Kept, List, Made, ap, eqb, refl, slice_get, sym, subst, IsBlank}
 use Rattle.std.specs.Prelude.{None, Some}
 use Rattle.std.specs.List.{remove}
 use Rattle.trio_session.specs.inner.Found.{Fresh}
@@ -16,4 +16,5 @@ pub returns-in-None-clause-taken : goal.returns-in-None-clause-taken
 returns-in-None-clause-taken c =
     let p : Made → Bool = λ x. eqb x.ino c.args.ino in
     let none = position-same p c.args.cleared.now.items c.deref.result.now c.made_of.result None c.deref.ensures.value c.made_of.ensures c.in-None.is in
-    Fresh none c.new.ensures.index_kept c.new.ensures.blocks_kept c.new.ensures.index_more c.new.ensures.blocks_more refl
+    let blank : IsBlank c.replace.result = subst IsBlank (sym c.replace.ensures.value) c.requires in
+    Fresh none blank.index_kept blank.blocks_kept blank.index blank.blocks refl

@@ -1,12 +1,12 @@
-use Rattle.trio_session.proofs.Words.{if◌then◌else◌, ◌∙◌, ◌≡◌, Bool, Directory, HoldParts, Kind, List, Made, None, Some, ap, entry_count, eqb, eqb-true, is_directory, made_seen, option_copied, option_map, option_or, refl, slots_shown, subst, sym}
+use Rattle.trio_session.proofs.Words.{if◌then◌else◌, ◌∙◌, ◌≡◌, Bool, Directory, HoldParts, Kind, List, Made, None, Some, ap, entry_count, eqb, eqb-true, is_directory, made_seen, option_copied, option_map, option_or, refl, slots_shown, subst, sym, is_directory-true}
 use Rattle.trio_session.proofs.Found.{position-passes, position-same, slice_get-found}
 use Rattle.trio_session.proofs.Indexed.{dir_index, index_missing, open_shown}
 use Rattle.trio_session.proofs.Insides.{files_in, view_shows}
 use Rattle.trio_session.proofs.Seeing.{Shows, children_held, children_made, made_shown, made_there, open_made}
 use Rattle.trio_session.proofs.session.Session.children.Goals as goal
 
-pub returns-in_err-index_on-in-Directory : goal.returns-in_err-index_on-in-Directory
-returns-in_err-index_on-in-Directory c =
+pub returns-in_err-index_on-in-Some : goal.returns-in_err-index_on-in-Some
+returns-in_err-index_on-in-Some c =
     let s = c.self.inside in
     let fs = files_in s in
     let shows = subst (λ v. Shows v fs) c.self.view_is (view_shows s) in
@@ -14,12 +14,13 @@ returns-in_err-index_on-in-Directory c =
     let at = position-same p s.made.items c.deref.result.now c.made_of.result (Some c.in-Some.at) c.deref.ensures.value c.made_of.ensures c.in-Some.is in
     let m = c.index.result.now in
     let there = slice_get-found p s.made.items c.in-Some.at m at c.index.ensures in
-    absurd (index_missing c.args.self.now s c.args.ino c.index_on.result c.deref-in-Directory.result.now c.self.view_is
-    (c.requires (made_seen s.stock m) (made_shown c.args.self.now fs c.args.ino (Some (made_seen s.stock m)) shows (made_there s.stock s.made.items c.args.ino c.in-Some.at m at there)) c.in-Directory.is)
-    c.deref-in-Directory.ensures.value c.index_on.ensures c.in_err-index_on-in-Directory.was)
+    let directory = is_directory-true m.kind (sym c.is_directory.ensures ∙ c.if-is_directory.true) in
+    absurd (index_missing c.args.self.now s c.args.ino c.index_on.result c.deref-then-is_directory.result.now c.self.view_is
+    (c.requires (made_seen s.stock m) (made_shown c.args.self.now fs c.args.ino (Some (made_seen s.stock m)) shows (made_there s.stock s.made.items c.args.ino c.in-Some.at m at there)) directory)
+    c.deref-then-is_directory.ensures.value c.index_on.ensures c.in_err-index_on-in-Some.was)
 
-pub returns-in-Regular : goal.returns-in-Regular
-returns-in-Regular c =
+pub returns-else-is_directory : goal.returns-else-is_directory
+returns-else-is_directory c =
     let s = c.self.inside in
     let fs = files_in s in
     let shows = subst (λ v. Shows v fs) c.self.view_is (view_shows s) in
@@ -27,10 +28,10 @@ returns-in-Regular c =
     let at = position-same p s.made.items c.deref.result.now c.made_of.result (Some c.in-Some.at) c.deref.ensures.value c.made_of.ensures c.in-Some.is in
     let m = c.index.result.now in
     let there = slice_get-found p s.made.items c.in-Some.at m at c.index.ensures in
-    sym (children_made c.args.self.now fs c.args.ino c.in-Some.at m shows at there ∙ ap (λ k. Some (if is_directory k then entry_count (slots_shown c.args.self.now m.ino) else 0)) c.in-Regular.is)
+    sym (children_made c.args.self.now fs c.args.ino c.in-Some.at m shows at there ∙ ap (λ t. Some (if t then entry_count (slots_shown c.args.self.now m.ino) else 0)) (sym c.is_directory.ensures ∙ c.if-is_directory.false))
 
-pub returns-in_ok-index_on-in-Directory : goal.returns-in_ok-index_on-in-Directory
-returns-in_ok-index_on-in-Directory c =
+pub returns-in_ok-index_on-in-Some : goal.returns-in_ok-index_on-in-Some
+returns-in_ok-index_on-in-Some c =
     let s = c.self.inside in
     let fs = files_in s in
     let shows = subst (λ v. Shows v fs) c.self.view_is (view_shows s) in
@@ -38,11 +39,12 @@ returns-in_ok-index_on-in-Directory c =
     let at = position-same p s.made.items c.deref.result.now c.made_of.result (Some c.in-Some.at) c.deref.ensures.value c.made_of.ensures c.in-Some.is in
     let m = c.index.result.now in
     let there = slice_get-found p s.made.items c.in-Some.at m at c.index.ensures in
+    let directory = is_directory-true m.kind (sym c.is_directory.ensures ∙ c.if-is_directory.true) in
     let same = eqb-true m.ino c.args.ino (position-passes p s.made.items c.in-Some.at m at there) in
-    let shown = open_made c.args.self.now fs c.args.ino c.in-Some.at m shows at there ∙ ap Some c.in-Directory.is in
-    ap Some (c.len.ensures ∙ ap entry_count (dir_index c.args.self.now s c.args.ino c.index_on.result c.deref-in-Directory.result.now c.in_ok-index_on-in-Directory.field-0 c.self.view_is c.self.invariant
-    (open_shown c.args.self.now c.args.ino shown) c.deref-in-Directory.ensures.value c.index_on.ensures c.in_ok-index_on-in-Directory.was) ∙ ap (λ n. entry_count (slots_shown c.args.self.now n)) (sym same))
-    ∙ sym (children_made c.args.self.now fs c.args.ino c.in-Some.at m shows at there ∙ ap (λ k. Some (if is_directory k then entry_count (slots_shown c.args.self.now m.ino) else 0)) c.in-Directory.is)
+    let shown = open_made c.args.self.now fs c.args.ino c.in-Some.at m shows at there ∙ ap Some directory in
+    ap Some (c.len.ensures ∙ ap entry_count (dir_index c.args.self.now s c.args.ino c.index_on.result c.deref-then-is_directory.result.now c.in_ok-index_on-in-Some.field-0 c.self.view_is c.self.invariant
+    (open_shown c.args.self.now c.args.ino shown) c.deref-then-is_directory.ensures.value c.index_on.ensures c.in_ok-index_on-in-Some.was) ∙ ap (λ n. entry_count (slots_shown c.args.self.now n)) (sym same))
+    ∙ sym (children_made c.args.self.now fs c.args.ino c.in-Some.at m shows at there ∙ ap (λ k. Some (if is_directory k then entry_count (slots_shown c.args.self.now m.ino) else 0)) directory)
 
 pub returns-in_err-hold_on-in-None : goal.returns-in_err-hold_on-in-None
 returns-in_err-hold_on-in-None c =

@@ -126,7 +126,7 @@ invariant_of-self c =
     }) in
     let laid = slot_laid s b' n (with_part (256 * slot) (zeros 4) (page_in s.stock n)) is edit in
     let places : length ms'.items + length cs'.items ≤ vec_capacity cs' = (let le = is.5 in let m = gone.many in let q = c.remove_made.ensures.places in omega (arith, le, m, q)) in
-    (laid.0, laid.1, is.2, kept.0, kept.1, places)
+    (laid.0, laid.1, is.2, kept.0, kept.1, places, is.6)
 
 pub returns-clause-kept : goal.returns-clause-kept
 unfolding clear

@@ -1,16 +1,16 @@
-use Rattle.trio_session.proofs.Words.{◌<◌, ◌∙◌, ◌≡◌, ◌≤◌, Chain, CutDone, Home, IsRelaid, List, MadeFile, Parcel, Regular, SessionSeen, Some, ap, block_count, body_at, body_in, chain_at, chain_cut, chain_in, cut_file, home_in, is_some, length, length-map, made_seen, map, refl, size_in, subst, sym, with_chain, ℕ}
+use Rattle.trio_session.proofs.Words.{◌<◌, ◌∙◌, ◌≡◌, ◌≤◌, Chain, CutDone, Home, IsRelaid, List, MadeFile, Parcel, Regular, SessionSeen, Some, ap, block_count, body_at, body_in, chain_at, chain_cut, chain_in, cut_file, home_in, is_some, length, length-map, made_seen, map, refl, size_in, subst, sym, with_chain, ℕ, open_kind}
 use Rattle.trio_session.specs.Seen.{cut}
 use Rattle.trio_session.specs.contracts.session.Session.{the_view}
-use Rattle.trio_session.proofs.Chained.{IsAnew, kind_one, laid_relaid, made_many, relaid_as, relaid_edit, shown_anew}
+use Rattle.trio_session.proofs.Chained.{IsAnew, kind_shows, laid_relaid, made_many, relaid_as, relaid_edit, shown_anew}
 use Rattle.trio_session.proofs.Insides.{files_in, view_shows}
-use Rattle.trio_session.proofs.Opens.{has_file, is_there, leaves_place, made_left, pages_left, shows_view}
+use Rattle.trio_session.proofs.Opens.{has_file, is_there, leaves_place, made_left, pages_left, plain_kind, plain_some, shows_view}
 use Rattle.trio_session.proofs.Resized.{cut_leaves_files, kept_cut}
 use Rattle.trio_session.proofs.session.Session.cut.Goals as goal
 
 pub cut_one-requires-clause-there : goal.cut_one-requires-clause-there
 cut_one-requires-clause-there c =
     let s = c.self.inside in
-    is_there c.args.self.now (files_in s) c.args.ino (shows_view c.args.self.now s c.self.view_is) (ap is_some c.requires.open)
+    is_there c.args.self.now (files_in s) c.args.ino (shows_view c.args.self.now s c.self.view_is) (plain_some (open_kind c.args.self.now c.args.ino) c.requires.open)
 
 pub cut_one-requires-clause-may : goal.cut_one-requires-clause-may
 cut_one-requires-clause-may c = λ file l found.
@@ -30,9 +30,9 @@ invariant_of-self c =
     let ms' = c.cut_one.new.made.items in
     let shows = shows_view v s c.self.view_is in
     let leaves = cut_leaves_files b b' size s.laid.items ls' s.made.items ms' ino c.cut_one.ensures.relaid in
-    let there = is_there v (files_in s) ino shows (ap is_some c.requires.open) in
+    let there = is_there v (files_in s) ino shows (plain_some (open_kind v ino) c.requires.open) in
     let kept = kept_cut s.placed s.reads.items b b' s.laid.items ls' s.made.items ms' s.cleared.items s.dirs.items size ino c.self.invariant.0 c.self.invariant.3 c.self.invariant.4 c.cut_one.ensures.relaid
-    (kind_one v s.placed s.reads.items (files_in s) ino Regular shows c.self.invariant.0 c.self.invariant.3 there c.requires.open) in
+    (λ x one same. plain_kind (open_kind v ino) x.kind c.requires.open (kind_shows v s.placed s.reads.items (files_in s) ino shows c.self.invariant.0 c.self.invariant.3 there x one same)) in
     let chain = chain_cut (chain_in v ino) (block_count size) in
     let anew = relaid_as (CutDone b b' size) (IsAnew b b' chain) b s.laid.items ls' s.made.items ms' ino (λ file l l' found done. record {
       is = done.laid;
@@ -46,6 +46,7 @@ invariant_of-self c =
       kept.0,
       kept.1,
       rw (made_many (CutDone b b' size) b s.laid.items ls' s.made.items ms' ino c.cut_one.ensures.relaid) c.self.invariant.5,
+      c.self.invariant.6,
     )
 
 pub returns-clause-kept : goal.returns-clause-kept

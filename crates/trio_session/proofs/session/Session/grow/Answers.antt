@@ -4,7 +4,7 @@ use Rattle.trio_session.proofs.Insides.{files_in}
 use Rattle.trio_session.proofs.Opens.{has_file, is_there, may_grow, open_some, shows_view}
 use Rattle.trio_session.specs.Seen.{grown}
 use Rattle.trio_session.specs.contracts.session.Session.{the_view}
-use Rattle.trio_session.proofs.Chained.{IsAnew, made_many, relaid_as, relaid_edit, shown_anew}
+use Rattle.trio_session.proofs.Chained.{IsAnew, found_relaid, made_many, relaid_as, relaid_edit, shown_anew}
 use Rattle.trio_session.proofs.Chains.{blocks_length}
 use Rattle.trio_session.proofs.Growing.{IsGrowth, dir_place, growth_inside, growth_leaves, indexed_grown}
 use Rattle.trio_session.proofs.Opens.{leaves_place, made_left}
@@ -71,6 +71,9 @@ returns-clause-names c = λ i.
     names_told c.unwrap-kind.result (c.div_ceil.result - c.blocks_len.result) c.self.inside.dirs.items c.tell_growth.new.dirs.items c.args.ino c.args.ino c.self.invariant.4.once c.tell_growth.ensures
     (subst (λ (x : SessionSeen). In c.args.ino x.room.names) (sym c.self.view_is) i)
 
+pub returns-clause-next : goal.returns-clause-next
+returns-clause-next c = ap (λ (x : SessionSeen). x.room.next_blocks) c.self.view_is
+
 pub returns-clause-place : goal.returns-clause-place
 returns-clause-place c =
     let s = c.self.inside in
@@ -78,6 +81,40 @@ returns-clause-place c =
     let done = GrowDone s.stock b' c.args.size s.placed c.grow_one-self-inside.result in
     let many = made_many done s.stock s.laid.items c.grow_one-self-inside.new.laid.items s.made.items c.grow_one-self-inside.new.made.items c.args.ino c.grow_one-self-inside.ensures.relaid in
     leaves_place c.args.self.now s b' c.grow_one-self-inside.new.made c.self.view_is (length-map c.grow_one-self-inside.new.made.items (made_seen b') ∙ many) c.grow_one-self-inside.ensures.places
+
+pub returns-clause-sized : goal.returns-clause-sized
+returns-clause-sized c =
+    let s = c.self.inside in
+    let v = c.args.self.now in
+    let ino = c.args.ino in
+    let size = c.args.size in
+    let k = c.unwrap-kind.result in
+    let next = c.grow_one-self-inside.result in
+    let b' = c.grow_one-self-inside.new.stock in
+    let ls' = c.grow_one-self-inside.new.laid.items in
+    let ms' = c.grow_one-self-inside.new.made.items in
+    let ds' = c.tell_growth.new.dirs.items in
+    let on : IsFileOn v ino c.unwrap.result.0 c.unwrap.result.1.now = subst (λ o. FindsFile v ino (option_map (λ o. (o.0, o.1.now)) o)) c.unwrap.ensures c.file_on.ensures in
+    let len : length (chain_in v ino).blocks ≡ c.blocks_len.result =
+    ap (λ (ch : Chain). length ch.blocks) (sym on.chain) ∙ blocks_length v.parcel c.unwrap.result.0 c.unwrap.result.1.now on.is_file ∙ sym c.blocks_len.ensures in
+    let count : c.div_ceil.result ≡ block_count size = omega (arith, c.div_ceil.ensures) in
+    let more = c.div_ceil.result - c.blocks_len.result in
+    let g : IsGrowth v s ino size k next b' ls' ms' ds' more = record {
+      view = c.self.view_is;
+      is = c.self.invariant;
+      may = c.requires.open;
+      kind = sym c.open_kind.ensures ∙ c.unwrap-kind.ensures;
+      size_more = c.requires.size;
+      pages = c.requires.pages;
+      room = c.requires.room;
+      relaid = c.grow_one-self-inside.ensures.relaid;
+      many = ap (λ n. n - c.blocks_len.result) count ∙ ap (λ n. block_count size - n) (sym len);
+      told = c.tell_growth.ensures;
+    } in
+    let all = record s { stock = b'; laid = c.grow_one-self-inside.new.laid; made = c.grow_one-self-inside.new.made; dirs = c.tell_growth.new.dirs; placed = next } in
+    let f = found_relaid (GrowDone s.stock b' size s.placed next) s.stock b' s.laid.items ls' s.made.items ms' ino (growth_leaves v s ino size k next b' ls' ms' ds' more g) c.grow_one-self-inside.ensures.relaid in
+    let here = has_file (the_view all) all ino f.0 f.2 refl (growth_inside v s ino size k next b' ls' ms' ds' more g) f.3 in
+    ap size_in (sym here.body) ∙ f.4.sized
 
 pub returns-clause-kept : goal.returns-clause-kept
 unfolding grown

@@ -26,7 +26,7 @@ invariant_of-self-2 c =
     index_missing c.args.self.now s c.args.ino c.index_on.result c.deref.result.now c.self.view_is i c.deref.ensures.value c.index_on.ensures (not_found c.index_on.result (sym c.is_some.ensures ∙ c.if-is_some.false)) in
     let items : c.push_reserved.new.self.items ≡ s.dirs.items ++ (record { ino = c.args.ino; dir = c.in-Ok.dir }) ∷ [] =
     c.push_reserved.ensures.items ∙ ap (λ ds. ds ++ (record { ino = c.args.ino; dir = c.in-Ok.dir }) ∷ []) c.reserve.ensures.items in
-    (is.0, is.1, is.2, is.3, dirs_pushed c.args.self.now s (record { ino = c.args.ino; dir = c.in-Ok.dir }) c.push_reserved.new.self.items c.self.view_is is c.requires.directory new c.in-Ok.ensures.inodes c.in-Ok.ensures.slots items, is.5)
+    (is.0, is.1, is.2, is.3, dirs_pushed c.args.self.now s (record { ino = c.args.ino; dir = c.in-Ok.dir }) c.push_reserved.new.self.items c.self.view_is is c.requires.directory new c.in-Ok.ensures.inodes c.in-Ok.ensures.slots items, is.5, is.6)
 
 pub returns-clause-more : goal.returns-clause-more
 returns-clause-more c = λ n i.

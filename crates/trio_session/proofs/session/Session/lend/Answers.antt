@@ -1,4 +1,4 @@
-use Rattle.trio_session.proofs.Words.{◌<◌, ◌∙◌, ◌≡◌, ◌≤◌, AfterGrant, AreApart, AreDirs, AreLaid, AreMade, Denied, Grant, Granted, In, IsOn, Laid, Lent, List, NoGrant, NotLent, NotMade, OneCall, Parcel, SessionSeen, Shown, TellsGrant, ap, bundled, chains_laid, has_out, length, made_seen, map, parcel_of, reads_leased, refl, subst, sym, vec_capacity, with_lease, with_leased}
+use Rattle.trio_session.proofs.Words.{◌<◌, ◌∙◌, ◌≡◌, ◌≤◌, AfterGrant, AreApart, AreDirs, AreLaid, AreMade, Denied, Grant, Granted, In, IsOn, Laid, Lent, List, NoGrant, NotLent, NotMade, OneCall, Parcel, SessionSeen, Shown, TellsGrant, ap, bundled, chains_laid, has_out, length, made_seen, map, parcel_of, reads_leased, refl, subst, sym, vec_capacity, with_lease, with_leased, IsBlank}
 use Rattle.trio_desk.specs.Calls.{Made}
 use Rattle.std.specs.Prelude.{◌+◌}
 use Rattle.trio_session.proofs.Kept.{files_of}
@@ -57,7 +57,7 @@ invariant_of-self g c =
     let first : SessionSeen = the_view c.self.inside in
     let still : view p rs ls ≡ record s { room = room } = ap (λ (x : SessionSeen). record x { room = room }) c.self.view_is in
     let P : Parcel → List Shown → List Laid → Type 0 = λ x reads laid. AreLaid x laid × (c.self.inside.placed ≤ length x.pages) × (length c.self.inside.calls.items < 4294967296)
-    × AreMade c.self.inside.placed reads (files_of x laid ms cs) × AreDirs reads (files_of x laid ms cs) ds × (length ms + length cs ≤ vec_capacity c.self.inside.cleared) in
+    × AreMade c.self.inside.placed reads (files_of x laid ms cs) × AreDirs reads (files_of x laid ms cs) ds × (length ms + length cs ≤ vec_capacity c.self.inside.cleared) × IsBlank c.self.inside.next in
     subst (λ x. P x rs' ls') (sym now)
     (elim outcome [
       | Granted lease called seen' fresh lent cause kp kr kl ok ↦
@@ -67,7 +67,7 @@ invariant_of-self g c =
           let unused = unused_granted seen first c.args.ino lease (subst (IsOn seen) (sym c.self.view_is) on) fresh cause c.self.invariant.0.same in
           let both = kept_leased c.self.inside.placed rs p ls ls' ms cs ds lease c.args.ino seen.lib seen.sizes seen.out fresh kl unused c.self.invariant.0 c.self.invariant.3 c.self.invariant.4 apart in
           subst (λ x. P x rs' ls') (sym kp) (subst (λ xs. P (with_leased p lease) xs ls') (sym kr)
-          (lease_laid p ls ls' lease seen.lib c.args.ino seen.sizes seen.out fresh kl c.self.invariant.0, rw (lease_pages p lease) c.self.invariant.1, c.self.invariant.2, both.0, both.1, c.self.invariant.5))
+          (lease_laid p ls ls' lease seen.lib c.args.ino seen.sizes seen.out fresh kl c.self.invariant.0, rw (lease_pages p lease) c.self.invariant.1, c.self.invariant.2, both.0, both.1, c.self.invariant.5, c.self.invariant.6))
       | Denied fault called seen' holder cause kp kr kl err ↦ subst (λ x. P x rs' ls') (sym kp) (subst (λ xs. P p xs ls') (sym kr) (subst (P p rs) (sym kl) c.self.invariant))
       | NoPlace same kp kr kl err ↦ subst (λ x. P x rs' ls') (sym kp) (subst (λ xs. P p xs ls') (sym kr) (subst (P p rs) (sym kl) c.self.invariant))
     ])

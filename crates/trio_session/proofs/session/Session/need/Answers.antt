@@ -10,8 +10,8 @@ index-requires g c = may_read (g.D.Desk.seen c.args.desk.now) c.args.self.now c.
 pub index_dir-requires-clause-read : goal.index_dir-requires-clause-read
 index_dir-requires-clause-read g c = may_read (g.D.Desk.seen c.args.desk.now) c.args.self.now c.args.ino c.requires
 
-pub returns-in-Directory-clause-on : goal.returns-in-Directory-clause-on
-returns-in-Directory-clause-on g c = on_indexed (g.D.Desk.seen c.args.desk.now) c.args.self.now c.index_dir.new.self c.index_dir.ensures.kept c.requires
+pub returns-then-is_directory-clause-on : goal.returns-then-is_directory-clause-on
+returns-then-is_directory-clause-on g c = on_indexed (g.D.Desk.seen c.args.desk.now) c.args.self.now c.index_dir.new.self c.index_dir.ensures.kept c.requires
 
 pub index-requires-in-Ok : goal.index-requires-in-Ok
 index-requires-in-Ok g c = may_read (g.D.Desk.seen c.lend.new.desk) c.lend.new.self c.args.ino c.lend.ensures.on

@@ -1,11 +1,11 @@
-use Rattle.trio_session.proofs.Words.{◌*◌, ◌+◌, ◌/◌, ◌<◌, ◌∙◌, ◌≡◌, ◌≤◌, Chain, FilePlace, Kind, Laid, List, OneFile, Parcel, Regular, SessionSeen, Some, ap, arith, blocks_under, body_at, chain_at, chain_in, is_some, length, option_map, put_bytes, refl, size_in, subst, sym}
+use Rattle.trio_session.proofs.Words.{◌*◌, ◌+◌, ◌/◌, ◌<◌, ◌∙◌, ◌≡◌, ◌≤◌, Chain, FilePlace, Kind, Laid, List, OneFile, Parcel, Regular, SessionSeen, Some, ap, arith, blocks_under, body_at, chain_at, chain_in, is_some, length, option_map, put_bytes, refl, size_in, subst, sym, open_kind}
 use Rattle.trio_session.specs.Seen.{put}
 use Rattle.trio_session.specs.contracts.session.Session.{the_view}
 use Rattle.trio_session.proofs.Chains.{there_some}
 use Rattle.trio_session.proofs.Edited.{Keeps, blocks_keep}
 use Rattle.trio_session.proofs.Insides.{files_in}
 use Rattle.trio_session.proofs.Kept.{kept_put}
-use Rattle.trio_session.proofs.Opens.{finds_in, finds_some, found_at, has_file, pages_left, shows_view, view_left}
+use Rattle.trio_session.proofs.Opens.{finds_in, finds_some, found_at, has_file, pages_left, plain_kind, plain_some, shows_view, view_left}
 use Rattle.trio_session.proofs.Sessions.{laid_left, within_chain}
 use Rattle.trio_session.proofs.session.Session.put.Goals as goal
 
@@ -15,7 +15,7 @@ unwrap-file-requires c =
     let v = c.args.self.now in
     let ino = c.args.ino in
     let finds = finds_in s ino (option_map (λ o. (o.0, o.1.now)) c.file_among.result) c.deref.result.now c.deref-2.result.now c.deref.ensures.value c.deref-2.ensures.value c.file_among.ensures in
-    finds_some v (files_in s) ino c.file_among.result (shows_view v s c.self.view_is) finds (ap is_some c.requires.open)
+    finds_some v (files_in s) ino c.file_among.result (shows_view v s c.self.view_is) finds (plain_some (open_kind v ino) c.requires.open)
 
 pub size_of-size-requires-clause-there : goal.size_of-size-requires-clause-there
 size_of-size-requires-clause-there c =
@@ -91,11 +91,11 @@ invariant_of-self c =
     let within : at + length new ≤ size_in (body_at s.stock file) = subst (λ w. at + length new ≤ size_in w) (sym here.body) c.requires.within in
     let x = here.found.one in
     let same : chain_at s.stock x.file x.laid ≡ chain_at s.stock file l = ap (λ f. chain_at s.stock f x.laid) here.found.place ∙ ap (chain_at s.stock file) here.found.laid in
-    let regular : x.kind ≡ Regular = (let t : Some x.kind ≡ Some Regular = sym here.found.kind ∙ c.requires.open in cc t) in
+    let regular = plain_kind (open_kind v ino) x.kind c.requires.open here.found.kind in
     let kept = kept_put s.placed s.reads.items s.stock b' s.laid.items s.made.items s.cleared.items s.dirs.items x at new c.self.invariant.0 c.self.invariant.3 c.self.invariant.4 here.found.is regular
     (subst (λ (ch : Chain). at + length new ≤ 4096 * length ch.blocks) (sym same) (within_chain s.stock file l (at + length new) here.has within))
     (c.put_bytes.ensures ∙ ap (λ (ch : Chain). put_bytes ch.blocks at new s.stock) (sym same)) in
-    (laid_left s.stock b' s.laid.items keeps.leaves keeps.body c.self.invariant.0, rw (pages_left s.stock b' keeps.leaves) c.self.invariant.1, c.self.invariant.2, kept.0, kept.1, c.self.invariant.5)
+    (laid_left s.stock b' s.laid.items keeps.leaves keeps.body c.self.invariant.0, rw (pages_left s.stock b' keeps.leaves) c.self.invariant.1, c.self.invariant.2, kept.0, kept.1, c.self.invariant.5, c.self.invariant.6)
 
 pub returns : goal.returns
 unfolding put

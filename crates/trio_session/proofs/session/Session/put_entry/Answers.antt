@@ -108,7 +108,7 @@ invariant_of-self c =
     (c.fill_slot.ensures.fits c.requires.number) c.told-body edit
     (record { ino = refl; inodes = ap (λ (x : Index). x.inodes) c.add.ensures.added; slots = ap (λ (x : Index). x.slots) c.add.ensures.added }) in
     let laid = slot_laid s b' n (with_part (256 * slot) (entry_bytes e ++ body) (page_in s.stock n)) is edit in
-    (laid.0, laid.1, is.2, kept.0, kept.1, is.5)
+    (laid.0, laid.1, is.2, kept.0, kept.1, is.5, is.6)
 
 pub returns-clause-kept : goal.returns-clause-kept
 returns-clause-kept c =

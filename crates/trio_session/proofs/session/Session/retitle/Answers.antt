@@ -139,7 +139,7 @@ invariant_of-self c =
       slots = ap (λ (x : Index). x.slots) c.rename.ensures.renamed ∙ ap (λ o. with_slot o (Some c.args.new.now) d.dir.slots) spot;
     }) in
     let laid = slot_laid s b' n (with_part (256 * slot) (entry_bytes e') (page_in s.stock n)) is edit in
-    (laid.0, laid.1, is.2, kept.0, kept.1, is.5)
+    (laid.0, laid.1, is.2, kept.0, kept.1, is.5, is.6)
 
 pub returns-clause-kept : goal.returns-clause-kept
 unfolding retitle

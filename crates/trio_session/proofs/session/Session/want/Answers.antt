@@ -1,4 +1,4 @@
-use Rattle.trio_session.proofs.Words.{◌<◌, ◌∙◌, ◌≡◌, ◌≤◌, Allot, AreApart, AreDirs, AreLaid, AreMade, Gave, Given, In, IsOn, NotGiven, NotMade, OneCall, Parcel, Refused, SessionSeen, ap, arith, bundled, has_out, ino_numbers, length, length-append, page_numbers, parcel_of, refl, subst, sym, vec_capacity, with_given}
+use Rattle.trio_session.proofs.Words.{◌<◌, ◌∙◌, ◌≡◌, ◌≤◌, Allot, AreApart, AreDirs, AreLaid, AreMade, Gave, Given, In, IsOn, NotGiven, NotMade, OneCall, Parcel, Refused, SessionSeen, ap, arith, bundled, has_out, ino_numbers, length, length-append, page_numbers, parcel_of, refl, subst, sym, vec_capacity, with_given, IsBlank}
 use Rattle.trio_session.specs.inner.Giving.{Allots, Unasked}
 use Rattle.std.specs.Prelude.{◌+◌}
 use Rattle.trio_session.proofs.Allotted.{kept_given, view_given}
@@ -45,7 +45,7 @@ invariant_of-self g c =
     let now : c.replace-2.new.dest ≡ p' = c.replace-2.ensures.after ∙ c.of_parts.ensures in
     let on : IsOn seen c.args.self.now = c.requires in
     let P : Parcel → Type 0 = λ x. AreLaid x ls × (c.self.inside.placed ≤ length x.pages) × (length c.self.inside.calls.items < 4294967296) × AreMade c.self.inside.placed reads (files_of x ls ms cs)
-    × AreDirs reads (files_of x ls ms cs) ds × (length ms + length cs ≤ vec_capacity c.self.inside.cleared) in
+    × AreDirs reads (files_of x ls ms cs) ds × (length ms + length cs ≤ vec_capacity c.self.inside.cleared) × IsBlank c.self.inside.next in
     subst P (sym now)
     (elim (subst (λ q. Allots g.D.Desk.called g.D.Desk.seen c.args.desk.now c.args.pages c.args.inodes c.allot_into-answer.new.desk q p' c.allot_into-answer.result) old c.allot_into-answer.ensures) [
       | Gave given called seen' fresh wanted kept ok ↦
@@ -54,7 +54,7 @@ invariant_of-self g c =
           (λ n i. (on.out.pages n).1 (subst (λ (s : SessionSeen). In n (has_out s).pages) c.self.view_is i)) c.self.invariant.0.same in
           let both = kept_given c.self.inside.placed reads p ls ms cs given c.self.invariant.0 c.self.invariant.3 apart ds seen.lib seen.sizes seen.out fresh c.self.invariant.4 in
           let more : c.self.inside.placed ≤ length (with_given p given).pages = (let le = c.self.invariant.1 in let len = length-append p.pages given.pages.items in omega (arith, le, len)) in
-          subst P (sym kept) (given_laid p ls given c.self.invariant.0, more, c.self.invariant.2, both.0, both.1, c.self.invariant.5)
+          subst P (sym kept) (given_laid p ls given c.self.invariant.0, more, c.self.invariant.2, both.0, both.1, c.self.invariant.5, c.self.invariant.6)
       | Refused fault called seen' lack kept err ↦ subst P (sym kept) c.self.invariant
       | Unasked same kept err ↦ subst P (sym kept) c.self.invariant
     ])
