@@ -1,5 +1,5 @@
 -- One try of a change of mode, from its search on.
-use Rattle.trio_calls_dir.proofs.Words.{◌++◌, ◌<◌, ◌∙◌, ◌∷◌, ◌≡◌, ◌≢◌, ◌≤◌, Applied, AreAsked, ArePossible, Ask, At, BadMode, Busy, BusyGrant, BusyMode, Call, Calls, Chmod, ChmodTry, ComesSo, Creds, Denied, DeniedGrant, DeskSeen, Done, EndsBy, EndsHandedIn, EndsModed, Exists, Finds, Grant, HasNothing, HasReadsAlone, Holder, In, InAllShown, IntoItself, IsAlike, IsBusyWalk, IsChmod, IsDir, IsRefusal, IsRefusedAs, IsReplied, IsReply, IsRetold, LeavesBy, List, Made, MayCall, MayWalk, Mode, ModeFault, NamesOther, Needed, NoGrantMemory, NoInodes, NoMemory, NoModeMemory, NoSpace, NoWalkMemory, Nodes, NotDir, NotEmpty, NotFound, NotLent, NotLive, NotMade, NotOwner, NotSettled, OneCall, Option, OthersHold, Outcome, Parcel, Path, RefusesSo, Replied, Reply, Row, SameDesk, SessionSeen, Settled, Told, TooLarge, TriesCall, TryEnd, TryEnds, WalkEnd, Walked, [], alike_then, ap, append-nil, applied, arith, asked, batch_nodes, calls_then, chmod_needs, comes_of, cond, emptied, false, given_all, grant_ask, hand_in_ask, inl, inr, is_done, lent_call, lib_same, map, map-append, mode_ask, moment_possible, need_of, possible_then, refl, refused, served_by, shows_root, subst, sym, try_end, ℕ}
+use Rattle.trio_calls_dir.proofs.Words.{◌++◌, ◌<◌, ◌∙◌, ◌∷◌, ◌≡◌, ◌≢◌, ◌≤◌, Applied, AreAsked, ArePossible, Ask, At, BadMode, Busy, BusyGrant, BusyMode, Call, Calls, Chmod, ChmodTry, ComesSo, Creds, Denied, DeniedGrant, DeskSeen, Done, EndsBy, EndsHandedIn, EndsModed, Exists, Finds, Grant, HasNothing, HasReadsAlone, Holder, In, InAllShown, IntoItself, IsAlike, IsBusyWalk, IsChmod, IsDir, IsRefusal, IsRefusedAs, IsReplied, IsReply, IsRetold, LeavesBy, List, Made, MayCall, MayWalk, Mode, ModeFault, NamesOther, Needed, NoGrantMemory, NoInodes, NoMemory, NoModeMemory, NoSpace, NoWalkMemory, Nodes, NotDir, NotEmpty, NotFound, NotLent, NotLive, NotMade, NotOwner, NotSettled, OneCall, Option, OthersHold, Outcome, Parcel, Path, RefusesSo, Replied, Reply, Row, SameDesk, SessionSeen, Settled, Told, TooLarge, TriesCall, TryEnd, TryEnds, WalkEnd, Walked, [], alike_then, ap, append-nil, applied, arith, asked, batch_nodes, calls_then, chmod_needs, comes_of, cond, emptied, false, given_all, grant_ask, hand_in_ask, inl, inr, is_done, lent_call, lib_same, map, map-append, mode_ask, moment_possible, need_of, possible_then, refl, refused, served_by, shows_root, subst, sym, try_end, ℕ, IsLink, NotLink}
 use Rattle.trio_rights.specs.declared.rights.LibNo.{LibNo}
 use Rattle.trio_nodes.specs.After.{lacks_room}
 use Rattle.trio_desk.specs.Calls as desk_calls
@@ -32,6 +32,8 @@ refusal_room (IsReplied answer) r = absurd r
 refusal_room (NoSpace w f) r = absurd r
 refusal_room (NoInodes w f) r = absurd r
 refusal_room TooLarge r = absurd r
+refusal_room IsLink r = absurd r
+refusal_room NotLink r = absurd r
 
 -- nor that the call is done
 refusal_done : (reply : Reply) → IsRefusal reply → is_done reply ≡ false
@@ -46,6 +48,8 @@ refusal_done (IsReplied answer) r = absurd r
 refusal_done (NoSpace w f) r = absurd r
 refusal_done (NoInodes w f) r = absurd r
 refusal_done TooLarge r = absurd r
+refusal_done IsLink r = absurd r
+refusal_done NotLink r = absurd r
 
 -- a call that changes a mode, and that the tree refuses
 refused_as : (desk : DeskSeen) (now : Nodes) (path : Path) (mode : Mode) (reply : Reply) → IsRefusal reply → applied now desk.creds (Chmod path mode) 0 ≡ refused now reply → IsRefusedAs desk (Chmod path mode) reply now

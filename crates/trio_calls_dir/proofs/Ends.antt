@@ -1,5 +1,5 @@
 -- How a try ends by a refusal, or by a walk that comes to no file.
-use Rattle.trio_calls_dir.proofs.Words.{◌++◌, ◌<◌, ◌∙◌, ◌≡◌, AfterTry, AllotFault, AreAsked, ArePossible, Ask, AskedBy, At, Busy, Call, ComesBy, Creds, Denied, DeskSeen, Done, Err, Exists, Goes, InAllShown, IntoItself, IsAlike, IsBusyWalk, IsDir, IsNames, IsNotBusy, IsNumber, IsOfDir, IsRefusal, IsRefusedAs, IsReplied, IsReply, IsStopped, LacksMemory, LeavesHere, List, MatchResult, MayCall, MayWalk, Needed, NoAllotMemory, NoFreeInodes, NoInodes, NoMemory, NoPages, NoSpace, NoWalkMemory, Nodes, NotDir, NotEmpty, NotFound, Ok, Option, Outcome, Replied, Reply, Result, Row, SessionSeen, Stop, StopsBy, Target, Told, TooLarge, TryEnds, WalkEnd, Walked, Went, [], alike_room, allot_asks, allot_reply, ap, append-nil, append_assoc, applied, as_lent, asked, asked_beside, asks_from, batch_nodes, cond, false, grant_ask, inl, inr, is_done, length, lent_call, map, map-append, may_alike, need_of, noted, number_made, numbers_for, pages_for, refl, served_by, subst, sym, took, true, try_ends, wants_of, without_file}
+use Rattle.trio_calls_dir.proofs.Words.{◌++◌, ◌<◌, ◌∙◌, ◌≡◌, AfterTry, AllotFault, AreAsked, ArePossible, Ask, AskedBy, At, Busy, Call, ComesBy, Creds, Denied, DeskSeen, Done, Err, Exists, Goes, InAllShown, IntoItself, IsAlike, IsBusyWalk, IsDir, IsNames, IsNotBusy, IsNumber, IsOfDir, IsRefusal, IsRefusedAs, IsReplied, IsReply, IsStopped, LacksMemory, LeavesHere, List, MatchResult, MayCall, MayWalk, Needed, NoAllotMemory, NoFreeInodes, NoInodes, NoMemory, NoPages, NoSpace, NoWalkMemory, Nodes, NotDir, NotEmpty, NotFound, Ok, Option, Outcome, Replied, Reply, Result, Row, SessionSeen, Stop, StopsBy, Target, Told, TooLarge, TryEnds, WalkEnd, Walked, Went, [], alike_room, allot_asks, allot_reply, ap, append-nil, append_assoc, applied, as_lent, asked, asked_beside, asks_from, batch_nodes, cond, false, grant_ask, inl, inr, is_done, length, lent_call, map, map-append, may_alike, need_of, noted, number_made, numbers_for, pages_for, refl, served_by, subst, sym, took, true, try_ends, wants_of, without_file, IsLink, NotLink}
 use Rattle.trio_nodes.specs.Apply.{Apply}
 use Rattle.trio_nodes.specs.After.{call_nodes}
 use Rattle.trio_desk.specs.Calls as desk_calls
@@ -45,6 +45,8 @@ plain call (IsReplied answer) r = absurd r
 plain call (NoSpace w f) r = absurd r
 plain call (NoInodes w f) r = absurd r
 plain call TooLarge r = absurd r
+plain call IsLink r = absurd r
+plain call NotLink r = absurd r
 
 -- no target is known
 abbrev pub no_target : Target

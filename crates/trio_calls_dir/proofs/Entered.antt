@@ -1,5 +1,5 @@
 -- A call on one name, from its walk into the directory of its path on.
-use Rattle.trio_calls_dir.proofs.Words.{◌++◌, ◌∙◌, ◌∷◌, ◌≡◌, Ask, At, Call, ComesInto, Creds, Denied, DeskSeen, Directory, Goes, InAllShown, IsAlike, IsDir, IsHad, IsOpenDir, IsStopped, Kind, List, MayCall, MayWalk, Needed, Nodes, None, Option, Outcome, Path, Regular, Result, SessionSeen, Shown, Some, Stop, StopsBy, Told, WalkEnd, Walked, WalksInto, [], ap, batch_nodes, cond, dir_needs, dir_of, early_refusal, false, inl, into_needs, is_root, is_some, kind_for, need_at, needs_write, number_made, open_kind, option_map, option_or, reached_by, read_file, refl, removing, shows_root, subst, sym, true, try_ends, walk_into, write_paths, ℕ}
+use Rattle.trio_calls_dir.proofs.Words.{◌++◌, ◌∙◌, ◌∷◌, ◌≡◌, Ask, At, Call, ComesInto, Creds, Denied, DeskSeen, Directory, Goes, InAllShown, IsAlike, IsDir, IsHad, IsOpenDir, IsStopped, Kind, List, MayCall, MayWalk, Needed, Nodes, None, Option, Outcome, Path, Regular, Result, SessionSeen, Shown, Some, Stop, StopsBy, Told, WalkEnd, Walked, WalksInto, [], ap, batch_nodes, cond, dir_needs, dir_of, early_refusal, false, inl, into_needs, is_root, is_some, kind_for, need_at, needs_write, number_made, open_kind, option_map, option_or, reached_by, read_file, refl, removing, shows_root, subst, sym, true, try_ends, walk_into, write_paths, ℕ, Bool}
 use Rattle.trio_nodes.specs.declared.grant.GrantKind.TheVariants.{Write as ToWrite}
 use Rattle.trio_laws.specs.session.DirCalls.{name_path}
 use Rattle.trio_laws.proofs.session.DirCalls.{name_refused_by_walk}
@@ -14,9 +14,9 @@ pub record IsOneName (call : Call) (path : Path) : Type 0 where
   pub early : early_refusal call ≡ None
   pub writes : write_paths call ≡ dir_of path ∷ []
 
-pub removing_one : (kind : Kind) (path : Path) → is_root path ≡ false → IsOneName (removing kind path) path
-removing_one Directory path e = record { on = refl; early = ap (λ b. cond b (Some Denied) None) e; writes = refl }
-removing_one Regular path e = record { on = refl; early = ap (λ b. cond b (Some IsDir) None) e; writes = refl }
+pub removing_one : (of_dirs : Bool) (path : Path) → is_root path ≡ false → IsOneName (removing of_dirs path) path
+removing_one true path e = record { on = refl; early = ap (λ b. cond b (Some Denied) None) e; writes = refl }
+removing_one false path e = record { on = refl; early = ap (λ b. cond b (Some IsDir) None) e; writes = refl }
 
 -- a directory that is had for writing is open
 pub open_had : (s : SessionSeen) (dir : ℕ) → IsHad s dir ToWrite → IsOpenDir s dir

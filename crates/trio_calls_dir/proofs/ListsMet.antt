@@ -1,5 +1,5 @@
 -- A list of names at the file to which its walk came.
-use Rattle.trio_calls_dir.proofs.Words.{◌++◌, ◌<◌, ◌∙◌, ◌∷◌, ◌≡◌, ArePossible, AreWithinLimits, Ask, Bool, Busy, ComesHere, Creds, Denied, DeskSeen, Directory, Err, Goes, HasMet, HasRights, Holder, InAllShown, IsBusyWalk, IsMet, IsRefusal, IsRefusedAs, IsReplied, IsReply, Kind, LacksMemory, List, ListNames, MatchResult, MayCall, Met, Names, Needed, NoWalkMemory, Nodes, None, NotDir, Ok, Option, Path, Read, Regular, Replied, Reply, Result, Rights, Row, SessionSeen, Some, Stop, StopsBy, Target, ToRead, Told, Took, WalkEnd, Walked, Went, [], alike_room, allot_asks, ap, applied, asked, batch_nodes, body_shown, cond, drop, false, gives, gives_met, in_hand, inr, is_directory, is_done, is_some, kind_shown, length, lent_call, list_reply, listing_at, map, may_alike, met_refusal, names_here, need_of, node_at, not, noted, number_made, option_map, option_map_or, permits, refl, rights_in, rights_of, served_by, serves, subst, sym, take, true, try_ends, view_calls, walk, wants_of, ℕ}
+use Rattle.trio_calls_dir.proofs.Words.{◌++◌, ◌<◌, ◌∙◌, ◌∷◌, ◌≡◌, ArePossible, AreWithinLimits, Ask, Bool, Busy, ComesHere, Creds, Denied, DeskSeen, Directory, Err, Goes, HasMet, HasRights, Holder, InAllShown, IsBusyWalk, IsMet, IsRefusal, IsRefusedAs, IsReplied, IsReply, Kind, LacksMemory, List, ListNames, MatchResult, MayCall, Met, Names, Needed, NoWalkMemory, Nodes, None, NotDir, Ok, Option, Path, Read, Regular, Replied, Reply, Result, Rights, Row, SessionSeen, Some, Stop, StopsBy, Target, ToRead, Told, Took, WalkEnd, Walked, Went, [], alike_room, allot_asks, ap, applied, asked, batch_nodes, body_shown, cond, drop, false, gives, gives_met, in_hand, inr, is_directory, is_done, is_some, kind_shown, length, lent_call, list_reply, listing_at, map, may_alike, met_refusal, names_here, need_of, node_at, not, noted, number_made, option_map, option_map_or, permits, refl, rights_in, rights_of, served_by, serves, subst, sym, take, true, try_ends, view_calls, walk, wants_of, ℕ, is_directory-true}
 use Rattle.std.proofs.lemmas.Bool.{not-true}
 use Rattle.trio_desk.specs.Contents.{Sizes}
 use Rattle.trio_laws.specs.session.DirCalls.{list_refusal}
@@ -43,12 +43,8 @@ unrefused false g e = absurd (let wrong : Some NotDir ≡ None = e in cc wrong)
 pub may_take : (desk : DeskSeen) (s : SessionSeen) (m : Met) → met_refusal desk.creds m ≡ None → MayTake desk s m Read
 may_take desk s m e = (unrefused (is_directory m.kind) (gives_met desk.creds m ToRead) e).1
 
-directory_of : (k : Kind) → is_directory k ≡ true → k ≡ Directory
-directory_of Directory e = refl
-directory_of Regular e = absurd (cc e)
-
 pub unrefused_directory : (creds : Creds) (m : Met) → met_refusal creds m ≡ None → m.kind ≡ Directory
-unrefused_directory creds m e = directory_of m.kind (unrefused (is_directory m.kind) (gives_met creds m ToRead) e).0
+unrefused_directory creds m e = is_directory-true m.kind (unrefused (is_directory m.kind) (gives_met creds m ToRead) e).0
 
 -- ---- a check refuses
 

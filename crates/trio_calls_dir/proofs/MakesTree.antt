@@ -1,5 +1,5 @@
 -- A new file is put into an open directory: the nodes stay one tree.
-use Rattle.trio_calls_dir.proofs.Words.{◌∙◌, ◌≡◌, Bool, Child-find_named, DeskSeen, Directory, HasRights, In, IsDirectory, IsTree, IsView, List, MayEdit, MayShow, Node, Nodes, None, Option, Rights, Row, SessionSeen, Some, [], ap, bytes_now, case_in_hand, cond, false, find_named, in_hand, ino_numbers, is_among, made_file, map, naming_of, node_at, option_map, refl, rights_of, subst, sym, true, with_bytes, with_node, ℕ}
+use Rattle.trio_calls_dir.proofs.Words.{◌∙◌, ◌≡◌, Bool, Child-find_named, DeskSeen, Directory, HasRights, In, IsDirectory, IsTree, IsView, List, MayEdit, MayShow, Node, Nodes, None, Option, Rights, Row, SessionSeen, Some, [], ap, bytes_now, case_in_hand, cond, false, find_named, in_hand, ino_numbers, is_among, made_file, map, naming_of, node_at, option_map, refl, rights_of, subst, sym, true, with_judged, with_node, ℕ, guard_now}
 use Rattle.trio_onetree.proofs.Children.{found_live, path_found-is}
 use Rattle.trio_onetree.proofs.TreePut.{tree_put}
 use Rattle.trio_desk.specs.Ready.{bundle_of}
@@ -19,11 +19,11 @@ no_node_shown desk s n may nodes nodes' rows shows new none =
     let free : naming_of (case_in_hand desk rows (in_hand s)) n ≡ None =
     sym (named_alike desk.sizes desk.creds rows [] (bundle_of s.parcel) (map held_by s.parcel.holds) n) ∙ unnamed desk s (in_hand s) nodes nodes' rows n may v new none in
     shows.shows.each n
-    ∙ ap (λ q. option_map (with_bytes (bytes_now c n)) (node_left c n q (node_at nodes n))) free
-    ∙ ap (λ o. option_map (with_bytes (bytes_now c n)) (cond (is_among n c.bundle.holds) None o)) (shows.possible.none n new)
+    ∙ ap (λ q. option_map (with_judged (bytes_now c n) (guard_now c n)) (node_left c n q (node_at nodes n))) free
+    ∙ ap (λ o. option_map (with_judged (bytes_now c n) (guard_now c n)) (cond (is_among n c.bundle.holds) None o)) (shows.possible.none n new)
     ∙ by (is_among n c.bundle.holds)
   where
-    by : (t : Bool) → option_map (with_bytes (bytes_now (case_in_hand desk rows (in_hand s)) n)) (cond t None None) ≡ None
+    by : (t : Bool) → option_map (with_judged (bytes_now (case_in_hand desk rows (in_hand s)) n) (guard_now (case_in_hand desk rows (in_hand s)) n)) (cond t None None) ≡ None
     by true = refl
     by false = refl
 

@@ -1,5 +1,5 @@
 -- A file moves to another directory: how the try goes by the room that was made.
-use Rattle.trio_calls_dir.proofs.Words.{◌++◌, ◌<◌, ◌∙◌, ◌∷◌, ◌≡◌, AfterTry, Allot, AllotFault, ArePossible, Ask, AskedBy, Busy, Call, ComesAcross, ComesBy, ComesTo, Creds, DeskSeen, Done, Err, Goes, HasPlaces, In, InAllShown, IsAlike, IsDone, IsNumber, IsOpenDir, IsRename, IsReplied, Kind, LacksRoom, LeavesHere, List, MadeFile, MadeRoom, MayCall, MayMove, MayPut, Met, NoAllotMemory, NoFreeInodes, NoMemory, NoPages, NoSpace, Nodes, None, NotGiven, Ok, Option, Outcome, Path, Place, PutFile, Rename, Replied, Reply, Result, RoomEnds, SessionSeen, Some, TakesMore, Target, Told, TryEnds, Unlink, Wanted, [], alike_then, allot_asks, allot_reply, ap, append-nil, applied, arith, as_lent, asks_fault, asks_short, batch_nodes, both_dirs, clear, cond, dir_of, edited, empty_shown, eqb, false, fill, fill_alike, find_named, in_hand, inl, inr, is_done, is_some, length, made_by, map, may_alike, moved, moved_shown, moves_entry, name_of, ne_eqb, noted, number_made, option_map_or, pages_for, refl, retitle, short_ends, slot_growth, spare_numbers, spare_pages, subst, sym, told_fault, took, true, try_ends, walk_into, wants_of, with_slot, without_file, write_paths, ℕ}
+use Rattle.trio_calls_dir.proofs.Words.{◌++◌, ◌<◌, ◌∙◌, ◌∷◌, ◌≡◌, AfterTry, Allot, AllotFault, ArePossible, Ask, AskedBy, Busy, Call, ComesAcross, ComesBy, ComesTo, Creds, DeskSeen, Done, Err, Goes, HasPlaces, In, InAllShown, IsAlike, IsDone, IsNumber, IsOpenDir, IsRename, IsReplied, Kind, LacksRoom, LeavesHere, List, MadeFile, MadeRoom, MayCall, MayMove, MayPut, Met, NoAllotMemory, NoFreeInodes, NoMemory, NoPages, NoSpace, Nodes, None, NotGiven, Ok, Option, Outcome, Path, Place, PutFile, Rename, Replied, Reply, Result, RoomEnds, SessionSeen, Some, TakesMore, Target, Told, TryEnds, Unlink, Wanted, [], alike_then, allot_asks, allot_reply, ap, append-nil, applied, arith, as_lent, asks_fault, asks_short, batch_nodes, both_dirs, clear, cond, dir_of, edited, empty_shown, eqb, false, fill, fill_alike, find_named, in_hand, inl, inr, is_done, is_some, length, made_by, map, may_alike, moved, moved_shown, moves_entry, name_of, ne_eqb, noted, number_made, option_map_or, pages_for, refl, retitle, short_ends, slot_growth, spare_numbers, spare_pages, subst, sym, told_fault, took, true, try_ends, walk_into, wants_of, with_slot, without_file, write_paths, ℕ, new_pages, ◌+◌}
 use Rattle.trio_desk.specs.Calls as desk_calls
 use Rattle.trio_laws.proofs.session.DirCalls.{no_room_to_move}
 use Rattle.trio_calls_dir.proofs.EditDone.{as_done}
@@ -11,7 +11,11 @@ use Rattle.trio_calls_dir.proofs.Then.{all_then, edited_alike}
 use Rattle.trio_edit_laws.proofs.WithSlot.{no_length}
 
 module _ {D : Type 0} (called : D → Ask → Told → D → Type 0) (seen : D → DeskSeen) (d : D) (s : SessionSeen) (call : Call) (from to : Path) (dir new_dir : ℕ) (file : Met) (r : IsRename call from to) (m : MayMove (seen d) s call from to dir new_dir file)
-    (d' : D) (s1 : SessionSeen) (result : Result Unit AllotFault) (q : MadeRoom called seen d s new_dir 0 result d' s1) where
+    (d' : D) (s1 : SessionSeen) (result : Result Unit AllotFault) (q : MadeRoom called seen d s new_dir 0 0 result d' s1) where
+  -- the pages that are wanted: none of a new file
+  no_more : slot_growth s new_dir + new_pages 0 ≡ slot_growth s new_dir
+  no_more = omega arith
+
   abbrev w : Wanted called seen d s q.given q.last d' s1
   w = q.wanted
 
@@ -111,9 +115,9 @@ module _ {D : Type 0} (called : D → Ask → Told → D → Type 0) (seen : D �
       no_room_to_move (seen d') (record { call = call; reply = reply; made = 0 }) (batch_nodes (seen d').creds s1.calls nodes) from to dir new_dir file.ino (comes1 nodes rows p) (named1 nodes rows p) (free1 nodes rows p) lacks refl)
 
   pub lacked_goes : (fault : AllotFault) → result ≡ Err fault → Goes called seen d s call (λ now. []) (try_ends (without_file (allot_reply fault))) (number_made (without_file (allot_reply fault))) d' s1
-  lacked_goes fault is = by fault (subst (λ x. RoomEnds new_dir (slot_growth s new_dir) 0 q.given q.last x all s1) is q.ends)
+  lacked_goes fault is = by fault (subst (λ x. RoomEnds (seen d') new_dir 0 (slot_growth s new_dir) 0 q.given q.last x all s1) is (subst (λ k. RoomEnds (seen d') new_dir 0 k 0 q.given q.last result all s1) no_more q.ends))
     where
-      by : (f : AllotFault) → RoomEnds new_dir (slot_growth s new_dir) 0 q.given q.last (Err f) (took s (map (λ (c : desk_calls.Call). c.told) q.given)) s1
+      by : (f : AllotFault) → RoomEnds (seen d') new_dir 0 (slot_growth s new_dir) 0 q.given q.last (Err f) (took s (map (λ (c : desk_calls.Call). c.told) q.given)) s1
           → Goes called seen d s call (λ now. []) (try_ends (without_file (allot_reply f))) (number_made (without_file (allot_reply f))) d' s1
       by (NoPages wanted free) x =
           let told = told_fault (slot_growth s new_dir) 0 q.given q.last s1 (NoPages wanted free) x.0 (λ e. absurd (cc e)) in
@@ -134,17 +138,17 @@ module _ {D : Type 0} (called : D → Ask → Told → D → Type 0) (seen : D �
   -- ---- there is room
 
   module _ (is : result ≡ Ok tt) where
-    ends : RoomEnds new_dir (slot_growth s new_dir) 0 q.given q.last (Ok tt) (took s (map (λ (c : desk_calls.Call). c.told) q.given)) s1
-    ends = subst (λ x. RoomEnds new_dir (slot_growth s new_dir) 0 q.given q.last x all s1) is q.ends
+    ends : RoomEnds (seen d') new_dir 0 (slot_growth s new_dir) 0 q.given q.last (Ok tt) (took s (map (λ (c : desk_calls.Call). c.told) q.given)) s1
+    ends = subst (λ x. RoomEnds (seen d') new_dir 0 (slot_growth s new_dir) 0 q.given q.last x all s1) is (subst (λ k. RoomEnds (seen d') new_dir 0 k 0 q.given q.last result all s1) no_more q.ends)
 
-    places : HasPlaces s1 new_dir
+    places : HasPlaces s1 new_dir 0
     places = ends.5
 
     no_numbers : spare_numbers s1 ≡ []
     no_numbers = no_length (spare_numbers s1) ends.4.many
 
     may2 : MayCall (seen d') s1
-    may2 = may1 ends.3 no_numbers
+    may2 = may1 (no_length (spare_pages s1) ends.3) no_numbers
 
     open_stays : (n : ℕ) → IsOpenDir s n → IsOpenDir s1 n
     open_stays n o = record { directory = w.stays.opens n ∙ o.directory; index = subst (λ l. In n l) (sym w.stays.indexed) o.index }

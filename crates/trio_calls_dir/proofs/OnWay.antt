@@ -1,5 +1,5 @@
 -- The grants that a walk into a directory needs are of directories on the way to it.
-use Rattle.trio_calls_dir.proofs.Words.{◌++◌, ◌+◌, ◌||◌, ◌∙◌, ◌∷◌, ◌≡◌, Bool, Creds, Denied, Err, Exists, GrantKind, In, In-cases, IntoItself, IsAt, IsDir, IsReplied, IsTree, List, Need, Needed, NoInodes, NoSpace, Nodes, None, NotDir, NotEmpty, NotFound, Ok, Option, Path, Reply, Result, Some, TooLarge, [], and_then, ap, append-nil, append_assoc, arith, cond, enter, eqb, false, find_named, in_order, inl, inr, into_needs, kind_for, length, ne_eqb, need_at, node_at, not, ok_or, one_path, reached_by, refl, subst, sym, true, walk, walk_into, walk_needs, ℕ}
+use Rattle.trio_calls_dir.proofs.Words.{◌++◌, ◌+◌, ◌||◌, ◌∙◌, ◌∷◌, ◌≡◌, Bool, Creds, Denied, Err, Exists, GrantKind, In, In-cases, IntoItself, IsAt, IsDir, IsReplied, IsTree, List, Need, Needed, NoInodes, NoSpace, Nodes, None, NotDir, NotEmpty, NotFound, Ok, Option, Path, Reply, Result, Some, TooLarge, [], and_then, ap, append-nil, append_assoc, arith, cond, enter, eqb, false, find_named, in_order, inl, inr, into_needs, kind_for, length, ne_eqb, need_at, node_at, not, ok_or, one_path, reached_by, refl, subst, sym, true, walk, walk_into, walk_needs, ℕ, IsLink, NotLink}
 use Rattle.std.proofs.lemmas.List.{length-append}
 use Rattle.trio_nodes.specs.Walk.{walk_from}
 use Rattle.trio_walk.specs.Needs.{entered_needs, found_needs, needs_from, needs_if}
@@ -36,6 +36,8 @@ module _ (now : Nodes) (creds : Creds) (shown : Bool) (writes : List Path) where
   on_entered path rest names at kind a w (Err (NoSpace m k)) f later x i = absurd i
   on_entered path rest names at kind a w (Err (NoInodes m k)) f later x i = absurd i
   on_entered path rest names at kind a w (Err TooLarge) f later x i = absurd i
+  on_entered path rest names at kind a w (Err IsLink) f later x i = absurd i
+  on_entered path rest names at kind a w (Err NotLink) f later x i = absurd i
 
   on_found : (path : Path) (o : Option ℕ) (f : ℕ → List Needed) → ((child : ℕ) → o ≡ Some child → (x : Needed) → In x (f child) → IsOnWay now path x) → (x : Needed) → In x (found_needs o f) → IsOnWay now path x
   on_found path None f later x i = absurd i
@@ -118,6 +120,8 @@ module _ (now : Nodes) (tree : IsTree now) (creds : Creds) (writes : List Path) 
   entered_alike at kind (Err (NoSpace m k)) f g low later = refl
   entered_alike at kind (Err (NoInodes m k)) f g low later = refl
   entered_alike at kind (Err TooLarge) f g low later = refl
+  entered_alike at kind (Err IsLink) f g low later = refl
+  entered_alike at kind (Err NotLink) f g low later = refl
 
   found_alike : (o : Option ℕ) (f g : ℕ → List Needed) → ((child : ℕ) → o ≡ Some child → f child ≡ g child) → found_needs o f ≡ found_needs o g
   found_alike None f g later = refl

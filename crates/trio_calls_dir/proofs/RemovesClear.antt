@@ -1,5 +1,5 @@
 -- A file that is had goes with its slot, where it has no entries.
-use Rattle.trio_calls_dir.proofs.Words.{◌+◌, ◌<◌, ◌∙◌, ◌∷◌, ◌≡◌, ArePossible, Ask, Bool, Call, Changes, ComesBy, ComesInto, ComesTo, Creds, DeskSeen, Directory, DoesCall, Done, Err, Goes, HoldParts, InAllShown, IsAlike, IsDir, IsDirectory, IsDone, IsRefusedAs, IsReplied, IsTree, Kind, LacksMemory, LeavesCleared, List, MadeFile, MatchResult, MayCall, MayShow, Met, Node, Nodes, None, NotDir, NotEmpty, Ok, Option, Path, Regular, Replied, Reply, Result, Rmdir, Room, Row, SessionSeen, Some, StaysTree, Stop, Target, Told, Unlink, [], alike_room, alike_then, ap, applied, arith, batch_nodes, cases_eq, clear, clear_leaves, cond, count_in, dir_of, edited, entry_count, eqb, eqb-true, false, false≢true, find-In, find_named, find_named-Child, held_file, in_hand, inl, inr, is_directory, is_done, is_in, is_some, length, ltb, made_by, made_file, may_alike, name_of, node_at, not, noted, number_made, open_kind, option_map, option_or, place_shown, refl, refused_at_entry, removing, rights_of, sees_directory, shown_by, slots_shown, some_one, subst, suc, sym, true, try_ends, walk_into, wants_of, with_node, write_paths, written_file, zero, ℕ}
+use Rattle.trio_calls_dir.proofs.Words.{◌+◌, ◌<◌, ◌∙◌, ◌∷◌, ◌≡◌, ArePossible, Ask, Bool, Call, Changes, ComesBy, ComesInto, ComesTo, Creds, DeskSeen, Directory, DoesCall, Done, Err, Goes, HoldParts, InAllShown, IsAlike, IsDir, IsDirectory, IsDone, IsRefusedAs, IsReplied, IsTree, Kind, LacksMemory, LeavesCleared, List, MadeFile, MatchResult, MayCall, MayShow, Met, Node, Nodes, None, NotDir, NotEmpty, Ok, Option, Path, Regular, Replied, Reply, Result, Rmdir, Room, Row, SessionSeen, Some, StaysTree, Stop, Target, Told, Unlink, [], alike_room, alike_then, ap, applied, arith, batch_nodes, cases_eq, clear, clear_leaves, cond, count_in, dir_of, edited, entry_count, eqb, eqb-true, false, false≢true, find-In, find_named, find_named-Child, held_file, in_hand, inl, inr, is_directory, is_done, is_in, is_some, length, ltb, made_by, made_file, may_alike, name_of, node_at, not, noted, number_made, open_kind, option_map, option_or, place_shown, refl, refused_at_entry, removing, rights_of, sees_directory, shown_by, slots_shown, some_one, subst, suc, sym, true, try_ends, walk_into, wants_of, with_node, write_paths, written_file, zero, ℕ, Link, is_directory-false, kind_cases, ◌⊎◌}
 use Rattle.trio_walk.proofs.Ways.{passes_by}
 use Rattle.std.proofs.Common.{ltb-false}
 use Rattle.std.specs.Prelude.{count_by}
@@ -43,9 +43,9 @@ some_above k some = by (ltb 0 k) refl
     by true e = refl
     by false e = (let none = ltb-false 0 k e in absurd (omega (arith, none, some)))
 
--- a regular file has no entries
-regular_leaf : (nodes : Nodes) → IsTree nodes → (n : ℕ) (x : Node) → node_at nodes n ≡ Some x → x.kind ≡ Regular → (m : ℕ) (z : Node) → node_at nodes m ≡ Some z → z.parent ≡ n → ⊥
-regular_leaf nodes tree n x at kind m z there parent =
+-- what is no directory has no entries
+file_leaf : (nodes : Nodes) → IsTree nodes → (n : ℕ) (x : Node) → node_at nodes n ≡ Some x → is_directory x.kind ≡ false → (m : ℕ) (z : Node) → node_at nodes m ≡ Some z → z.parent ≡ n → ⊥
+file_leaf nodes tree n x at kind m z there parent =
     elim (cases_eq m 1) [
       | inl one ↦
           let r = tree.root in
@@ -55,17 +55,20 @@ regular_leaf nodes tree n x at kind m z there parent =
       | inr other ↦
           let is : IsDirectory (node_at nodes n) = subst (λ k. IsDirectory (node_at nodes k)) parent (tree.parents m z there other) in
           let directory : x.kind ≡ Directory = subst IsDirectory at is in
-          let wrong : Regular ≡ Directory = sym kind ∙ directory in cc wrong
+          is_directory-false x.kind kind directory
     ]
 
 -- ---- what the call does to the file
 
-does_remove : (desk : DeskSeen) (kind : Kind) (path : Path) (now : Nodes) (dir n : ℕ) (x : Node) → ComesInto now desk.creds (removing kind path) path dir → find_named now dir (name_of path) ≡ Some n
-    → node_at now n ≡ Some x → x.kind ≡ kind → (kind ≡ Directory → count_in now n ≡ 0) → DoesCall desk (record { call = removing kind path; reply = IsReplied IsDone; made = 0 }) now (with_node now n None)
+does_remove : (desk : DeskSeen) (kind : Kind) (path : Path) (now : Nodes) (dir n : ℕ) (x : Node) → ComesInto now desk.creds (removing (is_directory kind) path) path dir → find_named now dir (name_of path) ≡ Some n
+    → node_at now n ≡ Some x → x.kind ≡ kind → (kind ≡ Directory → count_in now n ≡ 0) → DoesCall desk (record { call = removing (is_directory kind) path; reply = IsReplied IsDone; made = 0 }) now (with_node now n None)
 does_remove desk Directory path now dir n x comes found at is none =
     removes_entry desk (record { call = Rmdir path; reply = IsReplied IsDone; made = 0 }) now path dir n (rights_of x) 0 comes refl found (ap (option_map rights_of) at) (none refl)
     (ap (λ k. cond {A = Option Reply} (not (is_directory k)) (Some NotDir) None) is) refl refl
 does_remove desk Regular path now dir n x comes found at is none =
+    removes_entry desk (record { call = Unlink path; reply = IsReplied IsDone; made = 0 }) now path dir n (rights_of x) (count_in now n) comes refl found (ap (option_map rights_of) at) refl
+    (ap (λ k. cond {A = Option Reply} (is_directory k) (Some IsDir) None) is) refl refl
+does_remove desk Link path now dir n x comes found at is none =
     removes_entry desk (record { call = Unlink path; reply = IsReplied IsDone; made = 0 }) now path dir n (rights_of x) (count_in now n) comes refl found (ap (option_map rights_of) at) refl
     (ap (λ k. cond {A = Option Reply} (is_directory k) (Some IsDir) None) is) refl refl
 
@@ -76,29 +79,29 @@ refuses_full desk path now dir n count x comes found at is many some =
     refused_at_entry desk (record { call = Rmdir path; reply = NotEmpty; made = 0 }) now path dir n (rights_of x) count comes found (ap (option_map rights_of) at) many
     (ap (λ k. cond {A = Option Reply} (not (is_directory k)) (Some NotDir) (cond (ltb 0 count) (Some NotEmpty) None)) is ∙ ap (λ b. cond {A = Option Reply} b (Some NotEmpty) None) (some_above count some)) refl
 
-leaves_kind : (kind : Kind) (path : Path) (creds : Creds) (t : Target) (s : SessionSeen) → edited creds (removing kind path) t s ≡ clear t.dir (name_of path) s
-leaves_kind Directory path creds t s = refl
-leaves_kind Regular path creds t s = refl
+leaves_kind : (of_dirs : Bool) (path : Path) (creds : Creds) (t : Target) (s : SessionSeen) → edited creds (removing of_dirs path) t s ≡ clear t.dir (name_of path) s
+leaves_kind true path creds t s = refl
+leaves_kind false path creds t s = refl
 
-made_none : (kind : Kind) (path : Path) (s : SessionSeen) → ◌≡◌ {A = ℕ} 0 (made_by (removing kind path) s)
-made_none Directory path s = refl
-made_none Regular path s = refl
+made_none : (of_dirs : Bool) (path : Path) (s : SessionSeen) → ◌≡◌ {A = ℕ} 0 (made_by (removing of_dirs path) s)
+made_none true path s = refl
+made_none false path s = refl
 
-wants_kind : (kind : Kind) (path : Path) (now : Nodes) (creds : Creds) (t : Target) (s : SessionSeen) → wants_of now creds (removing kind path) t s ≡ []
-wants_kind Directory path now creds t s = by (is_done (applied now creds (Rmdir path) 0).reply)
+wants_kind : (of_dirs : Bool) (path : Path) (now : Nodes) (creds : Creds) (t : Target) (s : SessionSeen) → wants_of now creds (removing of_dirs path) t s ≡ []
+wants_kind true path now creds t s = by (is_done (applied now creds (Rmdir path) 0).reply)
   where
     by : (b : Bool) → cond {A = List Ask} b [] [] ≡ []
     by true = refl
     by false = refl
-wants_kind Regular path now creds t s = by (is_done (applied now creds (Unlink path) 0).reply)
+wants_kind false path now creds t s = by (is_done (applied now creds (Unlink path) 0).reply)
   where
     by : (b : Bool) → cond {A = List Ask} b [] [] ≡ []
     by true = refl
     by false = refl
 
-comes_kind : (kind : Kind) (path : Path) (now : Nodes) (creds : Creds) (t : Target) → walk_into now creds (write_paths (removing kind path)) (dir_of path) ≡ Ok t.dir → ComesTo t now creds (removing kind path)
-comes_kind Directory path now creds t e = e
-comes_kind Regular path now creds t e = e
+comes_kind : (of_dirs : Bool) (path : Path) (now : Nodes) (creds : Creds) (t : Target) → walk_into now creds (write_paths (removing of_dirs path)) (dir_of path) ≡ Ok t.dir → ComesTo t now creds (removing of_dirs path)
+comes_kind true path now creds t e = e
+comes_kind false path now creds t e = e
 
 module _ (desk : DeskSeen) (s : SessionSeen) (call : Call) (path : Path) (dir : ℕ) (file : Met) (m : MayClear desk s call path dir file) where
   abbrev shown_at : Nodes → Nodes
@@ -158,9 +161,9 @@ module _ (desk : DeskSeen) (s : SessionSeen) (call : Call) (path : Path) (dir : 
             ∙ sym (ap (λ q. cond (is_directory q) (entry_count (slots_shown s f.ino)) 0) kind)
             ∙ made_has f e
 
-    -- and a regular file none
-    regular_has : file.kind ≡ Regular → 0 < k → InAllShown desk s (λ now. ⊥)
-    regular_has is some nodes rows p = by (made_file s file.ino) refl
+    -- and any other file none
+    file_has : is_directory file.kind ≡ false → 0 < k → InAllShown desk s (λ now. ⊥)
+    file_has is some nodes rows p = by (made_file s file.ino) refl
       where
         by : (o : Option MadeFile) → made_file s file.ino ≡ o → ⊥
         by None e =
@@ -174,20 +177,20 @@ module _ (desk : DeskSeen) (s : SessionSeen) (call : Call) (path : Path) (dir : 
                 → (x : Node) × (node_at (shown_at nodes) file.ino ≡ Some x) × (x.kind ≡ file.kind) → ⊥
             child n None at t tree x = false≢true (sym (ap (is_in file.ino) at) ∙ t)
             child n (Some z) at t tree x =
-                regular_leaf (shown_at nodes) tree file.ino x.0 x.1 (x.2 ∙ is) n z at (eqb-true z.parent file.ino (sym (ap (is_in file.ino) at) ∙ t))
+                file_leaf (shown_at nodes) tree file.ino x.0 x.1 (ap is_directory x.2 ∙ is) n z at (eqb-true z.parent file.ino (sym (ap (is_in file.ino) at) ∙ t))
         by (Some f) e =
-            let kind : f.kind ≡ Regular = made_kind f e nodes rows p ∙ is in
-            let none : ◌≡◌ {A = ℕ} 0 k = sym (ap (λ q. cond (is_directory q) (entry_count (slots_shown s f.ino)) 0) kind) ∙ made_has f e in
+            let kind : is_directory f.kind ≡ false = ap is_directory (made_kind f e nodes rows p) ∙ is in
+            let none : ◌≡◌ {A = ℕ} 0 k = sym (ap (λ q. cond q (entry_count (slots_shown s f.ino)) 0) kind) ∙ made_has f e in
             omega (arith, none, some)
 
     -- a file that has entries isn't removed
     full : 0 < k → InAllShown desk s (IsRefusedAs desk call NotEmpty)
-    full some nodes rows p = by file.kind refl
+    full some nodes rows p = by (kind_cases file.kind)
       where
-        by : (q : Kind) → file.kind ≡ q → IsRefusedAs desk call NotEmpty (shown_at nodes)
-        by Regular is = absurd (regular_has is some nodes rows p)
-        by Directory is =
-            let call_is : call ≡ Rmdir path = m.call ∙ ap (λ q. removing q path) is in
+        by : (file.kind ≡ Directory) ⊎ (is_directory file.kind ≡ false) → IsRefusedAs desk call NotEmpty (shown_at nodes)
+        by (inr is) = absurd (file_has is some nodes rows p)
+        by (inl is) =
+            let call_is : call ≡ Rmdir path = m.call ∙ ap (λ q. removing (is_directory q) path) is in
             let x = m.node nodes rows p in
             subst (λ (c : Call). IsRefusedAs desk c NotEmpty (shown_at nodes)) (sym call_is)
             (refuses_full desk path (shown_at nodes) dir file.ino k x.0 (subst (λ (c : Call). ComesInto (shown_at nodes) desk.creds c path dir) call_is (m.comes nodes rows p)) (m.named nodes rows p) x.1 (x.2 ∙ is)
@@ -197,15 +200,15 @@ module _ (desk : DeskSeen) (s : SessionSeen) (call : Call) (path : Path) (dir : 
 
   module _ (children : children_shown s file.ino ≡ Some 0) where
     leaf : InAllShown desk s (λ now. (n : ℕ) (z : Node) → node_at now n ≡ Some z → z.parent ≡ file.ino → ⊥)
-    leaf nodes rows p n z at parent = by file.kind refl
+    leaf nodes rows p n z at parent = by (kind_cases file.kind)
       where
-        by : (q : Kind) → file.kind ≡ q → ⊥
-        by Directory is =
+        by : (file.kind ≡ Directory) ⊎ (is_directory file.kind ≡ false) → ⊥
+        by (inl is) =
             let none = dir_has 0 children is nodes rows p in
             let some = child-counts (shown_at nodes) file.ino n z at parent in omega (arith, none, some)
-        by Regular is =
+        by (inr is) =
             let x = m.node nodes rows p in
-            regular_leaf (shown_at nodes) (shown_now nodes rows p).2.tree file.ino x.0 x.1 (x.2 ∙ is) n z at parent
+            file_leaf (shown_at nodes) (shown_now nodes rows p).2.tree file.ino x.0 x.1 (ap is_directory x.2 ∙ is) n z at parent
 
     -- the root isn't removed
     not_root : InAllShown desk s (λ now. file.ino ≡ 1 → ⊥)
@@ -286,17 +289,17 @@ module _ {D : Type 0} (called : D → Ask → Told → D → Type 0) (seen : D �
       last = [];
       passes = passes_by called seen d s s3 calls3 back3;
       ends = refl;
-      leaves = subst (λ (q : SessionSeen). IsAlike q s3) (sym (ap (λ (c : Call). edited creds c target s) m.call ∙ leaves_kind file.kind path creds target s)) near;
-      numbered = made_none file.kind path s ∙ sym (ap (λ (c : Call). made_by c s) m.call);
+      leaves = subst (λ (q : SessionSeen). IsAlike q s3) (sym (ap (λ (c : Call). edited creds c target s) m.call ∙ leaves_kind (is_directory file.kind) path creds target s)) near;
+      numbered = made_none (is_directory file.kind) path s ∙ sym (ap (λ (c : Call). made_by c s) m.call);
       comes =
           over3 (λ now. ComesBy (Replied (IsReplied IsDone)) target now (seen d).creds call)
           (λ nodes rows p h.
           let now : Nodes = batch_nodes (seen d).creds s.calls nodes in
           subst (λ (c : Call). ComesTo target now creds c) (sym m.call)
-          (comes_kind file.kind path now creds target (subst (λ (c : Call). walk_into now creds (write_paths c) (dir_of path) ≡ Ok dir) m.call (m.comes nodes rows p).into)));
+          (comes_kind (is_directory file.kind) path now creds target (subst (λ (c : Call). walk_into now creds (write_paths c) (dir_of path) ≡ Ok dir) m.call (m.comes nodes rows p).into)));
       asks = λ nodes rows p.
           let now : Nodes = batch_nodes creds s3.calls nodes in
-          ap (λ (c : Call). wants_of now creds c target s) m.call ∙ wants_kind file.kind path now creds target s;
+          ap (λ (c : Call). wants_of now creds c target s) m.call ∙ wants_kind (is_directory file.kind) path now creds target s;
       after = (
         may_alike (seen d) (noted call (IsReplied IsDone) 0 (clear dir (name_of path) s)) (noted call (IsReplied IsDone) 0 s3) (ap (noted call (IsReplied IsDone) 0) near)
             (may_noted (seen d) s call path dir file m children),

@@ -1,5 +1,5 @@
 -- How many entries a held directory has: as many as its hold tells.
-use Rattle.trio_calls_dir.proofs.Words.{◌∙◌, ◌≡◌, Bool, DeskSeen, HoldParts, In, In-map, IsTree, IsView, Kind, List, Node, Nodes, None, Option, Row, Some, ap, bytes_now, case_in_hand, cond, count_in, eqb, false, inl, inr, is_among, is_among-In, is_in, is_some, naming_of, ne_eqb, node_at, option_map, refl, rights_in, rights_of, some_one, subst, sym, true, with_bytes, ℕ}
+use Rattle.trio_calls_dir.proofs.Words.{◌∙◌, ◌≡◌, Bool, DeskSeen, HoldParts, In, In-map, IsTree, IsView, Kind, List, Node, Nodes, None, Option, Row, Some, ap, bytes_now, case_in_hand, cond, count_in, eqb, false, inl, inr, is_among, is_among-In, is_in, is_some, naming_of, ne_eqb, node_at, option_map, refl, rights_in, rights_of, some_one, subst, sym, true, with_judged, ℕ, guard_now}
 use Rattle.std.proofs.lemmas.Bool.{cases_Bool}
 use Rattle.trio_rights.specs.Row.{row_in}
 use Rattle.trio_layout.specs.Survey.{Met}
@@ -20,11 +20,13 @@ elsewhere : (n : ℕ) (o : Option Node) → ((x : Node) → o ≡ Some x → x.p
 elsewhere n None d = refl
 elsewhere n (Some x) d = ap (λ b. cond b (Some (x.name, x.kind)) None) (ne_eqb x.parent n (d x refl))
 
--- other bytes leave the entry
-entry_with : (n : ℕ) (bytes : Option (List ℕ)) (o : Option Node) → entry_in n (option_map (with_bytes bytes) o) ≡ entry_in n o
-entry_with n bytes None = refl
-entry_with n None (Some x) = refl
-entry_with n (Some b) (Some x) = refl
+-- other bytes and another guard leave the entry
+entry_with : (n : ℕ) (bytes : Option (List ℕ)) (guard : Option Bool) (o : Option Node) → entry_in n (option_map (with_judged bytes guard) o) ≡ entry_in n o
+entry_with n bytes guard None = refl
+entry_with n None None (Some x) = refl
+entry_with n None (Some on) (Some x) = refl
+entry_with n (Some b) None (Some x) = refl
+entry_with n (Some b) (Some on) (Some x) = refl
 
 in_entry : (n : ℕ) (o : Option Node) → is_in n o ≡ is_some (entry_in n o)
 in_entry n None = refl
@@ -82,8 +84,8 @@ module _ (c : Case) (nodes nodes' : Nodes) (tree : IsTree nodes) (tree' : IsTree
                 ∙ sym (elsewhere n (node_at nodes m) (λ z f p. held_elsewhere m z (is_among-In m c.bundle.holds y) f p))
             | inr no' ↦
                 ap (entry_in n)
-                (unlisted_now c nodes nodes' tree tree' a s m h ∙ ap (λ b. option_map (with_bytes (bytes_now c m)) (cond b None (node_at nodes m))) no')
-                ∙ entry_with n (bytes_now c m) (node_at nodes m)
+                (unlisted_now c nodes nodes' tree tree' a s m h ∙ ap (λ b. option_map (with_judged (bytes_now c m) (guard_now c m)) (cond b None (node_at nodes m))) no')
+                ∙ entry_with n (bytes_now c m) (guard_now c m) (node_at nodes m)
           ]
 
   count_kept : count_in nodes' n ≡ count_in nodes n

@@ -1,13 +1,14 @@
 -- A try goes on: what was known and given before is added to what comes then.
-use Rattle.trio_calls_dir.proofs.Words.{◌++◌, ◌∙◌, ◌≡◌, Ask, AskedBy, Bool, Busy, Call, Chmod, Create, Creds, Denied, DeskSeen, Directory, Exists, Goes, InAllShown, InoParts, IntoItself, IsAlike, IsDir, IsNumber, IsReplied, Kind, LeavesHere, List, ListNames, Mkdir, Mode, Needed, NoInodes, NoMemory, NoSpace, Nodes, None, NotDir, NotEmpty, NotFound, Option, Outcome, Path, Regular, Rename, Replied, Rmdir, Room, SameDesk, SessionSeen, Some, TakesMore, Target, Told, TooLarge, Unlink, Went, [], allot_asks, ap, append_assoc, applied, as_lent, asked, asks_from, batch_nodes, clear, cond, edited, eqb, false, fill, grant_ask, in_hand, is_done, made_by, map, map-append, moved, moved_shown, name_of, new_body, new_number, numbers_for, option_map_or, pages_for, refl, retitle, served_by, slot_growth, subst, sym, took, true, wants_of, with_slot, ℕ}
+use Rattle.trio_calls_dir.proofs.Words.{◌++◌, ◌∙◌, ◌≡◌, Ask, AskedBy, Bool, Busy, Call, Chmod, Create, Creds, Denied, DeskSeen, Directory, Exists, Goes, InAllShown, InoParts, IntoItself, IsAlike, IsDir, IsNumber, IsReplied, Kind, LeavesHere, List, ListNames, Mkdir, Mode, Needed, NoInodes, NoMemory, NoSpace, Nodes, None, NotDir, NotEmpty, NotFound, Option, Outcome, Path, Regular, Rename, Replied, Rmdir, Room, SameDesk, SessionSeen, Some, TakesMore, Target, Told, TooLarge, Unlink, Went, [], allot_asks, ap, append_assoc, applied, as_lent, asked, asks_from, batch_nodes, clear, cond, edited, eqb, false, fill, grant_ask, in_hand, is_done, made_by, map, map-append, moved, moved_shown, name_of, new_body, new_number, numbers_for, option_map_or, pages_for, refl, retitle, served_by, slot_growth, subst, sym, took, true, wants_of, with_slot, ℕ, IsLink, NotLink, Link, Symlink, link_made, link_mode, length, ◌+◌}
 use Rattle.trio_lease.specs.declared.parts.FreshParts.{FreshParts}
-use Rattle.trio_nodes.specs.declared.call.Call.TheVariants.{Write, Read, Truncate, Stat}
+use Rattle.trio_nodes.specs.declared.call.Call.TheVariants.{Write, Read, Truncate, Stat, Readlink, Guard}
 use Rattle.trio_desk.specs.Calls as desk_calls
-use Rattle.trio_calls_dir.specs.Asks.{filled_new}
+use Rattle.trio_session.specs.Seen.{grown, put}
+use Rattle.trio_calls_dir.specs.Asks.{filled_new, linked_new}
 use Rattle.trio_session.proofs.Alike.{took_more, took_alike, alike_edited}
 use Rattle.trio_walk.proofs.Then.{both_then, asked_behind}
 use Rattle.trio_walk.proofs.Ways.{leaves_alike, passes_then}
-use Rattle.trio_session.proofs.Others.{fill-other, clear-other, retitle-other, with_slot-other}
+use Rattle.trio_session.proofs.Others.{fill-other, clear-other, grown-other, retitle-other, with_slot-other}
 
 -- ---- another moment of the desk
 
@@ -25,6 +26,20 @@ module _ (is : List ℕ) (f : ℕ) (r : Room) where
   new_other : (creds : Creds) (kind : Kind) (path : Path) (mode : Mode) (t : Target) (x : SessionSeen) → filled_new creds kind path mode t (other x) ≡ other (filled_new creds kind path mode t x)
   new_other creds kind path mode t x =
       ap (fill t.dir (name_of path) (new_number x) kind (new_body creds mode)) (with_slot-other is f r t.dir x) ∙ fill-other is f r t.dir (name_of path) (new_number x) kind (new_body creds mode) (with_slot t.dir x)
+
+  put-other : (ino : ℕ) (bytes : List ℕ) (q : SessionSeen) → put ino 0 bytes (other q) ≡ other (put ino 0 bytes q)
+  unfolding put
+  put-other ino bytes q = refl
+
+  link_other : (creds : Creds) (path : Path) (text : List ℕ) (t : Target) (x : SessionSeen) → linked_new creds path text t (other x) ≡ other (linked_new creds path text t x)
+  link_other creds path text t x =
+      ap (link_made t.dir (name_of path) (new_number x) (new_body creds link_mode) text) (with_slot-other is f r t.dir x)
+      ∙ ap (λ q. put (new_number x) 0 text (grown (new_number x) (length text) q)) (fill-other is f r t.dir (name_of path) (new_number x) Link (new_body creds link_mode) (with_slot t.dir x))
+      ∙ ap (put (new_number x) 0 text) (grown-other is f r (new_number x) (length text) filled)
+      ∙ put-other (new_number x) text (grown (new_number x) (length text) filled)
+    where
+      filled : SessionSeen
+      filled = fill t.dir (name_of path) (new_number x) Link (new_body creds link_mode) (with_slot t.dir x)
 
   moved_other : (from to : Path) (t : Target) (x : SessionSeen) → moved from to t (other x) ≡ other (moved from to t x)
   moved_other from to t x = ap go (with_slot-other is f r t.new_dir x) ∙ by (moved_shown ready t.ino)
@@ -57,6 +72,9 @@ module _ (is : List ℕ) (f : ℕ) (r : Room) where
   edited_other creds (ListNames path from) t x = refl
   edited_other creds (Stat path) t x = refl
   edited_other creds (Chmod path mode) t x = refl
+  edited_other creds (Symlink path text) t x = link_other creds path text t x
+  edited_other creds (Readlink path) t x = refl
+  edited_other creds (Guard path on) t x = refl
 
 pub edited_alike : (creds : Creds) (call : Call) (t : Target) (x y : SessionSeen) → IsAlike x y → IsAlike (edited creds call t x) (edited creds call t y)
 edited_alike creds call t = alike_edited (edited creds call t) (λ is n r x. edited_other is n r creds call t x)
@@ -74,6 +92,9 @@ made_alike (Truncate path size) x y e = refl
 made_alike (ListNames path from) x y e = refl
 made_alike (Stat path) x y e = refl
 made_alike (Chmod path mode) x y e = refl
+made_alike (Symlink path text) x y e = ap (λ (q : SessionSeen). new_number q) e
+made_alike (Readlink path) x y e = refl
+made_alike (Guard path on) x y e = refl
 
 number_alike : (call : Call) (x y : SessionSeen) (end : Outcome) (n : ℕ) → IsAlike x y → IsNumber call y end n → IsNumber call x end n
 number_alike call x y (Replied (IsReplied answer)) n e h = h ∙ made_alike call x y e
@@ -87,6 +108,8 @@ number_alike call x y (Replied IntoItself) n e h = h
 number_alike call x y (Replied (NoSpace w f)) n e h = h
 number_alike call x y (Replied (NoInodes w f)) n e h = h
 number_alike call x y (Replied TooLarge) n e h = h
+number_alike call x y (Replied IsLink) n e h = h
+number_alike call x y (Replied NotLink) n e h = h
 number_alike call x y (Busy holder) n e h = h
 number_alike call x y NoMemory n e h = h
 
@@ -103,6 +126,9 @@ pages_alike (Truncate path size) t x y e = refl
 pages_alike (ListNames path from) t x y e = refl
 pages_alike (Stat path) t x y e = refl
 pages_alike (Chmod path mode) t x y e = refl
+pages_alike (Symlink path text) t x y e = ap (λ (q : SessionSeen). slot_growth q t.dir + 2) e
+pages_alike (Readlink path) t x y e = refl
+pages_alike (Guard path on) t x y e = refl
 
 pub wants_alike : (now : Nodes) (creds : Creds) (call : Call) (t : Target) (x y : SessionSeen) → IsAlike x y → wants_of now creds call t y ≡ wants_of now creds call t x
 wants_alike now creds call t x y e = ap (λ n. cond (is_done (applied now creds call 0).reply) (allot_asks n (numbers_for call)) []) (pages_alike call t x y e)

@@ -1,16 +1,17 @@
--- The calls of the desk that one call on a directory's entries makes, and how it ends: Mkdir, Create, Unlink, Rmdir, Rename and List.
-use Rattle.std.specs.Prelude.{◌≡◌, ◌≤◌, ℕ, ◌+◌, ◌==◌, IsTrue, List, [], ◌∷◌, ◌++◌, map, Some, Ok, if◌then◌else◌}
+-- The calls of the desk that one call on a directory's entries makes, and how it ends: Mkdir, Create, Symlink, Unlink, Rmdir, Rename and
+-- List.
+use Rattle.std.specs.Prelude.{◌≡◌, ◌≤◌, ℕ, ◌+◌, ◌==◌, IsTrue, List, [], ◌∷◌, ◌++◌, length, map, Some, Ok, if◌then◌else◌}
 use Rattle.std.specs.Option.{option_map_or}
 use Rattle.trio_rights.specs.declared.kind.Kind.{Kind}
 use Rattle.trio_rights.specs.declared.kind.Kind.TheVariants.{Directory, Regular}
 use Rattle.trio_rights.specs.declared.rights.Creds.{Creds}
 use Rattle.trio_rights.specs.declared.rights.Mode.{Mode}
 use Rattle.trio_nodes.specs.declared.call.Call.{Call}
-use Rattle.trio_nodes.specs.declared.call.Call.TheVariants.{Mkdir, Create, Unlink, Rmdir, Rename, List as ListNames}
+use Rattle.trio_nodes.specs.declared.call.Call.TheVariants.{Mkdir, Create, Symlink, Unlink, Rmdir, Rename, List as ListNames}
 use Rattle.trio_nodes.specs.declared.call.Reply.TheVariants.{Ok as IsReplied}
 use Rattle.trio_nodes.specs.Nodes.{Nodes, find_named}
 use Rattle.trio_nodes.specs.Walk.{Path, dir_of, name_of, walk, walk_into}
-use Rattle.trio_nodes.specs.Apply.{applied, is_done}
+use Rattle.trio_nodes.specs.Apply.{applied, is_done, link_mode}
 use Rattle.trio_desk.specs.Call.{Ask, DeskSeen, Told}
 use Rattle.trio_session.specs.Seen.{SessionSeen, clear, fill, retitle}
 use Rattle.trio_walk.specs.Needs.{asked, dir_needs}
@@ -19,14 +20,15 @@ use Rattle.trio_walk.specs.Asks.{AskedBy, Called, Tried, grant_ask, noted}
 use Rattle.trio_walk.specs.declared.outcome.Outcome.{Outcome}
 use Rattle.trio_walk.specs.declared.outcome.Outcome.TheVariants.{Replied}
 use Rattle.trio_session.specs.Asked.{IsAlike, allot_asks}
-use Rattle.trio_session.specs.Deeds.{slot_growth, with_slot, new_body, new_number, moved_shown, as_lent}
+use Rattle.trio_session.specs.Deeds.{slot_growth, with_slot, link_made, new_body, new_number, moved_shown, as_lent}
 
 -- ---- the condition
 
--- it makes a file, of a mode of nine bits; or it removes or renames one, or lists names
+-- it makes a file, of a mode of nine bits, or a link with a text of 1 to 4096 bytes; or it removes or renames a file, or lists names
 abbrev pub IsEntryCall : Call → Type 0
 IsEntryCall (Mkdir path mode) = mode.0 ≤ 511
 IsEntryCall (Create path mode) = mode.0 ≤ 511
+IsEntryCall (Symlink path text) = (1 ≤ length text) × (length text ≤ 4096)
 IsEntryCall (Unlink path) = Unit {0}
 IsEntryCall (Rmdir path) = Unit {0}
 IsEntryCall (Rename from to) = Unit {0}
@@ -41,10 +43,11 @@ pub record Target : Type 0 where
   pub new_dir : ℕ
   pub ino : ℕ
 
--- the pages that a call wants which no check refuses, by the session with all that it was lent
+-- the pages that a call wants which no check refuses, by the session with all that it was lent; a link has an index page and a block
 abbrev pub pages_for : Call → Target → SessionSeen → ℕ
 pages_for (Mkdir path mode) t s = slot_growth s t.dir
 pages_for (Create path mode) t s = slot_growth s t.dir
+pages_for (Symlink path text) t s = slot_growth s t.dir + 2
 pages_for (Rename from to) t s = if t.dir == t.new_dir then 0 else slot_growth s t.new_dir
 pages_for call t s = 0
 
@@ -52,6 +55,7 @@ pages_for call t s = 0
 abbrev pub numbers_for : Call → ℕ
 numbers_for (Mkdir path mode) = 1
 numbers_for (Create path mode) = 1
+numbers_for (Symlink path text) = 1
 numbers_for call = 0
 
 -- the allotment that it asks for; none where a check has refused
@@ -67,9 +71,13 @@ asks_of nodes creds s call t all =
 
 -- ---- what is left
 
--- and its entry the first empty slot
+-- the entry of a new file has the first empty slot
 abbrev pub filled_new : Creds → Kind → Path → Mode → Target → SessionSeen → SessionSeen
 filled_new creds kind path mode t s = fill t.dir (name_of path) (new_number s) kind (new_body creds mode) (with_slot t.dir s)
+
+-- so has that of a new link, which has its text
+abbrev pub linked_new : Creds → Path → List ℕ → Target → SessionSeen → SessionSeen
+linked_new creds path text t s = link_made t.dir (name_of path) (new_number s) (new_body creds link_mode) text (with_slot t.dir s)
 
 -- a file that moves clears its slot, and fills the first empty one of the other directory with the kind and the body that it takes with it
 abbrev pub moved : Path → Path → Target → SessionSeen → SessionSeen
@@ -81,6 +89,7 @@ moved from to t s =
 abbrev pub edited : Creds → Call → Target → SessionSeen → SessionSeen
 edited creds (Mkdir path mode) t s = filled_new creds Directory path mode t s
 edited creds (Create path mode) t s = filled_new creds Regular path mode t s
+edited creds (Symlink path text) t s = linked_new creds path text t s
 edited creds (Unlink path) t s = clear t.dir (name_of path) s
 edited creds (Rmdir path) t s = clear t.dir (name_of path) s
 edited creds (Rename from to) t s = if t.dir == t.new_dir then retitle t.dir (name_of from) (name_of to) s else moved from to t s
@@ -90,6 +99,7 @@ edited creds call t s = s
 abbrev pub made_by : Call → SessionSeen → ℕ
 made_by (Mkdir path mode) s = new_number s
 made_by (Create path mode) s = new_number s
+made_by (Symlink path text) s = new_number s
 made_by call s = 0
 
 -- What a try leaves of a session that took all that was given: where the call is done its directories have their edits, and else nothing
@@ -103,6 +113,7 @@ Leaves creds call t end s s' = IsAlike s s'
 abbrev pub ComesTo : Target → Nodes → Creds → Call → Type 0
 ComesTo t nodes creds (Mkdir path mode) = walk_into nodes creds (dir_of path ∷ []) (dir_of path) ≡ Ok t.dir
 ComesTo t nodes creds (Create path mode) = walk_into nodes creds (dir_of path ∷ []) (dir_of path) ≡ Ok t.dir
+ComesTo t nodes creds (Symlink path text) = walk_into nodes creds (dir_of path ∷ []) (dir_of path) ≡ Ok t.dir
 ComesTo t nodes creds (Unlink path) = walk_into nodes creds (dir_of path ∷ []) (dir_of path) ≡ Ok t.dir
 ComesTo t nodes creds (Rmdir path) = walk_into nodes creds (dir_of path ∷ []) (dir_of path) ≡ Ok t.dir
 ComesTo t nodes creds (Rename from to) =

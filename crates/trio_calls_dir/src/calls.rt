@@ -61,8 +61,8 @@ impl Tries for DirTry {
     ghost unsettled = { λ t desk desk' s s' may none. (may.0, may_unsettled desk desk' s s' may.1 none.seen none.same none.on) };
 }
 
-/// Makes a call on a directory or on a mode: makes, removes or renames a file, lists names, or changes
-/// a file's mode. A mode in it is at most `0o777`.
+/// Makes a call on a directory or on a mode: makes, removes or renames a file, makes a link, lists names,
+/// or changes a file's mode. A mode in it is at most `0o777`, and a link's text has 1 to 4096 bytes.
 ///
 /// A call on a directory's entries takes all its leases, then its memory, then its allotment, and
 /// then changes bytes. Where the desk answers that one is busy the session settles, and the call is

@@ -97,10 +97,12 @@ fn list_unrefused<D: Desk>(
 fn refusal(creds: Creds, met: Met) -> Option<Reply>
     ensures { result ≡ met_refusal creds met }
 {
-    match met.kind {
-        Kind::Regular => Some(Reply::NotDir),
-        Kind::Directory if !gives(creds, met, Need::Read) => Some(Reply::Denied),
-        Kind::Directory => None,
+    if !met.kind.is_directory() {
+        Some(Reply::NotDir)
+    } else if !gives(creds, met, Need::Read) {
+        Some(Reply::Denied)
+    } else {
+        None
     }
 }
 

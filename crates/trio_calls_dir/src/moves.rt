@@ -234,7 +234,7 @@ fn move_held<D: Desk>(
     if session.moving(file.ino).is_none() {
         return Err(Stop::NoMemory);
     }
-    match make_room(session, desk, new_dir, 0) {
+    match make_room(session, desk, new_dir, 0, 0) {
         Ok(()) => {
             move_file(session, dir, name_of(from), new_dir, name_of(to), file.ino);
             Ok(Replied {

@@ -2,6 +2,7 @@
 
 ghost use Rattle.std.specs.Prelude.{◌≡◌, ◌<◌, IsFalse, IsSome, MatchResult, Some, length};
 ghost use Rattle.trio_nodes.specs.Walk.{is_root, name_of};
+ghost use Rattle.trio_rights.specs.ByKind.{is_directory};
 ghost use Rattle.trio_session.specs.Seen.{IsOpenDir, clear, place_shown};
 ghost use Rattle.trio_edit_laws.specs.Calls.{MayCall};
 ghost use Rattle.trio_walk.specs.Walks.{FindsEntry, HasMet, InAllShown, shows_root};
@@ -20,21 +21,20 @@ use trio_desk::Desk;
 use trio_names::Path;
 use trio_nodes::{Answer, Call, GrantKind, Reply};
 use trio_page::NoMemory;
-use trio_rights::Kind;
 use trio_session::Session;
 use trio_walk::{Met, Stop, WalkEnd, look_up, reach_into, take};
 
-/// Removes a file of this kind; a directory has to be empty.
+/// Removes a directory, which has to be empty, or any other file.
 pub(crate) fn remove<D: Desk>(
     alloc: Global,
     session: &mut Session,
     desk: &mut D,
     call: &Call,
-    kind: Kind,
+    of_dirs: bool,
     path: &Path,
 ) -> Result<Replied, Stop>
     requires may { MayCall (D.seen desk.old) session.old }
-    requires call { call.now ≡ removing kind path.now }
+    requires call { call.now ≡ removing of_dirs path.now }
     requires root { IsFalse (is_root path.now) }
     ensures goes { Goes D.called D.seen desk.old session.old call.now (λ now. dir_needs now (D.seen desk.new).creds (shows_root session.old) call.now) (try_ends result) (number_made result) desk.new session.new }
     ensures others { HasNothing session.old → OthersHold session.old.lib (try_ends result) }
@@ -46,23 +46,20 @@ pub(crate) fn remove<D: Desk>(
     match reach_into(session, desk, &writes[0], &writes) {
         Ok(met) => match look_up(session, met.ino, name_of(path)) {
             None => noted_reply(session, Reply::NotFound),
-            Some(file) if file.kind == kind => {
+            Some(file) if file.kind.is_directory() == of_dirs => {
                 remove_in(session, desk, call, path, met.ino, file)
             }
-            Some(_) => noted_reply(session, other_kind(kind)),
+            Some(_) => noted_reply(session, other_kind(of_dirs)),
         },
         Err(end) => stopped(session, end),
     }
 }
 
 // why a file of another kind isn't removed
-fn other_kind(kind: Kind) -> Reply
-    ensures { result ≡ other_kind kind }
+fn other_kind(of_dirs: bool) -> Reply
+    ensures { result ≡ other_kind of_dirs }
 {
-    match kind {
-        Kind::Directory => Reply::NotDir,
-        Kind::Regular => Reply::IsDir,
-    }
+    if of_dirs { Reply::NotDir } else { Reply::IsDir }
 }
 
 // removes a file from its directory; one that has entries isn't removed
@@ -75,20 +72,20 @@ fn remove_in<D: Desk>(
     file: Met,
 ) -> Result<Replied, Stop>
     requires may { MayCall (D.seen desk.old) session.old }
-    requires call { call.now ≡ removing file.kind path.now }
+    requires call { call.now ≡ removing (is_directory file.kind) path.now }
     requires root { IsFalse (is_root path.now) }
     requires open { IsOpenDir session.old dir }
     requires comes { InAllShown (D.seen desk.old) session.old (λ now. ComesInto now (D.seen desk.old).creds call.now path.now dir) }
     requires entry { FindsEntry session.old dir (name_of path.now) (Some file) }
     requires met { HasMet (D.seen desk.old) session.old file }
     requires named { InAllShown (D.seen desk.old) session.old (λ now. find_named now dir (name_of path.now) ≡ Some file.ino) }
-    ensures goes { Goes D.called D.seen desk.old session.old call.now (λ now. named_needs now dir (name_of path.now) (removing_needs file.kind)) (try_ends result) (number_made result) desk.new session.new }
+    ensures goes { Goes D.called D.seen desk.old session.old call.now (λ now. named_needs now dir (name_of path.now) (removing_needs (is_directory file.kind))) (try_ends result) (number_made result) desk.new session.new }
     ensures others { BusyAt (D.seen desk.old) session.old file.ino GrantKind.Hold (try_ends result) }
 {
     match take(session, desk, file, GrantKind::Hold) {
         Ok(true) => match session.children(file.ino) {
             Some(0) => clear_held(session, path, dir),
-            // a regular file has none
+            // what is no directory has none
             Some(_) => noted_reply(session, Reply::NotEmpty),
             None => unreachable!(),
         },

@@ -17,7 +17,6 @@ use std::alloc::Global;
 use trio_desk::Desk;
 use trio_nodes::{AllotFault, Call, Reply};
 use trio_page::NoMemory;
-use trio_rights::Kind;
 use trio_session::Session;
 use trio_walk::{Stop, WalkEnd, allot_reply};
 
@@ -45,17 +44,15 @@ pub(crate) fn reply_to<D: Desk>(
         // the root is there
         Call::Mkdir { path, .. } if is_root(path) => noted_reply(session, Reply::Exists),
         Call::Create { path, .. } if is_root(path) => noted_reply(session, Reply::Exists),
-        Call::Mkdir { path, mode } => {
-            make(alloc, session, desk, call, Kind::Directory, path, *mode)
-        }
-        Call::Create { path, mode } => {
-            make(alloc, session, desk, call, Kind::Regular, path, *mode)
-        }
+        Call::Symlink { path, .. } if is_root(path) => noted_reply(session, Reply::Exists),
+        Call::Mkdir { path, .. } => make(alloc, session, desk, call, path),
+        Call::Create { path, .. } => make(alloc, session, desk, call, path),
+        Call::Symlink { path, .. } => make(alloc, session, desk, call, path),
         // and isn't removed
         Call::Unlink { path } if is_root(path) => noted_reply(session, Reply::IsDir),
         Call::Rmdir { path } if is_root(path) => noted_reply(session, Reply::Denied),
-        Call::Unlink { path } => remove(alloc, session, desk, call, Kind::Regular, path),
-        Call::Rmdir { path } => remove(alloc, session, desk, call, Kind::Directory, path),
+        Call::Unlink { path } => remove(alloc, session, desk, call, false, path),
+        Call::Rmdir { path } => remove(alloc, session, desk, call, true, path),
         Call::Rename { from, to } => rename(alloc, session, desk, call, from, to),
         Call::List { path, from } => list(alloc, session, desk, call, path, *from),
         _ => unreachable!(),

@@ -1,11 +1,11 @@
 -- A try after its file was taken: what comes then is added to what was given.
-use Rattle.trio_calls_file.proofs.Words.{◌++◌, ◌∙◌, ◌≡◌, Ask, AskedBy, Bool, Call, Chmod, Create, DeskSeen, Goes, InAllShown, IsAlike, LeavesHere, List, ListNames, Mkdir, Nodes, Outcome, Read, Rename, Rmdir, SessionSeen, Stat, Told, Truncate, Unlink, Went, Write, [], ap, append_assoc, batch_nodes, body_in, both_then, cond, edited, eqb, false, map, map-append, new_length, put, put_alike, size_in, sized, subst, sym, took, true, ℕ}
+use Rattle.trio_calls_file.proofs.Words.{◌++◌, ◌∙◌, ◌≡◌, Ask, AskedBy, Bool, Call, Chmod, Create, DeskSeen, Goes, InAllShown, IsAlike, LeavesHere, List, ListNames, Mkdir, Nodes, Outcome, Read, Rename, Rmdir, SessionSeen, Stat, Told, Truncate, Unlink, Went, Write, [], ap, append_assoc, batch_nodes, body_in, both_then, cond, edited, eqb, false, map, map-append, new_length, put, put_alike, size_in, sized, subst, sym, took, true, ℕ, Guard, Readlink, Symlink}
 use Rattle.std.specs.Prelude.{length}
 use Rattle.trio_desk.specs.Calls as desk_calls
 use Rattle.trio_session.proofs.Alike.{took_more, took_alike}
 use Rattle.trio_walk.proofs.Then.{asked_behind}
 use Rattle.trio_walk.proofs.Ways.{leaves_alike, passes_then}
-use Rattle.trio_session.proofs.Others.{sized_alike}
+use Rattle.trio_session.proofs.Others.{guard_alike, sized_alike}
 
 -- ---- edits go by neither indexes nor room
 
@@ -33,6 +33,9 @@ edited_alike (Rmdir path) ino x y e = e
 edited_alike (Rename from to) ino x y e = e
 edited_alike (ListNames path from) ino x y e = e
 edited_alike (Chmod path mode) ino x y e = e
+edited_alike (Symlink path text) ino x y e = e
+edited_alike (Readlink path) ino x y e = e
+edited_alike (Guard path on) ino x y e = guard_alike ino on x y e
 
 -- ---- the whole
 

@@ -1,11 +1,11 @@
 -- A session that is alike has the same files open; and what a write edits, of some bytes and of none.
-use Rattle.trio_calls_file.proofs.Words.{◌+◌, ◌≡◌, DeskSeen, InBoth, IsAlike, IsOpen, List, Nodes, Path, SessionSeen, alike_by, ap, body_in, cond, edited, eqb, false, length, max, put, size_in, sized, subst, sym, true, ℕ}
+use Rattle.trio_calls_file.proofs.Words.{◌+◌, ◌≡◌, DeskSeen, InBoth, IsAlike, IsOpenFile, List, Nodes, Path, SessionSeen, alike_by, ap, body_in, cond, edited, eqb, false, length, max, put, size_in, sized, subst, sym, true, ℕ}
 use Rattle.trio_nodes.specs.declared.call.Call.TheVariants.{Write as WriteCall}
 
 -- ---- what a session may
 
-pub open_alike : (x s : SessionSeen) (ino : ℕ) → IsAlike x s → IsOpen x ino → IsOpen s ino
-open_alike x s ino e o = alike_by (λ q. IsOpen q ino) x s e (λ is n r. o)
+pub open_alike : (x s : SessionSeen) (ino : ℕ) → IsAlike x s → IsOpenFile x ino → IsOpenFile s ino
+open_alike x s ino e o = alike_by (λ q. IsOpenFile q ino) x s e (λ is n r. o)
 
 -- what is shown is shown by a session that is alike
 pub both_alike : (desk : DeskSeen) (s s' : SessionSeen) (P : Nodes → Nodes → Type 0) → IsAlike s s' → InBoth desk s P → InBoth desk s' P

@@ -1,5 +1,5 @@
 -- A call at the file to which its walk came.
-use Rattle.trio_calls_file.proofs.Words.{◌++◌, ◌+◌, ◌-◌, ◌/◌, ◌<◌, ◌∙◌, ◌∷◌, ◌≡◌, ◌≢◌, ArePossible, AreWithinLimits, Ask, Bool, Busy, Call, CallBusyAt, Chmod, ComesHere, Create, Creds, Denied, DeniedGrant, DeskSeen, Directory, DoesCall, Err, Goes, Grant, HasMet, HasRights, InAllShown, InBoth, IsAlike, IsDir, IsFileCall, HasNoMemory, Holder, IsHad, Kind, LacksMemory, Lease, List, ListNames, MatchResult, MayCall, MayTake, Met, Mkdir, Needed, NoMemory, Node, Nodes, None, NotLent, Ok, Option, Outcome, Path, Read, ReadGrant, Regular, Rename, Replied, Reply, Result, Rmdir, Row, SessionSeen, Some, Stat, Stop, ToRead, Told, Took, Truncate, Unlink, Way, Went, Write, WriteGrant, [], alike_room, allot_asks, ap, append-nil, append_assoc, applied, arith, asks_at, asks_lent, batch_nodes, both_then, bytes_refusal, checked, cond, false, gives, gives_met, grant_ask, grant_for, growth_of, in_hand, inr, is_done, kind_shown, largest_size, leb, length, lent_call, map, map-append, may_alike, need_for, need_of, node_at, not, path_of, refl, refusal_at, refused_by_check, sees_root, shown_by, subst, sym, true, try_ends, walk, walked_growth, wanted_pages, wants_pages_for, ℕ}
+use Rattle.trio_calls_file.proofs.Words.{◌++◌, ◌+◌, ◌-◌, ◌/◌, ◌<◌, ◌∙◌, ◌∷◌, ◌≡◌, ◌≢◌, ArePossible, AreWithinLimits, Ask, Bool, Busy, Call, CallBusyAt, Chmod, ComesHere, Create, Creds, Denied, DeniedGrant, DeskSeen, Directory, DoesCall, Err, Goes, Grant, HasMet, HasRights, InAllShown, InBoth, IsAlike, IsDir, IsFileCall, HasNoMemory, Holder, IsHad, Kind, LacksMemory, Lease, List, ListNames, MatchResult, MayCall, MayTake, Met, Mkdir, Needed, NoMemory, Node, Nodes, None, NotLent, Ok, Option, Outcome, Path, Read, ReadGrant, Regular, Rename, Replied, Reply, Result, Rmdir, Row, SessionSeen, Some, Stat, Stop, ToRead, Told, Took, Truncate, Unlink, Way, Went, Write, WriteGrant, [], alike_room, allot_asks, ap, append-nil, append_assoc, applied, arith, asks_at, asks_lent, batch_nodes, both_then, bytes_refusal, checked, cond, false, gives, gives_met, grant_ask, grant_for, growth_of, in_hand, inr, is_done, kind_shown, largest_size, leb, length, lent_call, map, map-append, may_alike, need_for, need_of, node_at, not, path_of, refl, refusal_at, refused_by_check, sees_root, shown_by, subst, sym, true, try_ends, walk, walked_growth, wanted_pages, wants_pages_for, ℕ, Guard, IsLink, Link, NotLink, Readlink, Symlink, text_refusal}
 use Rattle.trio_nodes.specs.declared.grant.GrantKind.TheVariants.{Hold as HoldGrant}
 use Rattle.trio_desk.specs.Calls as desk_calls
 use Rattle.trio_desk.specs.Contents.{Sizes}
@@ -20,8 +20,15 @@ use Rattle.trio_edit_laws.proofs.Had.{had_served}
 
 bytes_taken : (kind : Kind) (g f : Bool) → bytes_refusal kind g f ≡ None → (g ≡ true) × (kind ≡ Regular)
 bytes_taken Directory g f e = absurd (let wrong : Some IsDir ≡ None = e in cc wrong)
+bytes_taken Link g f e = absurd (let wrong : Some IsLink ≡ None = e in cc wrong)
 bytes_taken Regular true f e = (refl, refl)
 bytes_taken Regular false f e = absurd (let wrong : Some Denied ≡ None = e in cc wrong)
+
+text_taken : (kind : Kind) (g : Bool) → text_refusal kind g ≡ None → (g ≡ true) × (kind ≡ Link)
+text_taken Directory g e = absurd (let wrong : Some NotLink ≡ None = e in cc wrong)
+text_taken Regular g e = absurd (let wrong : Some NotLink ≡ None = e in cc wrong)
+text_taken Link true e = (refl, refl)
+text_taken Link false e = absurd (let wrong : Some Denied ≡ None = e in cc wrong)
 
 stat_taken : (g : Bool) → cond (not g) (Some Denied) None ≡ None → g ≡ true
 stat_taken true e = refl
@@ -40,38 +47,46 @@ not_held (Rmdir path) e = cc e
 not_held (Rename from to) e = cc e
 not_held (ListNames path from) e = cc e
 not_held (Chmod path mode) e = cc e
+not_held (Symlink path text) e = cc e
+not_held (Readlink path) e = cc e
+not_held (Guard path on) e = cc e
 
 -- ---- growths
 
 growth_none : (c : ℕ) → (c - c) + ((c + 510) / 511 - (c + 510) / 511) ≡ 0
 growth_none c = omega arith
 
--- a call that only looks
-abbrev pub IsLooking : Call → Type 0
-IsLooking (Read path at len) = Unit {0}
-IsLooking (Stat path) = Unit {0}
-IsLooking call = ⊥
+-- a call that leaves the size of its file
+abbrev pub KeepsSize : Call → Type 0
+KeepsSize (Read path at len) = Unit {0}
+KeepsSize (Stat path) = Unit {0}
+KeepsSize (Readlink path) = Unit {0}
+KeepsSize (Guard path on) = Unit {0}
+KeepsSize call = ⊥
 
-look_growth : (call : Call) → IsLooking call → (o : Option Node) → growth_of call o ≡ 0
-look_growth call look None = refl
-look_growth (Read path at len) look (Some x) = growth_none ((length x.bytes + 4095) / 4096)
-look_growth (Stat path) look (Some x) = growth_none ((length x.bytes + 4095) / 4096)
-look_growth (Mkdir path mode) look (Some x) = absurd look
-look_growth (Create path mode) look (Some x) = absurd look
-look_growth (Write path at bytes) look (Some x) = absurd look
-look_growth (Truncate path size) look (Some x) = absurd look
-look_growth (Unlink path) look (Some x) = absurd look
-look_growth (Rmdir path) look (Some x) = absurd look
-look_growth (Rename from to) look (Some x) = absurd look
-look_growth (ListNames path from) look (Some x) = absurd look
-look_growth (Chmod path mode) look (Some x) = absurd look
+kept_growth : (call : Call) → KeepsSize call → (o : Option Node) → growth_of call o ≡ 0
+kept_growth call look None = refl
+kept_growth (Read path at len) look (Some x) = growth_none ((length x.bytes + 4095) / 4096)
+kept_growth (Stat path) look (Some x) = growth_none ((length x.bytes + 4095) / 4096)
+kept_growth (Mkdir path mode) look (Some x) = absurd look
+kept_growth (Create path mode) look (Some x) = absurd look
+kept_growth (Write path at bytes) look (Some x) = absurd look
+kept_growth (Truncate path size) look (Some x) = absurd look
+kept_growth (Unlink path) look (Some x) = absurd look
+kept_growth (Rmdir path) look (Some x) = absurd look
+kept_growth (Rename from to) look (Some x) = absurd look
+kept_growth (ListNames path from) look (Some x) = absurd look
+kept_growth (Chmod path mode) look (Some x) = absurd look
+kept_growth (Symlink path text) look (Some x) = absurd look
+kept_growth (Readlink path) look (Some x) = growth_none ((length x.bytes + 4095) / 4096)
+kept_growth (Guard path on) look (Some x) = growth_none ((length x.bytes + 4095) / 4096)
 
 -- wants no page
-pub look_pages : (creds : Creds) (call : Call) (now : Nodes) → IsLooking call → allot_asks (wanted_pages now creds call) 0 ≡ []
-look_pages creds call now look = by (is_done (applied now creds call 0).reply) (walk now creds [] (path_of call))
+pub no_pages : (creds : Creds) (call : Call) (now : Nodes) → KeepsSize call → allot_asks (wanted_pages now creds call) 0 ≡ []
+no_pages creds call now look = by (is_done (applied now creds call 0).reply) (walk now creds [] (path_of call))
   where
     by : (b : Bool) (r : Result ℕ Reply) → allot_asks (cond b (walked_growth now call r) 0) 0 ≡ []
-    by true (Ok n) = ap (λ (k : ℕ). allot_asks k 0) (look_growth call look (node_at now n))
+    by true (Ok n) = ap (λ (k : ℕ). allot_asks k 0) (kept_growth call look (node_at now n))
     by true (Err reply) = refl
     by false r = refl
 
@@ -197,6 +212,9 @@ only_stat g (Rmdir path) file e = absurd file
 only_stat g (Rename from to) file e = absurd file
 only_stat g (ListNames path from) file e = absurd file
 only_stat g (Chmod path mode) file e = absurd file
+only_stat g (Symlink path text) file e = absurd file
+only_stat g (Readlink path) file e = absurd (let wrong : Some NotLink ≡ None = e in cc wrong)
+only_stat g (Guard path on) file e = absurd (let wrong : Some IsDir ≡ None = e in cc wrong)
 
 module _ {D : Type 0} (called : D → Ask → Told → D → Type 0) (seen : D → DeskSeen) (d : D) (s : SessionSeen) (call : Call) (m : Met) (may : MayCall (seen d) s) (met : HasMet (seen d) s m) (comes : ComesHere (seen d) s (path_of call) m.ino)
     (file : IsFileCall call) (unchecked : checked (seen d).creds m call ≡ None) (d1 : D) (s1 : SessionSeen) (t : Took called seen d s m (grant_for call) (Ok false) d1 s1) where
@@ -244,7 +262,7 @@ module _ {D : Type 0} (called : D → Ask → Told → D → Type 0) (seen : D �
     denied_asks =
         let stat = denied_stat in
         let none : allot_asks (wanted_pages now (seen d).creds call) 0 ≡ [] =
-        ap (λ c. allot_asks (wanted_pages now (seen d).creds c) 0) stat.1 ∙ look_pages (seen d).creds (Stat stat.0) now tt in
+        ap (λ c. allot_asks (wanted_pages now (seen d).creds c) 0) stat.1 ∙ no_pages (seen d).creds (Stat stat.0) now tt in
         asks_own (seen d).creds s m call now unchecked
         ∙ ap (λ l. map grant_ask l ++ allot_asks (wanted_pages now (seen d).creds call) 0) t.taken.2
         ∙ ap (λ l. Grant 1 (grant_for call) ∷ l) none
@@ -311,6 +329,9 @@ write_regular creds m (Rmdir path) file w e = absurd file
 write_regular creds m (Rename from to) file w e = absurd file
 write_regular creds m (ListNames path from) file w e = absurd file
 write_regular creds m (Chmod path mode) file w e = absurd file
+write_regular creds m (Symlink path text) file w e = absurd file
+write_regular creds m (Readlink path) file w e = absurd (cc w)
+write_regular creds m (Guard path on) file w e = (bytes_taken m.kind (gives_met creds m (need_for (Guard path on))) true e).1
 
 -- one that doesn't take it for reading writes
 unread_regular : (creds : Creds) (m : Met) (call : Call) → IsFileCall call → grant_for call ≢ ReadGrant → checked creds m call ≡ None → m.kind ≡ Regular
@@ -325,6 +346,9 @@ unread_regular creds m (Rmdir path) file w e = absurd file
 unread_regular creds m (Rename from to) file w e = absurd file
 unread_regular creds m (ListNames path from) file w e = absurd file
 unread_regular creds m (Chmod path mode) file w e = absurd file
+unread_regular creds m (Symlink path text) file w e = absurd file
+unread_regular creds m (Readlink path) file w e = absurd (w refl)
+unread_regular creds m (Guard path on) file w e = write_regular creds m (Guard path on) file refl e
 
 -- a grant of the library's own that keeps a file busy is one of the session's
 pub busy_stopped : {D : Type 0} (called : D → Ask → Told → D → Type 0) (seen : D → DeskSeen) (d : D) (s : SessionSeen) (call : Call) (m : Met) (d1 : D) (s1 : SessionSeen) (holder : Holder)
@@ -344,6 +368,13 @@ may_take desk s m (Rmdir path) file e = absurd file
 may_take desk s m (Rename from to) file e = absurd file
 may_take desk s m (ListNames path from) file e = absurd file
 may_take desk s m (Chmod path mode) file e = absurd file
+may_take desk s m (Symlink path text) file e = absurd file
+may_take desk s m (Readlink path) file e = (text_taken m.kind (gives_met desk.creds m (need_for (Readlink path))) e).0
+may_take desk s m (Guard path on) file e = (bytes_taken m.kind (gives_met desk.creds m (need_for (Guard path on))) true e).0
+
+-- a reading of a link's text is of a link
+pub text_link : (creds : Creds) (m : Met) (path : Path) → checked creds m (Readlink path) ≡ None → m.kind ≡ Link
+text_link creds m path e = (text_taken m.kind (gives_met creds m (need_for (Readlink path))) e).1
 
 -- a read that no check refuses is of a regular file
 pub read_regular : (creds : Creds) (m : Met) (path : Path) (at len : ℕ) → checked creds m (Read path at len) ≡ None → m.kind ≡ Regular

@@ -1,5 +1,5 @@
 -- What the checks of a call say of the nodes that are shown.
-use Rattle.trio_calls_file.proofs.Words.{◌++◌, ◌+◌, ◌∙◌, ◌∷◌, ◌≡◌, ArePossible, Bool, Call, Chmod, ComesHere, Create, Creds, Denied, DeskSeen, Directory, DoesCall, HasMet, HasRights, IsDir, IsFileCall, IsMet, Kind, List, ListNames, MayBeDone, MayCall, Met, Mkdir, Nodes, None, Option, Read, Regular, Rename, Reply, Rights, Rmdir, Row, SessionSeen, Some, Stat, TooLarge, Truncate, Unlink, Write, [], allot_asks, ap, applied, arith, asked, asks_at, batch_nodes, bytes_refusal, checked, cond, false, file_path, gives, gives_met, grant_ask, grant_for, in_hand, is_directory, is_done, is_some, largest_size, leb, length, ltb, map, need_for, node_at, not, one_need, option_map, path_of, refl, refusal, refusal_at, refused_by_check, rights_of, sees_root, served_by, shown_by, subst, sym, true, walk, walked_growth, wanted_pages, ℕ}
+use Rattle.trio_calls_file.proofs.Words.{◌++◌, ◌+◌, ◌∙◌, ◌∷◌, ◌≡◌, ArePossible, Bool, Call, Chmod, ComesHere, Create, Creds, Denied, DeskSeen, Directory, DoesCall, HasMet, HasRights, IsDir, IsFileCall, IsMet, Kind, List, ListNames, MayBeDone, MayCall, Met, Mkdir, Nodes, None, Option, Read, Regular, Rename, Reply, Rights, Rmdir, Row, SessionSeen, Some, Stat, TooLarge, Truncate, Unlink, Write, [], allot_asks, ap, applied, arith, asked, asks_at, batch_nodes, bytes_refusal, checked, cond, false, file_path, gives, gives_met, grant_ask, grant_for, in_hand, is_directory, is_done, is_some, largest_size, leb, length, ltb, map, need_for, node_at, not, one_need, option_map, path_of, refl, refusal, refusal_at, refused_by_check, rights_of, sees_root, served_by, shown_by, subst, sym, true, walk, walked_growth, wanted_pages, ℕ, Guard, IsLink, Link, NotLink, Readlink, Symlink, is_link, is_directory-false, text_refusal}
 use Rattle.std.proofs.lemmas.Bool.Decides.{nat_tests}
 use Rattle.trio_walk.specs.declared.met.Rights as shown_rights
 use Rattle.trio_walk.proofs.Entering.{asked-one}
@@ -14,10 +14,10 @@ not-leb a b = grind (arith, nat_tests)
 -- why a call is refused, by the kind and by what the rights give
 pub refusal_is : (creds : Creds) (r : Rights) (call : Call) → refusal creds r call ≡ refusal_at r.kind (gives creds (need_for call) r) call
 refusal_is creds r (Write path at bytes) =
-    ap (λ b. cond (is_directory r.kind) (Some IsDir) (cond (not (gives creds (need_for (Write path at bytes)) r)) (Some Denied) (cond b (Some TooLarge) None))) (sym (not-leb (at + length bytes) largest_size))
+    ap (λ b. cond (is_directory r.kind) (Some IsDir) (cond (is_link r.kind) (Some IsLink) (cond (not (gives creds (need_for (Write path at bytes)) r)) (Some Denied) (cond b (Some TooLarge) None)))) (sym (not-leb (at + length bytes) largest_size))
 refusal_is creds r (Read path at len) = refl
 refusal_is creds r (Truncate path size) =
-    ap (λ b. cond (is_directory r.kind) (Some IsDir) (cond (not (gives creds (need_for (Truncate path size)) r)) (Some Denied) (cond b (Some TooLarge) None))) (sym (not-leb size largest_size))
+    ap (λ b. cond (is_directory r.kind) (Some IsDir) (cond (is_link r.kind) (Some IsLink) (cond (not (gives creds (need_for (Truncate path size)) r)) (Some Denied) (cond b (Some TooLarge) None)))) (sym (not-leb size largest_size))
 refusal_is creds r (Stat path) = refl
 refusal_is creds r (Mkdir path mode) = refl
 refusal_is creds r (Create path mode) = refl
@@ -26,6 +26,9 @@ refusal_is creds r (Rmdir path) = refl
 refusal_is creds r (Rename from to) = refl
 refusal_is creds r (ListNames path from) = refl
 refusal_is creds r (Chmod path mode) = refl
+refusal_is creds r (Symlink path text) = refl
+refusal_is creds r (Readlink path) = refl
+refusal_is creds r (Guard path on) = refl
 
 pub file_path_of : (call : Call) → IsFileCall call → file_path call ≡ Some (path_of call)
 file_path_of (Write path at bytes) f = refl
@@ -39,13 +42,24 @@ file_path_of (Rmdir path) f = absurd f
 file_path_of (Rename from to) f = absurd f
 file_path_of (ListNames path from) f = absurd f
 file_path_of (Chmod path mode) f = absurd f
+file_path_of (Symlink path text) f = absurd f
+file_path_of (Readlink path) f = refl
+file_path_of (Guard path on) f = refl
 
 -- a refusal of bytes is one of the checks'
 bytes_refused : (kind : Kind) (g f : Bool) (r : Reply) → bytes_refusal kind g f ≡ Some r → IsRefused r
 bytes_refused Directory g f r e = (let same : Some IsDir ≡ Some r = e in subst IsRefused (let is : IsDir ≡ r = cc same in is) tt)
+bytes_refused Link g f r e = (let same : Some IsLink ≡ Some r = e in subst IsRefused (let is : IsLink ≡ r = cc same in is) tt)
 bytes_refused Regular false f r e = (let same : Some Denied ≡ Some r = e in subst IsRefused (let is : Denied ≡ r = cc same in is) tt)
 bytes_refused Regular true false r e = (let same : Some TooLarge ≡ Some r = e in subst IsRefused (let is : TooLarge ≡ r = cc same in is) tt)
 bytes_refused Regular true true r e = (let wrong : None ≡ Some r = e in absurd (cc wrong))
+
+-- and so is one of a link's text
+text_refused : (kind : Kind) (g : Bool) (r : Reply) → text_refusal kind g ≡ Some r → IsRefused r
+text_refused Directory g r e = (let same : Some NotLink ≡ Some r = e in subst IsRefused (let is : NotLink ≡ r = cc same in is) tt)
+text_refused Regular g r e = (let same : Some NotLink ≡ Some r = e in subst IsRefused (let is : NotLink ≡ r = cc same in is) tt)
+text_refused Link false r e = (let same : Some Denied ≡ Some r = e in subst IsRefused (let is : Denied ≡ r = cc same in is) tt)
+text_refused Link true r e = (let wrong : None ≡ Some r = e in absurd (cc wrong))
 
 none_refused : (r : Reply) → None ≡ Some r → IsRefused r
 none_refused r e = absurd (cc e)
@@ -63,6 +77,9 @@ refused_at kind g (Rmdir path) r e = none_refused r e
 refused_at kind g (Rename from to) r e = none_refused r e
 refused_at kind g (ListNames path from) r e = none_refused r e
 refused_at kind g (Chmod path mode) r e = none_refused r e
+refused_at kind g (Symlink path text) r e = none_refused r e
+refused_at kind g (Readlink path) r e = text_refused kind g r e
+refused_at kind g (Guard path on) r e = bytes_refused kind g true r e
 
 -- a directory refuses the same, whatever its rights, where they are taken to give all
 directory_refuses : (b : Bool) (call : Call) (r : Reply) → refusal_at Directory true call ≡ Some r → refusal_at Directory b call ≡ Some r
@@ -77,6 +94,9 @@ directory_refuses b (Rmdir path) r e = e
 directory_refuses b (Rename from to) r e = e
 directory_refuses b (ListNames path from) r e = e
 directory_refuses b (Chmod path mode) r e = e
+directory_refuses b (Symlink path text) r e = e
+directory_refuses b (Readlink path) r e = e
+directory_refuses b (Guard path on) r e = e
 
 -- ---- what is asked
 
@@ -159,10 +179,10 @@ module _ (desk : DeskSeen) (s : SessionSeen) (call : Call) (m : Met) (may : MayC
   known_unrefused r known e =
       record { walks = comes nodes rows p; rights = rights_of (met.1.met nodes rows p).after; there = rights_there; checks = refusal_known r known ∙ e }
 
-  -- so may it be done at a regular file
-  pub regular_unrefused : m.kind ≡ Regular → checked desk.creds m call ≡ None → MayBeDone desk.creds call m.ino (batch_nodes desk.creds s.calls nodes)
-  regular_unrefused regular e = by m.rights refl
+  -- so may it be done at what is no directory
+  pub file_unrefused : is_directory m.kind ≡ false → checked desk.creds m call ≡ None → MayBeDone desk.creds call m.ino (batch_nodes desk.creds s.calls nodes)
+  file_unrefused file e = by m.rights refl
     where
       by : (o : Option shown_rights.Rights) → m.rights ≡ o → MayBeDone desk.creds call m.ino (batch_nodes desk.creds s.calls nodes)
       by (Some r) known = known_unrefused r known e
-      by None none = absurd (let wrong : Regular ≡ Directory = sym regular ∙ root_kind none in cc wrong)
+      by None none = absurd (is_directory-false m.kind file (root_kind none))

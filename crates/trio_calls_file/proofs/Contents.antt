@@ -1,5 +1,5 @@
 -- What is had of a file is true of its node.
-use Rattle.trio_calls_file.proofs.Words.{◌++◌, ◌+◌, ◌||◌, ◌∙◌, ◌∷◌, ◌≡◌, ArePossible, DeskSeen, Directory, HasRights, In, IsHad, Kind, List, MayCall, Node, Nodes, None, Ok, Option, Regular, Rights, Row, SessionSeen, Shown, Some, [], ap, arith, batch_nodes, body_had, body_had-open, body_in, bytes_had, bytes_in, chain_in, cond, entries_counted, eqb, eqb-true, false≢true, in_hand, is_some, length, node_at, open_kind, option_map, pages_shown, read_file, refl, rights_in, rights_of, sees_bytes, sees_directory, serves, shows_calls, size_in, subst, suc, sym, take, true, zero, ℕ}
+use Rattle.trio_calls_file.proofs.Words.{◌++◌, ◌+◌, ◌||◌, ◌∙◌, ◌∷◌, ◌≡◌, ArePossible, DeskSeen, Directory, HasRights, In, IsHad, Kind, List, MayCall, Node, Nodes, None, Ok, Option, Rights, Row, SessionSeen, Shown, Some, [], ap, arith, batch_nodes, body_had, body_had-open, body_in, bytes_had, bytes_in, chain_in, cond, entries_counted, eqb, eqb-true, false≢true, in_hand, is_some, length, node_at, open_kind, option_map, pages_shown, read_file, refl, rights_in, rights_of, sees_bytes, sees_directory, serves, shows_calls, size_in, subst, suc, sym, take, true, zero, ℕ, is_directory, false}
 use Rattle.std.proofs.Common.{map, length-append}
 use Rattle.std.specs.List.{filter, flat_map}
 use Rattle.std.proofs.lemmas.List.{length-take-le}
@@ -78,10 +78,10 @@ blocks_count inodes (p ∷ ps) ls e =
 
 -- ---- what is had
 
--- What is had of a file: its rights, and the bytes of a regular one.
+-- What is had of a file: its rights, and the bytes of what is no directory.
 pub record HadHere (s : SessionSeen) (ino' : ℕ) (kind' : Kind) (x : Option Node) : Type 0 where
   pub rights : HasRights (rights_in kind' (body_had s ino')) x
-  pub bytes : kind' ≡ Regular → option_map (λ n. n.bytes) x ≡ Some (bytes_had s ino')
+  pub bytes : is_directory kind' ≡ false → option_map (λ n. n.bytes) x ≡ Some (bytes_had s ino')
 
 -- ---- entries by slots
 
@@ -131,7 +131,7 @@ module _ (desk : DeskSeen) (s : SessionSeen) (may : MayCall desk s) (ino : ℕ) 
       ∙ ap (take (size_in (body_in s ino))) (flat_map-map (λ (q : List ℕ). q) (page_in s.parcel) (chain_in s ino).blocks) in
       record {
         rights = subst (λ b. HasRights (rights_in kind b) (node_at now ino)) (sym body) (open_rights desk s ino kind (in_hand s) nodes now rows may.edits view o);
-        bytes = λ e. (sees_bytes desk s ino nodes now rows may.edits (o ∙ ap Some e) (shows_calls desk s may nodes rows p)).1 ∙ ap Some (sym bytes);
+        bytes = λ e. (sees_bytes desk s ino kind nodes now rows may.edits o e (shows_calls desk s may nodes rows p)).1 ∙ ap Some (sym bytes);
       }
 
   -- of one that is read
@@ -159,7 +159,7 @@ module _ (desk : DeskSeen) (s : SessionSeen) (may : MayCall desk s) (ino : ℕ) 
         record {
           rights = subst (λ b. HasRights (rights_in f.kind b) (node_at now ino)) (sym body) (subst (λ n. HasRights (rights_in f.kind f.body) (node_at now n)) number read_here.rights);
           bytes = λ e.
-              let c : HasContent desk.sizes now f Regular = subst (λ k. HasContent desk.sizes now f k) e read_here.content in
+              let c : HasContent desk.sizes now f false = subst (λ b. HasContent desk.sizes now f b) e read_here.content in
               ap (λ n. option_map (λ (x : Node). x.bytes) (node_at now n)) (sym number) ∙ c ∙ ap Some (sym bytes);
         }
 

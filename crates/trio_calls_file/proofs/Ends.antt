@@ -1,5 +1,5 @@
 -- How a call that writes ends: with its edit and its note, or for want of room.
-use Rattle.trio_calls_file.proofs.Words.{◌++◌, ◌+◌, ◌<◌, ◌∙◌, ◌∷◌, ◌≡◌, ◌≤◌, AfterTry, AllotFault, AreWithinLimits, Ask, AskedBy, Bool, Call, Count, DeskSeen, DoesCall, Done, Err, Goes, HasPlaces, HasRights, InAllShown, IsAlike, IsBytes, IsNotBusy, IsOpen, IsPlain, IsReplied, LeavesHere, List, MadeRoom, MayBeDone, MayCall, MayShow, NoMemory, NoSpace, Node, Nodes, None, NotGiven, Ok, Outcome, Path, Regular, Replied, Result, Rights, SessionSeen, Some, Told, Truncate, TryEnds, Unrefused, Write, [], alike_then, allot_asks, ap, append-nil, applied, arith, batch_nodes, block_count, body_in, both_then, bytes_in, chain_in, cond, done_by_bytes, edited, eqb, eqb-true, false, file_path, growth, growth_of, in_hand, inl, inr, is_done, largest_size, length, length-bytes_in, length-resized, map, mapped, max, new_length, node_at, noted, open_chain, option_map, path_of, put, put_at, refl, refusal, resized, rights_in, room_in, sees_bytes, shown_by, size_in, sized, spare_numbers, spare_pages, subst, sym, took, true, try_ends, walk, walked_growth, wanted_pages, wants_pages_for, with_content, ℕ}
+use Rattle.trio_calls_file.proofs.Words.{◌++◌, ◌+◌, ◌<◌, ◌∙◌, ◌∷◌, ◌≡◌, ◌≤◌, AfterTry, AllotFault, AreWithinLimits, Ask, AskedBy, Bool, Call, Count, DeskSeen, DoesCall, Done, Err, Goes, HasPlaces, HasRights, InAllShown, IsAlike, IsBytes, IsNotBusy, IsOpenFile, IsPlain, IsReplied, LeavesHere, List, MadeRoom, MayBeDone, MayCall, MayShow, NoMemory, NoSpace, Node, Nodes, None, NotGiven, Ok, Outcome, Path, Regular, Replied, Result, Rights, SessionSeen, Some, Told, Truncate, TryEnds, Unrefused, Write, [], alike_then, allot_asks, ap, append-nil, applied, arith, batch_nodes, block_count, body_in, both_then, bytes_in, chain_in, cond, done_by_bytes, edited, eqb, eqb-true, false, file_path, growth, growth_of, in_hand, inl, inr, is_done, largest_size, length, length-bytes_in, length-resized, map, mapped, max, new_length, node_at, noted, open_chain, option_map, path_of, put, put_at, refl, refusal, resized, rights_in, room_in, sees_bytes, shown_by, size_in, sized, spare_numbers, spare_pages, subst, sym, took, true, try_ends, walk, walked_growth, wanted_pages, wants_pages_for, with_content, ℕ, is_directory}
 use Rattle.std.proofs.lemmas.Bool.{true≢false}
 use Rattle.trio_lease.specs.declared.parts.InoParts.{InoParts}
 use Rattle.trio_nodes.specs.declared.call.Answer.{Answer}
@@ -35,32 +35,32 @@ pub record IsWriting (call' : Call) (new' : List ℕ → List ℕ) (answer' : An
   pub unread : IsBytes (IsReplied answer') → ⊥
 
 -- what is known of its file, in nodes that are shown: nothing refuses the call, and the node has the bytes that the session reads
-record IsKnown (desk : DeskSeen) (s : SessionSeen) (call' : Call) (ino' : ℕ) (now : Nodes) : Type 0 where
-  walks : walk now desk.creds [] (path_of call') ≡ Ok ino'
-  rights : Rights
-  there : HasRights rights (node_at now ino')
-  regular : rights.kind ≡ Regular
-  checks : refusal desk.creds rights call' ≡ None
-  bytes : option_map (λ (x : Node). x.bytes) (node_at now ino') ≡ Some (bytes_in s ino')
+pub record IsKnown (desk : DeskSeen) (s : SessionSeen) (call' : Call) (ino' : ℕ) (now : Nodes) : Type 0 where
+  pub walks : walk now desk.creds [] (path_of call') ≡ Ok ino'
+  pub rights : Rights
+  pub there : HasRights rights (node_at now ino')
+  pub regular : rights.kind ≡ Regular
+  pub checks : refusal desk.creds rights call' ≡ None
+  pub bytes : option_map (λ (x : Node). x.bytes) (node_at now ino') ≡ Some (bytes_in s ino')
 
-module _ (desk : DeskSeen) (s : SessionSeen) (call : Call) (new : List ℕ → List ℕ) (answer : Answer) (ino : ℕ) (may : MayGoOn desk s) (o : IsOpen s ino) (writing : IsWriting call new answer) (unrefused : Unrefused desk s call ino) where
-  -- as long as what is in hand is possible
-  known : InAllShown desk s (λ now. IsKnown desk s call ino now)
-  known nodes rows p =
-      let now : Nodes = batch_nodes desk.creds s.calls nodes in
-      let u = unrefused nodes rows p in
-      let shown : MayShow desk (in_hand s) (in_hand s) nodes now rows = shown_by desk (in_hand s) (in_hand s) s.calls nodes rows (λ n r q. q) may.comes p in
-      let sees = sees_bytes desk s ino nodes now rows may.edits o shown in
-      let same : u.rights ≡ rights_in Regular (body_in s ino) = (let t : Some u.rights ≡ Some (rights_in Regular (body_in s ino)) = sym u.there ∙ sees.0 in cc t) in
-      record { walks = u.walks; rights = u.rights; there = u.there; regular = ap (λ (r : Rights). r.kind) same; checks = u.checks; bytes = sees.1 }
+-- as long as what is in hand is possible
+pub known : (desk : DeskSeen) (s : SessionSeen) (call : Call) (ino : ℕ) → MayGoOn desk s → IsOpenFile s ino → Unrefused desk s call ino → InAllShown desk s (λ now. IsKnown desk s call ino now)
+known desk s call ino may o unrefused nodes rows p =
+    let now : Nodes = batch_nodes desk.creds s.calls nodes in
+    let u = unrefused nodes rows p in
+    let shown : MayShow desk (in_hand s) (in_hand s) nodes now rows = shown_by desk (in_hand s) (in_hand s) s.calls nodes rows (λ n r q. q) may.comes p in
+    let sees = sees_bytes desk s ino Regular nodes now rows may.edits o refl shown in
+    let same : u.rights ≡ rights_in Regular (body_in s ino) = (let t : Some u.rights ≡ Some (rights_in Regular (body_in s ino)) = sym u.there ∙ sees.0 in cc t) in
+    record { walks = u.walks; rights = u.rights; there = u.there; regular = ap (λ (r : Rights). r.kind) same; checks = u.checks; bytes = sees.1 }
 
+module _ (desk : DeskSeen) (s : SessionSeen) (call : Call) (new : List ℕ → List ℕ) (answer : Answer) (ino : ℕ) (may : MayGoOn desk s) (o : IsOpenFile s ino) (writing : IsWriting call new answer) (unrefused : Unrefused desk s call ino) where
   abbrev done : Done
   done = record { call = call; reply = IsReplied answer; made = 0 }
 
   -- the call does to them what it should
   does : (now : Nodes) → IsKnown desk s call ino now → DoesCall desk (record { call = call; reply = IsReplied answer; made = 0 }) now (changed_by call ino (bytes_in s ino) now)
   does now k =
-      done_by_bytes desk done now (path_of call) ino k.rights (bytes_in s ino) writing.path k.walks k.there k.regular k.bytes k.checks
+      done_by_bytes desk done now (path_of call) ino k.rights (bytes_in s ino) writing.path k.walks k.there (ap is_directory k.regular) k.bytes k.checks
       (ap IsReplied (sym (writing.answers k.rights (bytes_in s ino) (length (bytes_in s ino))))) refl
 
   would : (now : Nodes) → IsKnown desk s call ino now → is_done (applied now desk.creds call 0).reply ≡ true
@@ -81,7 +81,7 @@ module _ (desk : DeskSeen) (s : SessionSeen) (call : Call) (new : List ℕ → L
       → InAllShown desk t (λ now. wanted_pages now desk.creds call ≡ growth (block_count (size_in (body_in s ino))) (block_count (new_length call (size_in (body_in s ino)))))
   asks_growth t more calls nodes rows p =
       subst (λ (cs : List Done). wanted_pages (batch_nodes desk.creds cs nodes) desk.creds call ≡ growth (block_count (size_in (body_in s ino))) (block_count (new_length call (size_in (body_in s ino))))) (sym calls)
-      (wants_growth (batch_nodes desk.creds s.calls nodes) (known nodes rows (more nodes rows p)))
+      (wants_growth (batch_nodes desk.creds s.calls nodes) (known desk s call ino may o unrefused nodes rows (more nodes rows p)))
 
   -- ---- the end
 
@@ -91,7 +91,7 @@ module _ (desk : DeskSeen) (s : SessionSeen) (call : Call) (new : List ℕ → L
       note_done desk s t done (with_content ino (new (bytes_in s ino))) e.calls (λ some. absurd (some refl)) may.comes may.made e.becomes.more e.becomes.shows e.may (ap (λ (l : List InoParts). ino_numbers l) e.inodes) e.spent (e.numbers ∙ numbers)
       (λ nodes rows p.
       let now : Nodes = batch_nodes desk.creds s.calls nodes in
-      let it = does now (known nodes rows p) in
+      let it = does now (known desk s call ino may o unrefused nodes rows p) in
       (it.0, it.1, it.2 ∙ writing.change ino (bytes_in s ino) now))
 
   -- so it may with the note that there is no room
@@ -99,15 +99,15 @@ module _ (desk : DeskSeen) (s : SessionSeen) (call : Call) (new : List ℕ → L
   may_lacking wanted free less spent numbers =
       may_looked desk s call (NoSpace wanted free) (record { edits = may.edits; comes = may.comes; made = may.made; spent = spent; spent_numbers = numbers })
       (λ nodes rows p.
-      let k = known nodes rows p in
+      let k = known desk s call ino may o unrefused nodes rows p in
       refused_for_room desk (record { call = call; reply = NoSpace wanted free; made = 0 }) (batch_nodes desk.creds s.calls nodes) (path_of call) ino k.rights wanted free
       writing.path writing.wants k.walks k.there k.checks refl less refl)
 
 -- ---- what is known after room was made
 
 module _ {D : Type 0} (called : D → Ask → Told → D → Type 0) (seen : D → DeskSeen) (d : D) (s : SessionSeen) (ino old size : ℕ) (result : Result Unit AllotFault) (d' : D) (s1 : SessionSeen)
-    (o : IsOpen s ino) (old_is : old ≡ size_in (body_in s ino)) (room : MadeRoom called seen d s ino old size result d' s1) where
-  pub open_room : IsOpen s1 ino
+    (o : IsOpenFile s ino) (old_is : old ≡ size_in (body_in s ino)) (room : MadeRoom called seen d s ino old size result d' s1) where
+  pub open_room : IsOpenFile s1 ino
   open_room = room.wanted.stays.opens ino ∙ o
 
   pub old_room : old ≡ size_in (body_in s1 ino)
@@ -186,8 +186,8 @@ idle_fault NoAllotMemory = tt
 -- ---- a call that writes, after room was made
 
 module _ {D : Type 0} (called : D → Ask → Told → D → Type 0) (seen : D → DeskSeen) (d : D) (s : SessionSeen) (call : Call) (new : List ℕ → List ℕ) (answer : Answer) (ino old size : ℕ) (result : Result Unit AllotFault) (d' : D) (s1 : SessionSeen)
-    (o : IsOpen s ino) (writing : IsWriting call new answer) (old_is : old ≡ size_in (body_in s ino)) (size_is : new_length call old ≡ size) (room : MadeRoom called seen d s ino old size result d' s1) where
-  opens : IsOpen s1 ino
+    (o : IsOpenFile s ino) (writing : IsWriting call new answer) (old_is : old ≡ size_in (body_in s ino)) (size_is : new_length call old ≡ size) (room : MadeRoom called seen d s ino old size result d' s1) where
+  opens : IsOpenFile s1 ino
   opens = open_room called seen d s ino old size result d' s1 o old_is room
 
   growth_is : growth (block_count (size_in (body_in s1 ino))) (block_count (new_length call (size_in (body_in s1 ino)))) ≡ growth (block_count old) (block_count size)

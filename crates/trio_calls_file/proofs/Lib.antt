@@ -13,4 +13,5 @@ pub mod AtTaken
 pub mod OwnReads
 pub mod WholeTries
 pub mod Ends
+pub mod Guards
 mod Words

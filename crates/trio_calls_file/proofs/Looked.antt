@@ -1,5 +1,5 @@
 -- A call that looks or is refused, and its note.
-use Rattle.trio_calls_file.proofs.Words.{◌++◌, ◌<◌, ◌∙◌, ◌≡◌, Ask, Bytes, Call, Denied, DeskSeen, DoesCall, Err, Exists, Goes, InAllShown, IntoItself, IsAlike, IsBytes, IsDir, IsPlain, IsRead, IsReplied, LacksMemory, LeavesHere, List, MatchResult, MayCall, NoInodes, NoMemory, NoSpace, Nodes, NotDir, NotEmpty, NotFound, Ok, Read, Replied, Reply, Result, SessionSeen, Stop, Told, TooLarge, TryEnds, Went, [], alike_room, ap, append-nil, applied, false, inl, inr, is_done, length, map, may_alike, noted, refl, subst, sym, took, try_ends, ℕ}
+use Rattle.trio_calls_file.proofs.Words.{◌++◌, ◌<◌, ◌∙◌, ◌≡◌, Ask, Bytes, Call, Denied, DeskSeen, DoesCall, Err, Exists, Goes, InAllShown, IntoItself, IsAlike, IsBytes, IsDir, IsPlain, IsRead, IsReplied, LacksMemory, LeavesHere, List, MatchResult, MayCall, NoInodes, NoMemory, NoSpace, Nodes, NotDir, NotEmpty, NotFound, Ok, Read, Replied, Reply, Result, SessionSeen, Stop, Told, TooLarge, TryEnds, Went, [], alike_room, ap, append-nil, applied, false, inl, inr, is_done, length, map, may_alike, noted, refl, subst, sym, took, try_ends, ℕ, IsLink, NotLink, Readlink}
 use Rattle.trio_nodes.specs.Apply.{Apply}
 use Rattle.trio_nodes.specs.After.{call_nodes}
 use Rattle.trio_desk.specs.Calls as desk_calls
@@ -29,6 +29,8 @@ IsRefused NotDir = Unit {0}
 IsRefused IsDir = Unit {0}
 IsRefused Denied = Unit {0}
 IsRefused TooLarge = Unit {0}
+IsRefused IsLink = Unit {0}
+IsRefused NotLink = Unit {0}
 IsRefused reply = ⊥
 
 pub refused_look : (call : Call) (reply : Reply) → IsRefused reply → IsLook call reply
@@ -37,6 +39,8 @@ refused_look call NotDir r = record { ends = refl; leaves = λ ino x s' e. e; pl
 refused_look call IsDir r = record { ends = refl; leaves = λ ino x s' e. e; plain = tt; reads = λ b. absurd b }
 refused_look call Denied r = record { ends = inl refl; leaves = λ ino x s' e. e; plain = tt; reads = λ b. absurd b }
 refused_look call TooLarge r = record { ends = refl; leaves = λ ino x s' e. e; plain = tt; reads = λ b. absurd b }
+refused_look call IsLink r = record { ends = refl; leaves = λ ino x s' e. e; plain = tt; reads = λ b. absurd b }
+refused_look call NotLink r = record { ends = refl; leaves = λ ino x s' e. e; plain = tt; reads = λ b. absurd b }
 refused_look call (IsReplied answer) r = absurd r
 refused_look call Exists r = absurd r
 refused_look call NotEmpty r = absurd r
@@ -54,11 +58,15 @@ refused_undone desk call reply now r does = by reply (call_nodes desk.creds now 
     by IsDir after q (inl a) = sym (ap is_done a.0)
     by Denied after q (inl a) = sym (ap is_done a.0)
     by TooLarge after q (inl a) = sym (ap is_done a.0)
+    by IsLink after q (inl a) = sym (ap is_done a.0)
+    by NotLink after q (inl a) = sym (ap is_done a.0)
     by NotFound after q (inr a) = absurd a.0
     by NotDir after q (inr a) = absurd a.0
     by IsDir after q (inr a) = absurd a.0
     by Denied after q (inr a) = absurd a.0
     by TooLarge after q (inr a) = absurd a.0
+    by IsLink after q (inr a) = absurd a.0
+    by NotLink after q (inr a) = absurd a.0
     by (IsReplied answer) after q a = absurd q
     by Exists after q a = absurd q
     by NotEmpty after q a = absurd q
@@ -68,6 +76,9 @@ refused_undone desk call reply now r does = by reply (call_nodes desk.creds now 
 
 pub read_look : (path : List (List ℕ)) (at len : ℕ) (bytes : List ℕ) → IsLook (Read path at len) (IsReplied (Bytes bytes))
 read_look path at len bytes = record { ends = refl; leaves = λ ino x s' e. e; plain = tt; reads = λ b. tt }
+
+pub text_look : (path : List (List ℕ)) (bytes : List ℕ) → IsLook (Readlink path) (IsReplied (Bytes bytes))
+text_look path bytes = record { ends = refl; leaves = λ ino x s' e. e; plain = tt; reads = λ b. tt }
 
 -- ---- the end of a look
 

@@ -1,5 +1,5 @@
 -- A try that is noted.
-use Rattle.trio_calls_file.proofs.Words.{◌++◌, ◌∙◌, ◌≡◌, ArePossible, Ask, Busy, Bytes, Call, DeskSeen, Done, FileTried, Holder, IsAlike, IsBytes, IsPlain, IsRead, IsReplied, LeavesHere, List, NoMemory, Nodes, Option, Outcome, Read, Replied, RepliesTo, Reply, Row, SessionSeen, Told, TryEnds, [], ap, append-nil, batch_nodes, edited, inl, map, noted, refl, subst, sym, took, ℕ}
+use Rattle.trio_calls_file.proofs.Words.{◌++◌, ◌∙◌, ◌≡◌, ArePossible, Ask, Busy, Bytes, Call, DeskSeen, Done, FileTried, Holder, IsAlike, IsBytes, IsPlain, IsRead, IsReplied, LeavesHere, List, NoMemory, Nodes, Option, Outcome, Read, Replied, RepliesTo, Reply, Row, SessionSeen, Told, TryEnds, [], ap, append-nil, batch_nodes, edited, inl, map, noted, refl, subst, sym, took, ℕ, Readlink}
 use Rattle.trio_nodes.specs.declared.call.Answer.TheVariants.{Names}
 use Rattle.trio_desk.specs.Calls as desk_calls
 use Rattle.trio_walk.specs.Tries.{TakesMemory}
@@ -18,6 +18,7 @@ leaves_noted call ino x s' refusal h = noted_alike call refusal x s' h
 -- a read edits nothing
 read_edits : (call : Call) (ino : ℕ) (x : SessionSeen) → IsRead call → edited call ino x ≡ x
 read_edits (Read path at len) ino x r = refl
+read_edits (Readlink path) ino x r = refl
 read_edits call ino x r = absurd r
 
 -- ---- bytes that can't be noted

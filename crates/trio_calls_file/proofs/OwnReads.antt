@@ -1,5 +1,5 @@
 -- A walk takes directories alone, for reading, so none of its leases keeps a regular file busy.
-use Rattle.trio_calls_file.proofs.Words.{◌++◌, ◌||◌, ◌∙◌, ◌∷◌, ◌≡◌, ◌≢◌, ArePossible, Ask, At, Bool, Busy, Call, CallBusyAt, Creds, Denied, DeskSeen, Err, Exists, GrantKind, HasNothing, HoldLease, In, In-cases, IntoItself, IsDir, IsMetIn, IsReplied, Lease, List, Met, Need, Needed, NoInodes, NoMemory, NoSpace, Node, Nodes, None, NotDir, NotEmpty, NotFound, Ok, Option, OthersHold, Outcome, Path, ReadLease, Regular, Replied, Reply, Result, Row, SessionSeen, Shown, Some, Told, TooLarge, Walked, Walks, WriteLease, [], ap, append-nil, asked, batch_nodes, cond, eqb, false, false≢true, grant_for, inl, inr, is_directory, map, need_of, node_at, not, path_of, refl, served_by, shows_root, subst, sym, true, walk_needs, ℕ}
+use Rattle.trio_calls_file.proofs.Words.{◌++◌, ◌||◌, ◌∙◌, ◌∷◌, ◌≡◌, ◌≢◌, ArePossible, Ask, At, Bool, Busy, Call, CallBusyAt, Creds, Denied, DeskSeen, Err, Exists, GrantKind, HasNothing, HoldLease, In, In-cases, IntoItself, IsDir, IsMetIn, IsReplied, Lease, List, Met, Need, Needed, NoInodes, NoMemory, NoSpace, Node, Nodes, None, NotDir, NotEmpty, NotFound, Ok, Option, OthersHold, Outcome, Path, ReadLease, Regular, Replied, Reply, Result, Row, SessionSeen, Shown, Some, Told, TooLarge, Walked, Walks, WriteLease, [], ap, append-nil, asked, batch_nodes, cond, eqb, false, false≢true, grant_for, inl, inr, is_directory, map, need_of, node_at, not, path_of, refl, served_by, shows_root, subst, sym, true, walk_needs, ℕ, IsLink, NotLink}
 use Rattle.trio_rights.specs.declared.rights.Need.TheVariants.{Read as NeedsRead, Write as NeedsWrite}
 use Rattle.trio_lists.proofs.Members.{In-map}
 use Rattle.trio_lease.specs.declared.parts.HoldParts.{HoldParts}
@@ -73,6 +73,8 @@ needs_dirs nodes creds shown writes passed at (name ∷ names) n i =
     by later (Err (NoSpace a b)) e j = absurd j
     by later (Err (NoInodes a b)) e j = absurd j
     by later (Err TooLarge) e j = absurd j
+    by later (Err IsLink) e j = absurd j
+    by later (Err NotLink) e j = absurd j
 
 -- none is a hold
 never_held : (need : Need) → kind_for need ≡ Hold → ⊥

@@ -1,5 +1,5 @@
 -- A whole try, but for its note: the walk, and what is done at the file to which it comes.
-use Rattle.trio_calls_file.proofs.Words.{◌++◌, ◌<◌, ◌∙◌, ◌≡◌, ◌≢◌, AfterTry, Ask, AskedBy, At, Bool, Busy, BusyGrant, Call, ComesHere, Creds, Denied, DeskSeen, DoesCall, Err, Exists, Goes, Grant, HasNoMemory, HasNothing, Holder, In, InAllShown, IntoItself, IsAlike, IsDir, IsFileCall, IsMetIn, IsReplied, IsReply, LacksMemory, LeavesHere, List, MatchResult, MayCall, MayWalk, Met, Needed, NoInodes, NoMemory, NoSpace, Node, Nodes, NotDir, NotEmpty, NotFound, NotLent, Ok, Outcome, Replied, RepliesTo, Reply, Result, SessionSeen, Some, Stop, Told, TooLarge, TryEnds, Walked, Walks, Went, [], alike_room, allot_asks, ap, append-nil, append_assoc, applied, asked, asked_beside, asks_at, asks_lent, batch_nodes, both_then, cond, false, grant_ask, inl, is_done, length, lent_call, map, map-append, may_alike, met_needs, need_of, node_at, own_needs, path_of, refl, served_by, shows_root, subst, sym, took, true, try_ends, walk, walk_needs, walked_growth, wanted_pages, ℕ}
+use Rattle.trio_calls_file.proofs.Words.{◌++◌, ◌<◌, ◌∙◌, ◌≡◌, ◌≢◌, AfterTry, Ask, AskedBy, At, Bool, Busy, BusyGrant, Call, ComesHere, Creds, Denied, DeskSeen, DoesCall, Err, Exists, Goes, Grant, HasNoMemory, HasNothing, Holder, In, InAllShown, IntoItself, IsAlike, IsDir, IsFileCall, IsMetIn, IsReplied, IsReply, LacksMemory, LeavesHere, List, MatchResult, MayCall, MayWalk, Met, Needed, NoInodes, NoMemory, NoSpace, Node, Nodes, NotDir, NotEmpty, NotFound, NotLent, Ok, Outcome, Replied, RepliesTo, Reply, Result, SessionSeen, Some, Stop, Told, TooLarge, TryEnds, Walked, Walks, Went, [], alike_room, allot_asks, ap, append-nil, append_assoc, applied, asked, asked_beside, asks_at, asks_lent, batch_nodes, both_then, cond, false, grant_ask, inl, is_done, length, lent_call, map, map-append, may_alike, met_needs, need_of, node_at, own_needs, path_of, refl, served_by, shows_root, subst, sym, took, true, try_ends, walk, walk_needs, walked_growth, wanted_pages, ℕ, IsLink, NotLink}
 use Rattle.trio_desk.specs.Calls as desk_calls
 use Rattle.trio_laws.proofs.session.FileCalls.{refused_by_walk}
 use Rattle.trio_walk.specs.declared.walks.WalkEnd.{WalkEnd}
@@ -73,6 +73,8 @@ module _ {D : Type 0} (called : D → Ask → Told → D → Type 0) (seen : D �
       comes_to (Replied (NoSpace w f)) e = tt
       comes_to (Replied (NoInodes w f)) e = tt
       comes_to (Replied TooLarge) e = tt
+      comes_to (Replied IsLink) e = tt
+      comes_to (Replied NotLink) e = tt
       comes_to (Busy holder) e = tt
       comes_to NoMemory e = tt
 

@@ -1,5 +1,5 @@
 -- The words that the proofs of this crate share: of the standard library, of the crates below, and of this crate's own definitions.
-pub use Rattle.std.proofs.Common.{◌++◌, ◌+◌, ◌-◌, ◌/◌, ◌<◌, ◌∙◌, ◌∷◌, ◌≡◌, ◌≤◌, Bool, Err, List, None, Ok, Option, Result, Some, [], ap, append_assoc, arith, cond, drop, eqb, false, inl, inr, leb, length, ltb, max, refl, subst, suc, sym, take, true, zero, ℕ}
+pub use Rattle.std.proofs.Common.{◌++◌, ◌+◌, ◌-◌, ◌/◌, ◌<◌, ◌∙◌, ◌∷◌, ◌≡◌, ◌≤◌, ◌⊎◌, Bool, Err, List, None, Ok, Option, Result, Some, [], ap, append_assoc, arith, cond, drop, eqb, false, inl, inr, leb, length, ltb, max, refl, subst, suc, sym, take, true, zero, ℕ}
 pub use Rattle.std.proofs.lemmas.Bool.{eqb-true, false≢true}
 pub use Rattle.std.proofs.lemmas.List.{append-nil, map-append}
 pub use Rattle.std.specs.Option.{option_map}
@@ -35,22 +35,24 @@ pub use Rattle.trio_lists.specs.Lists.{In}
 pub use Rattle.trio_nodes.specs.After.{batch_nodes}
 pub use Rattle.trio_nodes.specs.Apply.{applied, is_done, largest_size, put_at, resized}
 pub use Rattle.trio_nodes.specs.Nodes.{Nodes, node_at}
-pub use Rattle.trio_nodes.specs.Walk.{Path, is_directory, walk}
+pub use Rattle.trio_nodes.specs.Walk.{Path, walk}
 pub use Rattle.trio_nodes.specs.declared.answers.AllotFault.{AllotFault}
 pub use Rattle.trio_nodes.specs.declared.answers.GrantFault.TheVariants.{Busy as BusyGrant, Denied as DeniedGrant}
 pub use Rattle.trio_nodes.specs.declared.call.Answer.TheVariants.{Bytes, Count}
 pub use Rattle.trio_nodes.specs.declared.call.Call.{Call}
-pub use Rattle.trio_nodes.specs.declared.call.Call.TheVariants.{Chmod, Create, List as ListNames, Mkdir, Read, Rename, Rmdir, Stat, Truncate, Unlink, Write}
+pub use Rattle.trio_nodes.specs.declared.call.Call.TheVariants.{Chmod, Create, Guard, List as ListNames, Mkdir, Read, Readlink, Rename, Rmdir, Stat, Symlink, Truncate, Unlink, Write}
 pub use Rattle.trio_nodes.specs.declared.call.Done.{Done}
 pub use Rattle.trio_nodes.specs.declared.call.Reply.{Reply}
-pub use Rattle.trio_nodes.specs.declared.call.Reply.TheVariants.{Denied, Exists, IntoItself, IsDir, NoInodes, NoSpace, NotDir, NotEmpty, NotFound, Ok as IsReplied, TooLarge}
+pub use Rattle.trio_nodes.specs.declared.call.Reply.TheVariants.{Denied, Exists, IntoItself, IsDir, IsLink, NoInodes, NoSpace, NotDir, NotEmpty, NotFound, NotLink, Ok as IsReplied, TooLarge}
 pub use Rattle.trio_nodes.specs.declared.grant.GrantKind.{GrantKind}
 pub use Rattle.trio_nodes.specs.declared.grant.GrantKind.TheVariants.{Read as ReadGrant, Write as WriteGrant}
 pub use Rattle.trio_nodes.specs.declared.grant.Holder.{Holder}
 pub use Rattle.trio_nodes.specs.declared.node.Node.{Node}
+pub use Rattle.trio_rights.proofs.KindFacts.{is_directory-false, kind_cases}
+pub use Rattle.trio_rights.specs.ByKind.{is_directory, is_link, takes_offsets}
 pub use Rattle.trio_rights.specs.Row.{Row}
 pub use Rattle.trio_rights.specs.declared.kind.Kind.{Kind}
-pub use Rattle.trio_rights.specs.declared.kind.Kind.TheVariants.{Directory, Regular}
+pub use Rattle.trio_rights.specs.declared.kind.Kind.TheVariants.{Directory, Link, Regular}
 pub use Rattle.trio_rights.specs.declared.rights.Creds.{Creds}
 pub use Rattle.trio_rights.specs.declared.rights.Need.{Need}
 pub use Rattle.trio_rights.specs.declared.rights.Need.TheVariants.{Read as ToRead}
@@ -60,7 +62,7 @@ pub use Rattle.trio_session.proofs.Shows.{body_had-open}
 pub use Rattle.trio_session.specs.Asked.{Allots, IsAlike, SameDesk, allot_asks, took, with_lease}
 pub use Rattle.trio_session.specs.Deeds.{IsHad, body_had, bytes_had, sized}
 pub use Rattle.trio_session.specs.Layout.{growth, size_in}
-pub use Rattle.trio_session.specs.Seen.{IsOn, IsOpen, SessionSeen, body_in, chain_in, in_hand, kind_shown, open_kind, pages_shown, put, read_file, room_in, serves, spare_numbers, spare_pages}
+pub use Rattle.trio_session.specs.Seen.{IsOn, IsOpenFile, SessionSeen, body_in, chain_in, in_hand, kind_shown, open_kind, pages_shown, put, read_file, room_in, serves, set_guard, spare_numbers, spare_pages}
 pub use Rattle.trio_walk.proofs.Ways.{Went}
 pub use Rattle.trio_walk.proofs.Then.{asks_lent, both_then}
 pub use Rattle.trio_walk.specs.Asks.{AskedBy, IsNotBusy, TryEnds, grant_ask, noted}
@@ -74,5 +76,5 @@ pub use Rattle.trio_walk.specs.declared.outcome.Stop.{Stop}
 pub use Rattle.trio_walk.specs.declared.outcome.Stop.TheVariants.{NoMemory as LacksMemory}
 pub use Rattle.trio_walk.specs.declared.walks.WalkEnd.TheVariants.{At, NoMemory as HasNoMemory, Reply as IsReply}
 pub use Rattle.trio_calls_file.specs.Asks.{FileTried, IsFileCall, edited, growth_of, new_length, walked_growth, wanted_pages}
-pub use Rattle.trio_calls_file.specs.inner.Goes.{AfterTry, CallBusyAt, ComesHere, Goes, IsBytes, IsPlain, IsRead, LeavesHere, MayBeDone, RepliesTo, Unrefused, asks_at, bytes_refusal, checked, grant_for, met_needs, need_for, refusal_at, try_ends, wants_pages_for}
+pub use Rattle.trio_calls_file.specs.inner.Goes.{AfterTry, CallBusyAt, ComesHere, Goes, IsBytes, IsPlain, IsRead, LeavesHere, MayBeDone, RepliesTo, Unrefused, asks_at, bytes_refusal, checked, grant_for, met_needs, need_for, refusal_at, text_refusal, try_ends, wants_pages_for}
 pub use Rattle.trio_calls_file.specs.inner.Rooms.{HasPlaces, MadeRoom}

@@ -1,5 +1,5 @@
 -- What an edit of a file shows: bytes that are put, and another size.
-use Rattle.trio_calls_file.proofs.Words.{◌++◌, ◌+◌, ◌-◌, ◌/◌, ◌∙◌, ◌∷◌, ◌≡◌, ◌≤◌, AreWithinLimits, Bool, DeskSeen, IsAlike, IsOpen, List, MayShow, Node, Nodes, None, Option, Parcel, Regular, Row, SessionSeen, Some, [], alike_by, ap, append_assoc, arith, block_count, body_in, bytes_in, chain_in, cond, drop, false, growth, in_hand, inl, inr, largest_size, length, length-bytes_in, length-resized, mapped, max, node_at, open_chain, option_map, put_at, refl, resized, sees_bytes, size_in, sized, spare_numbers, spare_pages, subst, suc, sym, take, true, with_content, zero, ℕ}
+use Rattle.trio_calls_file.proofs.Words.{◌++◌, ◌+◌, ◌-◌, ◌/◌, ◌∙◌, ◌∷◌, ◌≡◌, ◌≤◌, AreWithinLimits, Bool, DeskSeen, IsAlike, IsOpenFile, List, MayShow, Node, Nodes, None, Option, Parcel, Regular, Row, SessionSeen, Some, [], alike_by, ap, append_assoc, arith, block_count, body_in, bytes_in, chain_in, cond, drop, false, growth, in_hand, inl, inr, largest_size, length, length-bytes_in, length-resized, mapped, max, node_at, open_chain, option_map, put_at, refl, resized, sees_bytes, size_in, sized, spare_numbers, spare_pages, subst, suc, sym, take, true, with_content, zero, ℕ}
 use Rattle.std.proofs.Common.{replicate}
 use Rattle.std.specs.Prelude.{nat_lt, slice_index}
 use Rattle.std.proofs.lemmas.Bool.{cases_lt, ltb-false, ltb-true}
@@ -120,7 +120,7 @@ pages-with_body : (ino : ℕ) (body : List ℕ) (b : Parcel) → SamePages b (wi
 unfolding with_body
 pages-with_body ino body b = refl
 
-pages-with_body_at : (home : Home) (body : List ℕ) (b : Parcel) → SamePages b (with_body_at home body b)
+pub pages-with_body_at : (home : Home) (body : List ℕ) (b : Parcel) → SamePages b (with_body_at home body b)
 pages-with_body_at (Leased ino) body b = pages-with_body ino body b
 pages-with_body_at (InSlot page slot) body b = pages-with_page page _ b
 
@@ -212,7 +212,7 @@ room_put ino at new s t e = ap (λ (q : SessionSeen). q.room.calls) e
 pub record Edits (desk : DeskSeen) (s t : SessionSeen) (ino : ℕ) (new : List ℕ) : Type 0 where
   pub becomes : Becomes desk (in_hand s) (in_hand t) (with_content ino new)
   pub may : MayEdit desk t
-  pub writable : IsOpen t ino
+  pub writable : IsOpenFile t ino
   pub bytes : bytes_in t ino ≡ new
   pub size : size_in (body_in t ino) ≡ length new
   pub numbers : spare_numbers t ≡ spare_numbers s
@@ -230,13 +230,13 @@ becomes_as desk h h' f g b e = record {
   order = b.order;
 }
 
-module _ (desk : DeskSeen) (s : SessionSeen) (ino : ℕ) (m : MayEdit desk s) (o : IsOpen s ino) where
+module _ (desk : DeskSeen) (s : SessionSeen) (ino : ℕ) (m : MayEdit desk s) (o : IsOpenFile s ino) where
   -- a file that stays gets the bytes that it has
   same_becomes : Becomes desk (in_hand s) (in_hand s) (with_content ino (bytes_in s ino))
   same_becomes =
       becomes_as desk (in_hand s) (in_hand s) (λ nodes. nodes) (with_content ino (bytes_in s ino))
       (record { more = λ nodes rows p. p; shows = λ nodes nodes' rows may. may.shows; tree = λ nodes nodes' rows may. may.tree; order = m.order })
-      (λ nodes nodes' rows may. sym (with_content-there ino (bytes_in s ino) nodes' (sees_bytes desk s ino nodes nodes' rows m o may).1))
+      (λ nodes nodes' rows may. sym (with_content-there ino (bytes_in s ino) nodes' (sees_bytes desk s ino Regular nodes nodes' rows m o refl may).1))
 
   edits_of : (t : SessionSeen) (new : List ℕ) → GetsBytes desk s t ino new → spare_pages t ≡ [] → t.calls ≡ s.calls → Edits desk s t ino new
   edits_of t new g spent calls = record {

@@ -4,7 +4,7 @@ use Rattle.trio_rights.specs.declared.rights.Creds.{Creds}
 use Rattle.trio_layout.specs.Body.{block_count}
 use Rattle.trio_nodes.specs.declared.node.Node.{Node}
 use Rattle.trio_nodes.specs.declared.call.Call.{Call}
-use Rattle.trio_nodes.specs.declared.call.Call.TheVariants.{Write, Read, Truncate, Stat}
+use Rattle.trio_nodes.specs.declared.call.Call.TheVariants.{Write, Read, Truncate, Stat, Readlink, Guard}
 use Rattle.trio_nodes.specs.declared.call.Reply as reply
 use Rattle.trio_nodes.specs.declared.call.Reply.TheVariants.{Ok as IsReplied}
 use Rattle.trio_nodes.specs.Nodes.{Nodes, node_at}
@@ -12,7 +12,7 @@ use Rattle.trio_nodes.specs.Walk.{walk}
 use Rattle.trio_nodes.specs.Apply.{applied, is_done}
 use Rattle.trio_desk.specs.Call.{Ask, DeskSeen, Told}
 use Rattle.trio_session.specs.Layout.{growth, size_in}
-use Rattle.trio_session.specs.Seen.{SessionSeen, body_in, put}
+use Rattle.trio_session.specs.Seen.{SessionSeen, body_in, put, set_guard}
 use Rattle.trio_walk.specs.Needs.{asked, file_needs, path_of}
 use Rattle.trio_walk.specs.Walks.{served_by, shows_root}
 use Rattle.trio_walk.specs.Asks.{AskedBy, Called, Tried, grant_ask, noted}
@@ -29,6 +29,8 @@ IsFileCall (Write path at bytes) = length bytes ≤ 4096
 IsFileCall (Read path at len) = len ≤ 4096
 IsFileCall (Truncate path size) = Unit {0}
 IsFileCall (Stat path) = Unit {0}
+IsFileCall (Readlink path) = Unit {0}
+IsFileCall (Guard path on) = Unit {0}
 IsFileCall call = ⊥
 
 -- ---- what is asked
@@ -67,6 +69,7 @@ asks_of nodes creds s call =
 abbrev pub edited : Call → ℕ → SessionSeen → SessionSeen
 edited (Write path at bytes) ino s = if length bytes == 0 then s else put ino at bytes (sized ino (new_length (Write path at bytes) (size_in (body_in s ino))) s)
 edited (Truncate path size) ino s = sized ino size s
+edited (Guard path on) ino s = set_guard ino on s
 edited call ino s = s
 
 -- What a try leaves of a session that took all that was given: where the call is done the file has its edit, and else nothing was

@@ -59,7 +59,8 @@ impl Tries for FileTry {
     ghost unsettled = { λ t desk desk' s s' may none. (may.0, may_unsettled desk desk' s s' may.1 none.seen none.same none.on) };
 }
 
-/// Makes a call of a file: a write, a read, a truncate or a stat.
+/// Makes a call of a file: a write, a read, a truncate, a stat, the reading of a link's text, or a change
+/// of the guard.
 ///
 /// It takes all its leases, then its memory, then its allotment, and then changes bytes. Where the
 /// desk answers that one is busy the session settles, and the call is tried once more.

@@ -6,12 +6,13 @@ ghost use Rattle.trio_layout.specs.Body.{block_count};
 ghost use Rattle.trio_nodes.specs.Apply.{largest_size};
 ghost use Rattle.trio_nodes.specs.Walk.{Path as NamePath};
 ghost use Rattle.trio_session.specs.Layout.{growth};
-ghost use Rattle.trio_session.specs.Seen.{IsOpen, kind_shown, serves};
+ghost use Rattle.trio_session.specs.Asked.{IsAlike};
+ghost use Rattle.trio_session.specs.Seen.{IsOpenFile, kind_shown, serves, set_guard};
 ghost use Rattle.trio_walk.specs.Needs.{path_of};
 ghost use Rattle.trio_edit_laws.specs.Calls.{MayCall};
 ghost use Rattle.trio_walk.specs.Walks.{HasMet};
 ghost use Rattle.trio_calls_file.specs.Asks.{IsFileCall};
-ghost use Rattle.trio_calls_file.specs.inner.Goes.{CallBusyAt, ComesHere, Goes, Unrefused, asks_at, bytes_refusal, bytes_reply, checked, grant_for, need_for, refusal_at, stat_reply, try_ends, wants_pages_for};
+ghost use Rattle.trio_calls_file.specs.inner.Goes.{CallBusyAt, ComesHere, Goes, Unrefused, asks_at, bytes_refusal, bytes_reply, checked, grant_for, need_for, refusal_at, stat_reply, text_refusal, text_reply, try_ends, wants_pages_for};
 ghost use Rattle.trio_walk.specs.Asks.{IsNotBusy};
 ghost use Rattle.trio_session.specs.Deeds.{IsHad};
 ghost use Rattle.trio_calls_file.specs.inner.Rooms.{MadeRoom};
@@ -104,6 +105,8 @@ fn at_taken<D: Desk>(
         Call::Truncate { size, .. } => truncate(session, desk, met.ino, *size),
         Call::Read { at, len, .. } => read(alloc, session, met.ino, *at, *len),
         Call::Stat { .. } => stat(session, desk.creds(), met),
+        Call::Readlink { .. } => read_text(alloc, session, met.ino),
+        Call::Guard { on, .. } => guard(session, met.ino, *on),
         _ => unreachable!(),
     }
 }
@@ -113,7 +116,7 @@ fn need_for(call: &Call) -> Need
     ensures { result ≡ need_for call.now }
 {
     match call {
-        Call::Write { .. } | Call::Truncate { .. } => Need::Write,
+        Call::Write { .. } | Call::Truncate { .. } | Call::Guard { .. } => Need::Write,
         _ => Need::Read,
     }
 }
@@ -123,7 +126,7 @@ fn grant_for(call: &Call) -> GrantKind
     ensures { result ≡ grant_for call.now }
 {
     match call {
-        Call::Write { .. } | Call::Truncate { .. } => GrantKind::Write,
+        Call::Write { .. } | Call::Truncate { .. } | Call::Guard { .. } => GrantKind::Write,
         _ => GrantKind::Read,
     }
 }
@@ -139,7 +142,8 @@ fn refusal(kind: Kind, given: bool, call: &Call) -> Option<Reply>
             bytes_refusal(kind, given, fits)
         }
         Call::Truncate { size, .. } => bytes_refusal(kind, given, *size <= LARGEST_SIZE),
-        Call::Read { .. } => bytes_refusal(kind, given, true),
+        Call::Read { .. } | Call::Guard { .. } => bytes_refusal(kind, given, true),
+        Call::Readlink { .. } => text_refusal(kind, given),
         Call::Stat { .. } if !given => Some(Reply::Denied),
         _ => None,
     }
@@ -151,9 +155,23 @@ fn bytes_refusal(kind: Kind, given: bool, fits: bool) -> Option<Reply>
 {
     match kind {
         Kind::Directory => Some(Reply::IsDir),
+        Kind::Link => Some(Reply::IsLink),
         Kind::Regular if !given => Some(Reply::Denied),
         Kind::Regular if !fits => Some(Reply::TooLarge),
         Kind::Regular => None,
+    }
+}
+
+// why the text of a link isn't read at such a file
+fn text_refusal(kind: Kind, given: bool) -> Option<Reply>
+    ensures { result ≡ text_refusal kind given }
+{
+    if !kind.is_link() {
+        Some(Reply::NotLink)
+    } else if !given {
+        Some(Reply::Denied)
+    } else {
+        None
     }
 }
 
@@ -177,7 +195,7 @@ fn make_room<D: Desk>(
     size: u64,
 ) -> Result<(), AllotFault>
     requires may { MayCall (D.seen desk.old) session.old }
-    requires open { IsOpen session.old ino }
+    requires open { IsOpenFile session.old ino }
     requires old { old ≤ largest_size }
     requires size { size ≤ largest_size }
     ensures room { MadeRoom D.called D.seen desk.old session.old ino old size result desk.new session.new }
@@ -199,7 +217,7 @@ fn write<D: Desk>(
     requires may { MayCall (D.seen desk.old) session.old }
     requires limits { AreWithinLimits (D.seen desk.old).sizes }
     requires had { IsHad session.old ino }
-    requires open { IsOpen session.old ino }
+    requires open { IsOpenFile session.old ino }
     requires few { length bytes.now ≤ 4096 }
     requires within { at + length bytes.now ≤ largest_size }
     ensures goes { (path : NamePath) → Unrefused (D.seen desk.old) session.old (Call.Write path at bytes.now) ino
@@ -241,7 +259,7 @@ fn truncate<D: Desk>(
     requires may { MayCall (D.seen desk.old) session.old }
     requires limits { AreWithinLimits (D.seen desk.old).sizes }
     requires had { IsHad session.old ino }
-    requires open { IsOpen session.old ino }
+    requires open { IsOpenFile session.old ino }
     requires within { size ≤ largest_size }
     ensures goes { (path : NamePath) → Unrefused (D.seen desk.old) session.old (Call.Truncate path size) ino
         → Goes D.called D.seen desk.old session.old (Call.Truncate path size) ino (wants_pages_for (D.seen desk.old).creds (Call.Truncate path size)) (try_ends result) desk.new session.new }
@@ -265,6 +283,33 @@ fn read(alloc: Global, session: &mut Session, ino: u32, at: u64, len: u32) -> Re
 {
     match bytes_of(alloc, session, ino, at, len) {
         Ok(bytes) => noted_reply(session, Reply::Ok(Answer::Bytes(bytes))),
+        Err(NoMemory) => Err(Stop::NoMemory),
+    }
+}
+
+// the text of a link that is taken: all its bytes
+fn read_text(alloc: Global, session: &mut Session, ino: u32) -> Result<Reply, Stop>
+    requires had { IsHad session.old ino }
+    ensures kept { session.new ≡ record session.old { room = session.new.room } }
+    ensures ends { MatchResult result (λ r. (r ≡ text_reply session.old ino) × (length session.new.calls < session.new.room.calls)) (λ stop. stop ≡ Stop.NoMemory) }
+{
+    let size = size_of(session, ino) as u32;
+    match bytes_of(alloc, session, ino, 0, size) {
+        Ok(text) => noted_reply(session, Reply::Ok(Answer::Bytes(text))),
+        Err(NoMemory) => Err(Stop::NoMemory),
+    }
+}
+
+// a file that is taken is guarded from now on, or no longer
+fn guard(session: &mut Session, ino: u32, on: bool) -> Result<Reply, Stop>
+    requires open { IsOpenFile session.old ino }
+    ensures ends { MatchResult result (λ r. (r ≡ Reply.Ok Answer.Done) × IsAlike (set_guard ino on session.old) session.new × (length session.old.calls < session.new.room.calls)) (λ stop. (stop ≡ Stop.NoMemory) × (session.new ≡ record session.old { room = session.new.room })) }
+{
+    match session.reserve_call() {
+        Ok(()) => {
+            session.set_guard(ino, on);
+            Ok(Reply::Ok(Answer::Done))
+        }
         Err(NoMemory) => Err(Stop::NoMemory),
     }
 }

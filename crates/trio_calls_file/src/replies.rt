@@ -45,7 +45,9 @@ fn path_of(call: &Call) -> &Path
         Call::Write { path, .. }
         | Call::Read { path, .. }
         | Call::Truncate { path, .. }
-        | Call::Stat { path } => path,
+        | Call::Stat { path }
+        | Call::Readlink { path }
+        | Call::Guard { path, .. } => path,
         _ => unreachable!(),
     }
 }

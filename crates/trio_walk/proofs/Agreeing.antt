@@ -1,5 +1,5 @@
 -- In one tree walks need one kind of grant on each directory.
-use Rattle.trio_walk.proofs.Words.{◌++◌, ◌||◌, ◌∙◌, ◌∷◌, ◌≡◌, Bool, Creds, Denied, Err, Exists, In, In-cases, IntoItself, IsDir, IsTree, List, Need, Needed, NoInodes, NoSpace, Node, Nodes, None, NotDir, NotEmpty, NotFound, Ok, Option, Path, Result, Some, TooLarge, [], and_then, ap, append-nil, append_assoc, arith, asked_beside, cond, enter, enter_node, entered_needs, eqb, false, find_named, find_named-Child, found_needs, inl, inr, into_needs, is_directory, kind_for, lacks, list_any, need_at, needs_from, node_at, not, reached_by, refl, serves_need, some_one, subst, sym, true, walk, walk_from, walk_needs, ℕ}
+use Rattle.trio_walk.proofs.Words.{◌++◌, ◌||◌, ◌∙◌, ◌∷◌, ◌≡◌, Bool, Creds, Denied, Err, Exists, In, In-cases, IntoItself, IsDir, IsTree, List, Need, Needed, NoInodes, NoSpace, Node, Nodes, None, NotDir, NotEmpty, NotFound, Ok, Option, Path, Result, Some, TooLarge, [], and_then, ap, append-nil, append_assoc, arith, asked_beside, cond, enter, enter_node, entered_needs, eqb, false, find_named, find_named-Child, found_needs, inl, inr, into_needs, is_directory, kind_for, lacks, list_any, need_at, needs_from, node_at, not, reached_by, refl, serves_need, some_one, subst, sym, true, walk, walk_from, walk_needs, ℕ, IsLink, NotLink}
 use Rattle.std.specs.Option.{ok_or}
 use Rattle.trio_nodes.specs.declared.call.Reply.{Reply}
 use Rattle.trio_nodes.specs.declared.call.Reply.TheVariants.{Ok as Replied}
@@ -90,6 +90,8 @@ module _ (now : Nodes) (creds : Creds) (shown : Bool) (writes : List Path) where
   entered_need names at a (Err (NoSpace w k)) f later x i = absurd i
   entered_need names at a (Err (NoInodes w k)) f later x i = absurd i
   entered_need names at a (Err TooLarge) f later x i = absurd i
+  entered_need names at a (Err IsLink) f later x i = absurd i
+  entered_need names at a (Err NotLink) f later x i = absurd i
 
   found_need : (o : Option ℕ) (f : ℕ → List Needed) → ((child : ℕ) → o ≡ Some child → (x : Needed) → In x (f child) → IsNeedAt x) → (x : Needed) → In x (found_needs o f) → IsNeedAt x
   found_need None f later x i = absurd i

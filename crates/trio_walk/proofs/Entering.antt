@@ -1,5 +1,5 @@
 -- How a directory is entered.
-use Rattle.trio_walk.proofs.Words.{◌++◌, ◌∙◌, ◌∷◌, ◌≡◌, ◌≢◌, ArePossible, Ask, At, Bool, Busy, BusyGrant, Call, Creds, Denied, DeniedGrant, DeskSeen, Directory, EndsBy, Entered, Enters, Err, Grant, GrantKind, HasCause, HasMet, Hold, HoldLease, Holder, In, In-left, In-map, IsMet, IsMetIn, Lease, List, MayTake, MayWalk, Met, Need, Needed, NoGrantMemory, NoMemory, Node, Nodes, None, NotDir, NotLent, Ok, Option, Read, ReadLease, Regular, Reply, Result, Rights, Row, SessionSeen, Some, TakenAs, ToRead, ToWrite, Told, Took, WalkEnd, Way, Write, WriteLease, [], ap, append-nil, asked, batch_nodes, body_refuses, cond, denies, enter, enter_node, entered_needs, false, false≢true, gives_met, here, inl, inr, is_directory, is_some, kind_for, kind_lent, kind_shown, lacks, map, need_of, node_at, not, one_need, option_map, option_map_or, or-false, permits, refl, rights_of, served_by, serves, some_one, subst, sym, true, with_lease, with_leases, ℕ}
+use Rattle.trio_walk.proofs.Words.{◌++◌, ◌∙◌, ◌∷◌, ◌≡◌, ◌≢◌, ArePossible, Ask, At, Bool, Busy, BusyGrant, Call, Creds, Denied, DeniedGrant, DeskSeen, Directory, EndsBy, Entered, Enters, Err, Grant, GrantKind, HasCause, HasMet, Hold, HoldLease, Holder, In, In-left, In-map, IsMet, IsMetIn, Lease, List, MayTake, MayWalk, Met, Need, Needed, NoGrantMemory, NoMemory, Node, Nodes, None, NotDir, NotLent, Ok, Option, Read, ReadLease, Reply, Result, Rights, Row, SessionSeen, Some, TakenAs, ToRead, ToWrite, Told, Took, WalkEnd, Way, Write, WriteLease, [], ap, append-nil, asked, batch_nodes, body_refuses, cond, denies, enter, enter_node, entered_needs, false, false≢true, gives_met, here, inl, inr, is_directory, is_some, kind_for, kind_lent, kind_shown, lacks, map, need_of, node_at, not, one_need, option_map, option_map_or, or-false, permits, refl, rights_of, served_by, serves, some_one, subst, sym, true, with_lease, with_leases, ℕ}
 use Rattle.std.specs.Prelude.{◌&&◌}
 use Rattle.trio_nodes.specs.declared.call.Reply as reply
 use Rattle.trio_walk.specs.declared.met.Rights as shown_rights
@@ -33,10 +33,10 @@ module _ (need : Need) (shown : Bool) (x : SessionSeen) (nodes now : Nodes) (cre
   asks_by : (r : Reached) → enter now creds need m.ino ≡ r → asked (served_by s) (here shown need now creds m.ino) ≡ asked (served_by s) (entered_needs shown m.ino (kind_for need) r (λ d. []))
   asks_by r e = ap (λ q. asked (served_by s) (entered_needs shown m.ino (kind_for need) q (λ d. []))) e
 
-  pub not_directory : m.kind ≡ Regular → Enters shown need now creds s m.ino (Err (Reply NotDir)) []
+  pub not_directory : is_directory m.kind ≡ false → Enters shown need now creds s m.ino (Err (Reply NotDir)) []
   not_directory k =
       let e : enter now creds need m.ino ≡ Err NotDir =
-      enter_is ∙ ap (λ q. cond {A = Reached} (not (is_directory q)) (Err NotDir) (cond {A = Reached} (lacks creds need t.after) (Err Denied) (Ok m.ino))) k in
+      enter_is ∙ ap (λ q. cond {A = Reached} (not q) (Err NotDir) (cond {A = Reached} (lacks creds need t.after) (Err Denied) (Ok m.ino))) k in
       (e, asks_by (Err NotDir) e)
 
   module _ (dir : m.kind ≡ Directory) where
@@ -126,8 +126,8 @@ module _ {D : Type 0} (called : D → Ask → Told → D → Type 0) (seen : D �
   stood : Way called seen d s [] [] d s
   stood = record { made = refl; took = record { same = refl; indexed = λ n i. i }; as_lent = λ f i. absurd i; lends = same_seen (seen d); busy = λ n kind holder i. absurd i; lib = refl; sizes = refl; root = refl; creds = refl; others = λ n kind holder i. absurd i }
 
-  pub regular_entered : m.kind ≡ Regular → Entered called seen d s m need (Err (Reply NotDir)) d s
-  regular_entered k = record {
+  pub file_entered : is_directory m.kind ≡ false → Entered called seen d s m need (Err (Reply NotDir)) d s
+  file_entered k = record {
     more = [];
     last = [];
     needs = [];

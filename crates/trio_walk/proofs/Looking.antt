@@ -1,5 +1,5 @@
 -- What a look-up finds.
-use Rattle.trio_walk.proofs.Words.{◌%◌, ◌/◌, ◌<◌, ◌||◌, ◌∙◌, ◌≡◌, ◌⊎◌, AboveIsOpen, ArePossible, Bool, Case, Creds, Denied, DeskSeen, Directory, EntryPart, Err, HoldParts, In, In-right, IsAmong, IsDirectory, IsLeaseIn, IsLive, IsMet, IsTree, IsView, IsWellLent, Kind, List, Lists, LooksUp, MadeFile, MayLookIn, MayWalk, Met, Need, Node, Nodes, None, NotDir, NotFound, Ok, Option, Place, Regular, Result, Rights, Room, Row, SessionSeen, Shown, Shows, Some, ToRead, [], ap, arith, batch_nodes, block_shown, body_in_slot, cond, dir_pages, enter, enter_node, entries_shown, entry_in, entry_node, entry_shown, eqb, eqb-true, every_number, false, false≢true, find-In, find_named, find_named-Child, get_or, in_hand, inl, ino_numbers, inr, is_directory, is_some, kind_shown, lacks, lent_files, made_file, map-In, mapped, met_of, ne_eqb, node_at, not, number_shown, open_kind, option_and_then, option_map, option_map_or, option_or, or-true, parcel_case, permits, place_at, place_of, place_shown, read_file, refl, rights_at, rights_in, rights_of, slice_get-get_or, slot_bytes, slot_of, slot_with, slots_of, slots_shown, some_one, subst, sym, tree_stays_through, true, ℕ}
+use Rattle.trio_walk.proofs.Words.{◌%◌, ◌/◌, ◌<◌, ◌||◌, ◌∙◌, ◌≡◌, ◌⊎◌, AboveIsOpen, ArePossible, Bool, Case, Creds, Denied, DeskSeen, Directory, EntryPart, Err, HoldParts, In, In-right, IsAmong, IsDirectory, IsLeaseIn, IsLive, IsMet, IsTree, IsView, IsWellLent, Kind, Link, List, Lists, LooksUp, MadeFile, MayLookIn, MayWalk, Met, Need, Node, Nodes, None, NotDir, NotFound, Ok, Option, Place, Regular, Result, Rights, Room, Row, SessionSeen, Shown, Shows, Some, ToRead, [], ap, arith, batch_nodes, block_shown, body_in_slot, cond, dir_pages, enter, enter_node, entries_shown, entry_in, entry_node, entry_shown, eqb, eqb-true, every_number, false, false≢true, find-In, find_named, find_named-Child, get_or, in_hand, inl, ino_numbers, inr, is_directory, is_some, kind_shown, lacks, lent_files, made_file, map-In, mapped, met_of, ne_eqb, node_at, not, number_shown, open_kind, option_and_then, option_map, option_map_or, option_or, or-true, parcel_case, permits, place_at, place_of, place_shown, read_file, refl, rights_at, rights_in, rights_of, slice_get-get_or, slot_bytes, slot_of, slot_with, slots_of, slots_shown, some_one, subst, sym, tree_stays_through, true, ℕ}
 use Rattle.std.specs.Prelude.{IsSome}
 use Rattle.trio_lists.proofs.Members.{option_and_then-Some}
 use Rattle.trio_nodes.specs.declared.call.Reply.{Reply}
@@ -36,6 +36,8 @@ entered_node creds need n k (Some x) h = by x.kind refl (lacks creds need x) ref
   where
     by : (kind : Kind) → x.kind ≡ kind → (b : Bool) → lacks creds need x ≡ b → enter_node creds need n (Some x) ≡ Ok k → (y : Node) × (Some x ≡ Some y) × (y.kind ≡ Directory) × (lacks creds need y ≡ false)
     by Regular e b l q =
+        let wrong : Err NotDir ≡ Ok k = sym (ap (λ z. cond {A = Result ℕ Reply} (not (is_directory z)) (Err NotDir) (cond {A = Result ℕ Reply} (lacks creds need x) (Err Denied) (Ok n))) e) ∙ q in absurd (cc wrong)
+    by Link e b l q =
         let wrong : Err NotDir ≡ Ok k = sym (ap (λ z. cond {A = Result ℕ Reply} (not (is_directory z)) (Err NotDir) (cond {A = Result ℕ Reply} (lacks creds need x) (Err Denied) (Ok n))) e) ∙ q in absurd (cc wrong)
     by Directory e true l q =
         let wrong : Err Denied ≡ Ok k =
@@ -134,6 +136,7 @@ module _ (desk : DeskSeen) (s : SessionSeen) (may : MayWalk desk s) (nodes : Nod
       by : (o : Option Kind) → open_kind s d ≡ o → SeesHere s d (batch_nodes desk.creds s.calls nodes)
       by (Some Directory) e = (let o = may.sees d e nodes rows p in record { sees = record { named = o.named; entries = o.entries }; made = o.made })
       by (Some Regular) e = (let wrong : Some Regular ≡ Some Directory = kind_by (Some Regular) e in absurd (cc wrong))
+      by (Some Link) e = (let wrong : Some Link ≡ Some Directory = kind_by (Some Link) e in absurd (cc wrong))
       by None e = by_read e (read_file s d) refl
 
   -- ---- a child of a directory that may be looked in
@@ -211,6 +214,7 @@ entry_there s d name p dir h =
 listed_directory : (k : Option Kind) (slots : List (Option (List ℕ))) (name : List ℕ) (p : Place) → place_of k slots name ≡ Some p → k ≡ Some Directory
 listed_directory (Some Directory) slots name p h = refl
 listed_directory (Some Regular) slots name p h = absurd cc
+listed_directory (Some Link) slots name p h = absurd cc
 listed_directory None slots name p h = absurd cc
 
 -- so the slot of a name that stands in a directory has an entry

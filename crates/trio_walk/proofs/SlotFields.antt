@@ -1,5 +1,5 @@
 -- What stands at the places of a slot's fields.
-use Rattle.trio_walk.proofs.Words.{◌&&◌, ◌++◌, ◌+◌, ◌∙◌, ◌∷◌, ◌≡◌, Bad, Bool, Empty, Entry, EntryPart, IsSome, List, None, Option, Some, [], ap, arith, cond, entry_in, eqb, false, get_or, length, number_at, refl, sym, take, true, w32, ℕ}
+use Rattle.trio_walk.proofs.Words.{◌&&◌, ◌++◌, ◌∙◌, ◌∷◌, ◌≡◌, Bad, Bool, Empty, Entry, EntryPart, IsSome, List, None, Option, Some, ap, arith, cond, entry_in, eqb, false, get_or, length, number_at, refl, sym, take, true, w32, ℕ}
 use Rattle.std.proofs.Common.{◌-◌}
 use Rattle.std.specs.Int.{to_le_bytes}
 use Rattle.std.specs.Str.{bytes_eq}

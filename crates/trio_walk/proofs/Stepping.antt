@@ -1,5 +1,5 @@
 -- One step of a walk: what it comes to, and what it asks.
-use Rattle.trio_walk.proofs.Words.{◌&&◌, ◌++◌, ◌+◌, ◌<◌, ◌||◌, ◌∙◌, ◌∷◌, ◌≡◌, ◌⊎◌, Bool, Creds, Denied, Err, Exists, GrantKind, Hold, HoldLease, HoldParts, In, IntoItself, IsDir, Lease, LentFile, List, MadeFile, Needed, NoInodes, NoSpace, Nodes, None, NotDir, NotEmpty, NotFound, Ok, Option, Path, Read, ReadLease, Result, SessionSeen, Shown, Some, TooLarge, TookLeases, Write, WriteLease, [], ap, append-nil, asked, asked_beside, cond, drop, enter, entered_needs, eqb, false, find, find-append, find_named, found_needs, get_or, held_file, inl, inr, is_some, kind_for, length, list_any, made_file, map, need_at, need_of, needs_from, not, open_kind, option_map, option_or, or-false, read_file, refl, served_by, serves, serves_need, suc, sym, take, take-suc, true, walk_from, with_lease, with_leases, written_file, ℕ}
+use Rattle.trio_walk.proofs.Words.{◌&&◌, ◌++◌, ◌+◌, ◌<◌, ◌||◌, ◌∙◌, ◌∷◌, ◌≡◌, ◌⊎◌, Bool, Creds, Denied, Err, Exists, GrantKind, Hold, HoldLease, HoldParts, In, IntoItself, IsDir, Lease, LentFile, List, MadeFile, Needed, NoInodes, NoSpace, Nodes, None, NotDir, NotEmpty, NotFound, Ok, Option, Path, Read, ReadLease, Result, SessionSeen, Shown, Some, TooLarge, TookLeases, Write, WriteLease, [], ap, append-nil, asked, asked_beside, cond, drop, enter, entered_needs, eqb, false, find, find-append, find_named, found_needs, get_or, held_file, inl, inr, is_some, kind_for, length, list_any, made_file, map, need_at, need_of, needs_from, not, open_kind, option_map, option_or, or-false, read_file, refl, served_by, serves, serves_need, suc, sym, take, take-suc, true, walk_from, with_lease, with_leases, written_file, ℕ, IsLink, NotLink}
 use Rattle.std.proofs.Common.{add-one}
 use Rattle.std.proofs.Math.Bool.{and-true, or_assoc}
 use Rattle.std.proofs.Math.Seq.{drop-cons}
@@ -124,6 +124,8 @@ module _ (shown : Bool) (ino : ℕ) (kind : GrantKind) where
   err_needs (NoSpace w k) f = refl
   err_needs (NoInodes w k) f = refl
   err_needs TooLarge f = refl
+  err_needs IsLink f = refl
+  err_needs NotLink f = refl
 
   one_if : (b : Bool) → (cond b [] (n ∷ []) ≡ []) ⊎ (cond b [] (n ∷ []) ≡ n ∷ [])
   one_if true = inl refl
@@ -142,6 +144,8 @@ module _ (shown : Bool) (ino : ℕ) (kind : GrantKind) where
   one_or_none (Err (NoSpace w k)) = inl refl
   one_or_none (Err (NoInodes w k)) = inl refl
   one_or_none (Err TooLarge) = inl refl
+  one_or_none (Err IsLink) = inl refl
+  one_or_none (Err NotLink) = inl refl
 
   module _ (s0 s : SessionSeen) (got : List Needed) (serve : serves s ino kind ≡ (serves s0 ino kind || list_any (serves_need n) got)) where
     -- asked beside what was got, or of the session that has it

@@ -1,5 +1,5 @@
 -- How a try ends by a walk or a taking that comes to no file, and what it asked.
-use Rattle.trio_walk.proofs.Words.{◌++◌, ◌∙◌, ◌≡◌, At, Busy, Call, Denied, DeniedGrant, EndsBy, Exists, Grant, IntoItself, IsDir, Lease, List, Needed, NoGrantMemory, NoInodes, NoMemory, NoSpace, NotDir, NotEmpty, NotFound, NotLent, Replied, Reply, TooLarge, WalkEnd, ap, inl, inr, lent_call, map, map-append, need_of, refl, sym}
+use Rattle.trio_walk.proofs.Words.{◌++◌, ◌∙◌, ◌≡◌, At, Busy, Call, Denied, DeniedGrant, EndsBy, Exists, Grant, IntoItself, IsDir, Lease, List, Needed, NoGrantMemory, NoInodes, NoMemory, NoSpace, NotDir, NotEmpty, NotFound, NotLent, Replied, Reply, TooLarge, WalkEnd, ap, inl, inr, lent_call, map, map-append, need_of, refl, sym, IsLink, NotLink}
 use Rattle.trio_nodes.specs.declared.call.Reply as reply
 use Rattle.trio_nodes.specs.declared.call.Reply.TheVariants.{Ok as Succeeds}
 use Rattle.trio_walk.specs.Asks.{TryEnds, grant_ask}
@@ -52,6 +52,8 @@ by_refusal P lost through denied IntoItself st = absurd st
 by_refusal P lost through denied (NoSpace w f) st = absurd st
 by_refusal P lost through denied (NoInodes w f) st = absurd st
 by_refusal P lost through denied TooLarge st = absurd st
+by_refusal P lost through denied IsLink st = absurd st
+by_refusal P lost through denied NotLink st = absurd st
 
 pub refusal_ends : (r : reply.Reply) (last : List Call) (need : List Needed) → IsStopped (Reply r) → EndsBy (Reply r) last need → TryEnds (Replied r) last
 refusal_ends r last need st =

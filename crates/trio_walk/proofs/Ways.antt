@@ -1,5 +1,5 @@
 -- What the way of a walk or of a taking leaves, and what goes on behind it.
-use Rattle.trio_walk.proofs.Words.{◌++◌, ◌∙◌, ◌≡◌, ArePossible, Ask, BusyGrant, Call, Calls, Denied, DeskSeen, Err, Exists, Grant, GrantKind, Holder, In, In-cases, IntoItself, IsDir, IsOn, Lease, List, Met, NoInodes, NoSpace, NotDir, NotEmpty, NotFound, NotLent, Outcome, Replied, SessionSeen, TooLarge, Took, Told, Way, [], ap, append-nil, append_assoc, in_hand, inl, inr, lent_call, map, refl, subst, sym}
+use Rattle.trio_walk.proofs.Words.{◌++◌, ◌∙◌, ◌≡◌, ArePossible, Ask, BusyGrant, Call, Calls, Denied, DeskSeen, Err, Exists, Grant, GrantKind, Holder, In, In-cases, IntoItself, IsDir, IsOn, Lease, List, Met, NoInodes, NoSpace, NotDir, NotEmpty, NotFound, NotLent, Outcome, Replied, SessionSeen, TooLarge, Took, Told, Way, [], ap, append-nil, append_assoc, in_hand, inl, inr, lent_call, map, refl, subst, sym, IsLink, NotLink}
 use Rattle.trio_desk.specs.Edits.{TakesMore}
 use Rattle.trio_session.specs.Asked.{IsAlike, SameDesk, took}
 use Rattle.trio_session.proofs.Alike.{alike_then, same_back, same_then}
@@ -30,6 +30,8 @@ leaves_alike edit alike x y s' (Replied IntoItself) e h = alike_then x y s' e h
 leaves_alike edit alike x y s' (Replied (NoSpace w f)) e h = alike_then x y s' e h
 leaves_alike edit alike x y s' (Replied (NoInodes w f)) e h = alike_then x y s' e h
 leaves_alike edit alike x y s' (Replied TooLarge) e h = alike_then x y s' e h
+leaves_alike edit alike x y s' (Replied IsLink) e h = alike_then x y s' e h
+leaves_alike edit alike x y s' (Replied NotLink) e h = alike_then x y s' e h
 leaves_alike edit alike x y s' (Busy holder) e h = alike_then x y s' e h
 leaves_alike edit alike x y s' NoMemory e h = alike_then x y s' e h
 

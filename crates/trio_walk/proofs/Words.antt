@@ -46,11 +46,11 @@ pub use Rattle.trio_nodes.specs.After.{batch_nodes}
 pub use Rattle.trio_nodes.specs.Legal.{rights_rows}
 pub use Rattle.trio_nodes.specs.Nodes.{Nodes, find_named, node_at}
 pub use Rattle.trio_nodes.specs.Tree.{IsDirectory, IsTree}
-pub use Rattle.trio_nodes.specs.Walk.{Path, and_then, enter, enter_node, is_directory, lacks, need_at, walk, walk_from}
+pub use Rattle.trio_nodes.specs.Walk.{Path, and_then, enter, enter_node, lacks, need_at, walk, walk_from}
 pub use Rattle.trio_nodes.specs.declared.answers.GrantFault.{GrantFault}
 pub use Rattle.trio_nodes.specs.declared.answers.GrantFault.TheVariants.{Busy as BusyGrant, Denied as DeniedGrant, NoMemory as NoGrantMemory}
 pub use Rattle.trio_nodes.specs.declared.call.Done.{Done}
-pub use Rattle.trio_nodes.specs.declared.call.Reply.TheVariants.{Denied, Exists, IntoItself, IsDir, NoInodes, NoSpace, NotDir, NotEmpty, NotFound, TooLarge}
+pub use Rattle.trio_nodes.specs.declared.call.Reply.TheVariants.{Denied, Exists, IntoItself, IsDir, IsLink, NoInodes, NoSpace, NotDir, NotEmpty, NotFound, NotLink, TooLarge}
 pub use Rattle.trio_nodes.specs.declared.grant.GrantKind.{GrantKind}
 pub use Rattle.trio_nodes.specs.declared.grant.GrantKind.TheVariants.{Hold, Read, Write}
 pub use Rattle.trio_nodes.specs.declared.grant.Holder.{Holder}
@@ -59,13 +59,15 @@ pub use Rattle.trio_onetree.proofs.Children.{find_named-Child}
 pub use Rattle.trio_onetree.proofs.TreeStays.{tree_stays_through}
 pub use Rattle.trio_page.specs.Field.{number_at}
 pub use Rattle.trio_page.specs.Home.{raised}
+pub use Rattle.trio_rights.proofs.KindFacts.{is_directory-true}
 pub use Rattle.trio_rights.specs.Bundle.{Written}
+pub use Rattle.trio_rights.specs.ByKind.{is_directory}
 pub use Rattle.trio_rights.specs.May.{ancestors, row_permits}
 pub use Rattle.trio_rights.specs.Rights.{permits}
 pub use Rattle.trio_rights.specs.Row.{Row, row_in}
 pub use Rattle.trio_rights.specs.Sheets.{Sheet}
 pub use Rattle.trio_rights.specs.declared.kind.Kind.{Kind}
-pub use Rattle.trio_rights.specs.declared.kind.Kind.TheVariants.{Directory, Regular}
+pub use Rattle.trio_rights.specs.declared.kind.Kind.TheVariants.{Directory, Link, Regular}
 pub use Rattle.trio_rights.specs.declared.rights.Creds.{Creds}
 pub use Rattle.trio_rights.specs.declared.rights.LibNo.{LibNo}
 pub use Rattle.trio_rights.specs.declared.rights.Mode.{Mode}

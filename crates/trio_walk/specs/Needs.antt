@@ -3,8 +3,7 @@
 use Rattle.std.specs.Prelude.{ℕ, ◌+◌, ◌==◌, nat_lt, Bool, true, false, not, ◌&&◌, ◌||◌, List, [], ◌∷◌, ◌++◌, length, is_some, Option, None, Some, Result, Ok, Err, if◌then◌else◌}
 use Rattle.std.specs.List.{list_any}
 use Rattle.std.specs.Option.{option_map_or}
-use Rattle.trio_rights.specs.declared.kind.Kind.{Kind}
-use Rattle.trio_rights.specs.declared.kind.Kind.TheVariants.{Directory, Regular}
+use Rattle.trio_rights.specs.ByKind.{is_directory, is_link, takes_offsets}
 use Rattle.trio_rights.specs.declared.rights.Creds.{Creds}
 use Rattle.trio_rights.specs.declared.rights.Need.{Need}
 use Rattle.trio_rights.specs.declared.rights.Need.TheVariants.{Read as ToRead, Write as ToWrite}
@@ -12,11 +11,11 @@ use Rattle.trio_nodes.specs.declared.grant.GrantKind.{GrantKind}
 use Rattle.trio_nodes.specs.declared.grant.GrantKind.TheVariants.{Read, Write, Hold}
 use Rattle.trio_nodes.specs.declared.node.Node.{Node}
 use Rattle.trio_nodes.specs.declared.call.Call.{Call}
-use Rattle.trio_nodes.specs.declared.call.Call.TheVariants.{Mkdir, Create, Write as WriteCall, Read as ReadCall, Truncate, Unlink, Rmdir, Rename, List as ListNames, Stat}
+use Rattle.trio_nodes.specs.declared.call.Call.TheVariants.{Mkdir, Create, Write as WriteCall, Read as ReadCall, Truncate, Unlink, Rmdir, Rename, List as ListNames, Stat, Symlink, Readlink, Guard}
 use Rattle.trio_nodes.specs.declared.call.Reply.{Reply}
 use Rattle.trio_nodes.specs.declared.call.Reply.TheVariants.{Denied}
 use Rattle.trio_nodes.specs.Nodes.{Nodes, node_at, find_named}
-use Rattle.trio_nodes.specs.Walk.{Path, dir_of, enter, is_above, is_directory, is_root, lacks, name_of, need_at, walk, walk_into}
+use Rattle.trio_nodes.specs.Walk.{Path, dir_of, enter, is_above, is_root, lacks, name_of, need_at, walk, walk_into}
 use Rattle.trio_nodes.specs.Apply.{largest_size}
 
 -- a grant that a call needs
@@ -84,16 +83,24 @@ abbrev pub reached_needs : Nodes → Result ℕ Reply → (ℕ → Node → List
 reached_needs nodes (Err reply) rest = []
 reached_needs nodes (Ok n) rest = node_needs n (node_at nodes n) rest
 
--- of a call that changes the bytes of a regular file, so that it ends at `end`: none of a directory, nor where that is past the
+-- of a call that changes the bytes of a regular file, so that it ends at `end`: none of any other file, nor where that is past the
 -- largest size
 abbrev pub writing_needs : Creds → Bool → ℕ → ℕ → Node → List Needed
 writing_needs creds shown end n x =
-    if is_directory x.kind then []
+    if not (takes_offsets x.kind) then []
     else (if nat_lt largest_size end && not (lacks creds ToWrite x) then [] else needs_if shown n Write (lacks creds ToWrite x))
 
 -- of a call that reads the bytes of a regular file
 abbrev pub reading_needs : Creds → Bool → ℕ → Node → List Needed
-reading_needs creds shown n x = if is_directory x.kind then [] else needs_if shown n Read (lacks creds ToRead x)
+reading_needs creds shown n x = if not (takes_offsets x.kind) then [] else needs_if shown n Read (lacks creds ToRead x)
+
+-- of a call that reads the text of a link
+abbrev pub text_needs : Creds → Bool → ℕ → Node → List Needed
+text_needs creds shown n x = if not (is_link x.kind) then [] else needs_if shown n Read (lacks creds ToRead x)
+
+-- of a call that guards a regular file, or ends that
+abbrev pub guarding_needs : Creds → Bool → ℕ → Node → List Needed
+guarding_needs creds shown n x = if not (takes_offsets x.kind) then [] else needs_if shown n Write (lacks creds ToWrite x)
 
 -- the grant of each of these calls on its file, after its walk
 abbrev pub own_needs : Creds → Bool → Call → ℕ → Node → List Needed
@@ -101,6 +108,8 @@ own_needs creds shown (WriteCall path at bytes) n x = writing_needs creds shown 
 own_needs creds shown (Truncate path size) n x = writing_needs creds shown size n x
 own_needs creds shown (ReadCall path at len) n x = reading_needs creds shown n x
 own_needs creds shown (Stat path) n x = needs_if shown n Read (lacks creds ToRead x)
+own_needs creds shown (Readlink path) n x = text_needs creds shown n x
+own_needs creds shown (Guard path on) n x = guarding_needs creds shown n x
 own_needs creds shown call n x = []
 
 -- the path of such a call
@@ -109,6 +118,8 @@ path_of (WriteCall path at bytes) = path
 path_of (Truncate path size) = path
 path_of (ReadCall path at len) = path
 path_of (Stat path) = path
+path_of (Readlink path) = path
+path_of (Guard path on) = path
 path_of call = []
 
 -- The grants of a call of a file: those of its walk, and the file's own.
@@ -118,20 +129,20 @@ file_needs nodes creds shown call =
 
 -- ---- calls on directories
 
--- the hold on a file that is removed: a directory, or none
-abbrev pub removing_needs : Kind → ℕ → Node → List Needed
-removing_needs Directory n x = if is_directory x.kind then record { ino = n; kind = Hold } ∷ [] else []
-removing_needs Regular n x = if is_directory x.kind then [] else record { ino = n; kind = Hold } ∷ []
+-- the hold on a file that is removed, by a call that removes directories or by one that removes all other files
+abbrev pub removing_needs : Bool → ℕ → Node → List Needed
+removing_needs true n x = if is_directory x.kind then record { ino = n; kind = Hold } ∷ [] else []
+removing_needs false n x = if is_directory x.kind then [] else record { ino = n; kind = Hold } ∷ []
 
 -- what is needed of the file of this name, where there is one
 abbrev pub named_needs : Nodes → ℕ → List ℕ → (ℕ → Node → List Needed) → List Needed
 named_needs nodes dir name rest = option_map_or (λ n. node_needs n (node_at nodes n) rest) (find_named nodes dir name) []
 
--- of a call that removes a file of this kind: its directory for writing, and the file held
-abbrev pub removal_needs : Nodes → Creds → Bool → Kind → Path → List Needed
-removal_needs nodes creds shown kind path =
+-- of a call that removes a directory, or any other file: its directory for writing, and the file held
+abbrev pub removal_needs : Nodes → Creds → Bool → Bool → Path → List Needed
+removal_needs nodes creds shown of_dirs path =
     into_needs nodes creds shown (dir_of path ∷ []) (dir_of path)
-    ++ reached_by (walk_into nodes creds (dir_of path ∷ []) (dir_of path)) (λ dir. named_needs nodes dir (name_of path) (removing_needs kind))
+    ++ reached_by (walk_into nodes creds (dir_of path ∷ []) (dir_of path)) (λ dir. named_needs nodes dir (name_of path) (removing_needs of_dirs))
 
 -- of a rename whose both directories are entered: the file held, where it moves to another and nothing has the new name there
 abbrev pub moving_needs : Nodes → Path → Path → ℕ → ℕ → List Needed
@@ -156,8 +167,9 @@ listing_needs creds shown n x = if is_directory x.kind then needs_if shown n Rea
 abbrev pub dir_needs : Nodes → Creds → Bool → Call → List Needed
 dir_needs nodes creds shown (Mkdir path mode) = if is_root path then [] else into_needs nodes creds shown (dir_of path ∷ []) (dir_of path)
 dir_needs nodes creds shown (Create path mode) = if is_root path then [] else into_needs nodes creds shown (dir_of path ∷ []) (dir_of path)
-dir_needs nodes creds shown (Unlink path) = if is_root path then [] else removal_needs nodes creds shown Regular path
-dir_needs nodes creds shown (Rmdir path) = if is_root path then [] else removal_needs nodes creds shown Directory path
+dir_needs nodes creds shown (Symlink path text) = if is_root path then [] else into_needs nodes creds shown (dir_of path ∷ []) (dir_of path)
+dir_needs nodes creds shown (Unlink path) = if is_root path then [] else removal_needs nodes creds shown false path
+dir_needs nodes creds shown (Rmdir path) = if is_root path then [] else removal_needs nodes creds shown true path
 dir_needs nodes creds shown (Rename from to) =
     if is_root from then [] else (if is_root to then [] else (if is_above from to then [] else rename_needs nodes creds shown from to))
 dir_needs nodes creds shown (ListNames path from) =

@@ -30,6 +30,8 @@ pub fn copy_reply(alloc: Global, reply: &Reply) -> Result<Reply, NoMemory>
             free: *free,
         },
         Reply::TooLarge => Reply::TooLarge,
+        Reply::IsLink => Reply::IsLink,
+        Reply::NotLink => Reply::NotLink,
     })
 }
 

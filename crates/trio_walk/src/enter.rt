@@ -25,11 +25,13 @@ pub(crate) fn enter<D: Desk>(
     requires met { HasMet (D.seen desk.old) session.old at }
     ensures { Entered D.called D.seen desk.old session.old at need result desk.new session.new }
 {
-    match at.kind {
-        Kind::Regular => Err(WalkEnd::Reply(Reply::NotDir)),
-        Kind::Directory if !gives(desk.creds(), at, need) => Err(WalkEnd::Reply(Reply::Denied)),
-        Kind::Directory => enter_allowed(session, desk, at, need),
+    if !at.kind.is_directory() {
+        return Err(WalkEnd::Reply(Reply::NotDir));
     }
+    if !gives(desk.creds(), at, need) {
+        return Err(WalkEnd::Reply(Reply::Denied));
+    }
+    enter_allowed(session, desk, at, need)
 }
 
 // a directory whose rights give what is needed, as far as they are known: those of the root may be

@@ -8,7 +8,6 @@ use crate::met::Met;
 use crate::walks::WalkEnd;
 use trio_desk::Desk;
 use trio_nodes::{GrantFault, GrantKind};
-use trio_rights::Kind;
 use trio_session::Session;
 
 /// Takes a file that was met: the desk is asked for its grant, unless a lease serves. A directory that
@@ -45,10 +44,6 @@ fn shows(session: &Session, met: Met, kind: GrantKind) -> bool
 {
     match kind {
         GrantKind::Hold => true,
-        GrantKind::Read | GrantKind::Write => match (session.kind(met.ino), met.kind) {
-            (Some(Kind::Regular), Kind::Regular) => true,
-            (Some(Kind::Directory), Kind::Directory) => true,
-            _ => false,
-        },
+        GrantKind::Read | GrantKind::Write => session.kind(met.ino) == Some(met.kind),
     }
 }

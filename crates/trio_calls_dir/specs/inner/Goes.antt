@@ -1,20 +1,22 @@
 -- Words of a try in progress: from where it begins, or has entered its directories, to how it ends.
-use Rattle.std.specs.Prelude.{◌≡◌, ◌<◌, ℕ, List, ◌++◌, map, length, Result, Ok, Err}
+use Rattle.std.specs.Prelude.{◌≡◌, ◌<◌, ℕ, Bool, true, false, List, [], ◌++◌, map, length, Result, Ok, Err}
 use Rattle.trio_rights.specs.declared.kind.Kind.{Kind}
 use Rattle.trio_rights.specs.declared.kind.Kind.TheVariants.{Regular, Directory}
 use Rattle.trio_rights.specs.declared.rights.Creds.{Creds}
 use Rattle.trio_rights.specs.declared.rights.Mode.{Mode}
 use Rattle.trio_nodes.specs.declared.call.Answer.TheVariants.{Done as IsDone, Names}
 use Rattle.trio_nodes.specs.declared.call.Call.{Call}
-use Rattle.trio_nodes.specs.declared.call.Call.TheVariants.{Mkdir, Create, Unlink, Rmdir}
+use Rattle.trio_nodes.specs.declared.call.Call.TheVariants.{Mkdir, Create, Symlink, Unlink, Rmdir}
 use Rattle.trio_nodes.specs.declared.call.Reply.{Reply}
 use Rattle.trio_nodes.specs.declared.call.Reply.TheVariants.{Ok as IsReplied, NotFound, Exists, NotDir, IsDir, NotEmpty, Denied, IntoItself}
 use Rattle.trio_nodes.specs.Nodes.{Nodes}
-use Rattle.trio_nodes.specs.Walk.{Path}
+use Rattle.trio_nodes.specs.Walk.{Path, name_of}
+use Rattle.trio_nodes.specs.Apply.{link_mode}
 use Rattle.trio_desk.specs.Call.{Ask, DeskSeen, Told}
 use Rattle.trio_desk.specs.Calls as desk_calls
 use Rattle.trio_desk.specs.Edits.{DoesCall}
-use Rattle.trio_session.specs.Seen.{SessionSeen}
+use Rattle.trio_layout.specs.declared.body.Body.{Body}
+use Rattle.trio_session.specs.Seen.{SessionSeen, fill}
 use Rattle.trio_edit_laws.specs.Calls.{MayCall}
 use Rattle.trio_walk.specs.Needs.{Needed, asked}
 use Rattle.trio_walk.specs.Walks.{InAllShown, served_by}
@@ -27,9 +29,9 @@ use Rattle.trio_walk.specs.declared.outcome.Outcome.TheVariants.{Busy, NoMemory,
 use Rattle.trio_calls_dir.specs.declared.replies.Replied as replied
 use Rattle.trio_walk.specs.declared.outcome.Stop.{Stop}
 use Rattle.trio_walk.specs.declared.outcome.Stop.TheVariants.{Busy as IsBusy, NoMemory as LacksMemory}
-use Rattle.trio_calls_dir.specs.Asks.{ComesBy, Target, edited, made_by, wants_of}
+use Rattle.trio_calls_dir.specs.Asks.{ComesBy, IsEntryCall, Target, edited, made_by, wants_of}
 use Rattle.trio_session.specs.Asked.{took}
-use Rattle.trio_session.specs.Deeds.{as_lent}
+use Rattle.trio_session.specs.Deeds.{as_lent, link_made, new_body}
 
 -- ---- the end
 
@@ -117,15 +119,64 @@ IsRefusal reply = ⊥
 abbrev pub IsRefusedAs : DeskSeen → Call → Reply → Nodes → Type 0
 IsRefusedAs desk call reply now = DoesCall desk (record { call = call; reply = reply; made = 0 }) now now
 
--- the call makes a file of this kind by this path
-abbrev pub making : Kind → Path → Mode → Call
-making Directory path mode = Mkdir path mode
-making Regular path mode = Create path mode
+-- ---- what is made, and what is removed
 
--- the call removes a file of this kind by this path
-abbrev pub removing : Kind → Path → Call
-removing Directory path = Rmdir path
-removing Regular path = Unlink path
+-- what a call makes: an empty directory or regular file of a mode, or a link with a text
+pub data New : Type 0 where
+  NewDirectory : Mode → New
+  NewFile : Mode → New
+  NewLink : (text : List ℕ) → New
+
+-- the call that makes it, by this path
+abbrev pub making : New → Path → Call
+making (NewDirectory mode) path = Mkdir path mode
+making (NewFile mode) path = Create path mode
+making (NewLink text) path = Symlink path text
+
+-- the call makes a file by this path
+pub record MakesNew (call' : Call) (path' : Path) : Type 0 where
+  pub what : New
+  pub is : call' ≡ making what path'
+  pub fits : IsEntryCall call'
+
+-- its path
+abbrev pub new_path : Call → Path
+new_path (Mkdir path mode) = path
+new_path (Create path mode) = path
+new_path (Symlink path text) = path
+new_path call = []
+
+-- the file's mode
+abbrev pub new_mode : Call → Mode
+new_mode (Mkdir path mode) = mode
+new_mode (Create path mode) = mode
+new_mode call = link_mode
+
+-- its kind; of a link, which has a text only once it is made, that of the empty file that it is before
+abbrev pub new_kind : Call → Kind
+new_kind (Mkdir path mode) = Directory
+new_kind call = Regular
+
+-- its bytes
+abbrev pub new_bytes : Call → List ℕ
+new_bytes (Symlink path text) = text
+new_bytes call = []
+
+-- the body of a new file, without pages
+abbrev pub body_made : Creds → Mode → Body
+body_made creds mode = record { mode = mode; uid = creds.uid; gid = creds.gid; head = 0; size = 0; guard = false }
+
+-- what is made of a directory with an empty slot: it has an entry of this number
+abbrev pub put_new : Creds → Call → ℕ → ℕ → SessionSeen → SessionSeen
+put_new creds (Mkdir path mode) dir n s = fill dir (name_of path) n Directory (new_body creds mode) s
+put_new creds (Create path mode) dir n s = fill dir (name_of path) n Regular (new_body creds mode) s
+put_new creds (Symlink path text) dir n s = link_made dir (name_of path) n (new_body creds link_mode) text s
+put_new creds call dir n s = s
+
+-- the call removes a directory by this path, or any other file
+abbrev pub removing : Bool → Path → Call
+removing true path = Rmdir path
+removing false path = Unlink path
 
 -- how a walk that has come to no file ends the try; want of memory for the call's note may come after a refusal
 abbrev pub StopsBy : WalkEnd → Result replied.Replied Stop → SessionSeen → Type 0

@@ -1,5 +1,6 @@
 -- Words of a list of names: of the file to which its walk comes, and of a directory that the session has.
 use Rattle.std.specs.Prelude.{◌≡◌, ℕ, not, is_some, List, [], ◌∷◌, length, take, drop, Option, Some, None, Ok, if◌then◌else◌}
+use Rattle.trio_rights.specs.ByKind.{is_directory}
 use Rattle.trio_rights.specs.declared.kind.Kind.TheVariants.{Directory}
 use Rattle.trio_rights.specs.declared.rights.Creds.{Creds}
 use Rattle.trio_rights.specs.declared.rights.Need.TheVariants.{Read as ToRead}
@@ -7,7 +8,7 @@ use Rattle.trio_nodes.specs.declared.call.Answer.TheVariants.{Names}
 use Rattle.trio_nodes.specs.declared.call.Reply.{Reply}
 use Rattle.trio_nodes.specs.declared.call.Reply.TheVariants.{Ok as IsReplied, Denied, NotDir}
 use Rattle.trio_nodes.specs.declared.grant.GrantKind.TheVariants.{Read}
-use Rattle.trio_nodes.specs.Walk.{Path, is_directory, walk}
+use Rattle.trio_nodes.specs.Walk.{Path, walk}
 use Rattle.trio_desk.specs.Call.{DeskSeen}
 use Rattle.trio_session.specs.Seen.{SessionSeen}
 use Rattle.trio_walk.specs.declared.met.Met.{Met}

@@ -1,10 +1,9 @@
 -- Words of a removal: of a file of another kind.
-use Rattle.trio_rights.specs.declared.kind.Kind.{Kind}
-use Rattle.trio_rights.specs.declared.kind.Kind.TheVariants.{Directory, Regular}
+use Rattle.std.specs.Prelude.{Bool, true, false}
 use Rattle.trio_nodes.specs.declared.call.Reply.{Reply}
 use Rattle.trio_nodes.specs.declared.call.Reply.TheVariants.{IsDir, NotDir}
 
--- why a call that removes a file of this kind doesn't remove one of the other
-abbrev pub other_kind : Kind → Reply
-other_kind Directory = NotDir
-other_kind Regular = IsDir
+-- why a call that removes directories doesn't remove another file, and one that removes all others no directory
+abbrev pub other_kind : Bool → Reply
+other_kind true = NotDir
+other_kind false = IsDir

@@ -1,5 +1,6 @@
 -- Words of a try in progress: from where a walk has met a file, to how the try ends.
 use Rattle.std.specs.Prelude.{◌≡◌, ◌≢◌, ◌<◌, ℕ, ◌+◌, nat_le, Bool, true, not, is_some, List, [], ◌∷◌, ◌++◌, map, length, take, drop, Option, None, Some, Result, Ok, Err, if◌then◌else◌}
+use Rattle.trio_rights.specs.ByKind.{is_directory, is_link}
 use Rattle.trio_rights.specs.declared.kind.Kind.{Kind}
 use Rattle.trio_rights.specs.declared.kind.Kind.TheVariants.{Regular}
 use Rattle.trio_rights.specs.declared.rights.Creds.{Creds}
@@ -9,11 +10,11 @@ use Rattle.trio_nodes.specs.declared.grant.GrantKind.{GrantKind}
 use Rattle.trio_nodes.specs.declared.grant.GrantKind.TheVariants.{Read, Write}
 use Rattle.trio_nodes.specs.declared.call.Answer.TheVariants.{Bytes, Names}
 use Rattle.trio_nodes.specs.declared.call.Call.{Call}
-use Rattle.trio_nodes.specs.declared.call.Call.TheVariants.{Write as WriteCall, Read as ReadCall, Truncate, Stat}
+use Rattle.trio_nodes.specs.declared.call.Call.TheVariants.{Write as WriteCall, Read as ReadCall, Truncate, Stat, Readlink, Guard}
 use Rattle.trio_nodes.specs.declared.call.Reply.{Reply}
-use Rattle.trio_nodes.specs.declared.call.Reply.TheVariants.{Ok as IsReplied, Denied, IsDir, TooLarge}
+use Rattle.trio_nodes.specs.declared.call.Reply.TheVariants.{Ok as IsReplied, Denied, IsDir, IsLink, NotLink, TooLarge}
 use Rattle.trio_nodes.specs.Nodes.{Nodes, node_at}
-use Rattle.trio_nodes.specs.Walk.{Path, is_directory, walk}
+use Rattle.trio_nodes.specs.Walk.{Path, walk}
 use Rattle.trio_nodes.specs.Apply.{largest_size}
 use Rattle.trio_desk.specs.Call.{Ask, DeskSeen, Told}
 use Rattle.trio_desk.specs.Calls as desk_calls
@@ -42,19 +43,28 @@ use Rattle.trio_deeds.specs.Reads.{allows, stat_had}
 abbrev pub need_for : Call → Need
 need_for (WriteCall path at bytes) = ToWrite
 need_for (Truncate path size) = ToWrite
+need_for (Guard path on) = ToWrite
 need_for call = ToRead
 
 -- the kind of grant by which it takes it
 abbrev pub grant_for : Call → GrantKind
 grant_for (WriteCall path at bytes) = Write
 grant_for (Truncate path size) = Write
+grant_for (Guard path on) = Write
 grant_for call = Read
 
 -- why bytes aren't read or written at a file of this kind, whose rights give what is needed or don't, and which would end within the
 -- largest size or not
 abbrev pub bytes_refusal : Kind → Bool → Bool → Option Reply
 bytes_refusal kind gives fits =
-    if is_directory kind then Some IsDir else (if not gives then Some Denied else (if not fits then Some TooLarge else None))
+    if is_directory kind then Some IsDir
+    else (if is_link kind then Some IsLink
+    else (if not gives then Some Denied
+    else (if not fits then Some TooLarge else None)))
+
+-- why the text of a link isn't read at such a file
+abbrev pub text_refusal : Kind → Bool → Option Reply
+text_refusal kind gives = if not (is_link kind) then Some NotLink else (if not gives then Some Denied else None)
 
 -- why a call is refused at such a file
 abbrev pub refusal_at : Kind → Bool → Call → Option Reply
@@ -62,6 +72,8 @@ refusal_at kind gives (WriteCall path at bytes) = bytes_refusal kind gives (nat_
 refusal_at kind gives (ReadCall path at len) = bytes_refusal kind gives true
 refusal_at kind gives (Truncate path size) = bytes_refusal kind gives (nat_le size largest_size)
 refusal_at kind gives (Stat path) = if not gives then Some Denied else None
+refusal_at kind gives (Readlink path) = text_refusal kind gives
+refusal_at kind gives (Guard path on) = bytes_refusal kind gives true
 refusal_at kind gives call = None
 
 -- why a call is refused at a file that was met, by what is known of it
@@ -105,6 +117,10 @@ Unrefused desk s call ino = InAllShown desk s (MayBeDone desk.creds call ino)
 abbrev pub bytes_reply : SessionSeen → ℕ → ℕ → ℕ → Reply
 bytes_reply s ino at len = IsReplied (Bytes (take len (drop at (bytes_had s ino))))
 
+-- the text of a link: all its bytes
+abbrev pub text_reply : SessionSeen → ℕ → Reply
+text_reply s ino = IsReplied (Bytes (bytes_had s ino))
+
 -- what a file is, by its body, where that gives reading
 abbrev pub stat_reply : Creds → SessionSeen → ℕ → Kind → Reply
 stat_reply creds s ino kind = if allows s ino kind creds ToRead then IsReplied (stat_had s ino kind) else Denied
@@ -129,6 +145,7 @@ IsBytes reply = ⊥
 -- the call reads bytes
 abbrev pub IsRead : Call → Type 0
 IsRead (ReadCall path at len) = Unit {0}
+IsRead (Readlink path) = Unit {0}
 IsRead call = ⊥
 
 -- no names are answered

@@ -1,4 +1,4 @@
-use Rattle.trio_calls_dir.proofs.Words.{◌∙◌, Busy, BusyAt, Goes, Hold, Holder, Ok, Some, Took, ap, name_of, named_needs, number_made, removing_needs, subst, sym, try_ends}
+use Rattle.trio_calls_dir.proofs.Words.{◌∙◌, Busy, BusyAt, Goes, Hold, Holder, Ok, Some, Took, ap, name_of, named_needs, number_made, removing_needs, subst, sym, try_ends, is_directory}
 use Rattle.trio_walk.proofs.Ways.{took_busy}
 use Rattle.trio_calls_dir.proofs.RemovesTake.{busy_goes, held_goes, may_clear, may_hold, short_goes}
 use Rattle.trio_calls_dir.proofs.RemovesClear.{above_none, cleared_goes, full_goes, there_some}
@@ -29,7 +29,7 @@ returns-in-Some-clause-goes g c =
 
 pub returns-in-Err-Busy-clause-goes : goal.returns-in-Err-Busy-clause-goes
 returns-in-Err-Busy-clause-goes g c =
-    subst (λ (h : Holder). Goes g.D.Desk.called g.D.Desk.seen c.args.desk.now c.args.session.now c.args.call.now (λ now. named_needs now c.args.dir (name_of c.args.path.now) (removing_needs c.args.file.kind)) (Busy h) 0 c.take.new.desk c.take.new.session) (sym c.in-Err-Busy.holder-is)
+    subst (λ (h : Holder). Goes g.D.Desk.called g.D.Desk.seen c.args.desk.now c.args.session.now c.args.call.now (λ now. named_needs now c.args.dir (name_of c.args.path.now) (removing_needs (is_directory c.args.file.kind))) (Busy h) 0 c.take.new.desk c.take.new.session) (sym c.in-Err-Busy.holder-is)
     (busy_goes g.D.Desk.called g.D.Desk.seen c.args.desk.now c.args.session.now c.args.call.now c.args.path.now c.args.dir c.args.file (record { may = c.requires.may; call = c.requires.call; root = c.requires.root; opens = c.requires.open; comes = c.requires.comes; entry = c.requires.entry; met = c.requires.met; named = c.requires.named }) c.take.new.desk c.take.new.session c.in-Err-Busy.holder (rw c.in-Err-Busy.field-0-is at c.in-Err-Busy.ensures))
 
 pub returns-in-Err-Busy-clause-others : goal.returns-in-Err-Busy-clause-others

@@ -1,4 +1,4 @@
-use Rattle.trio_calls_file.proofs.Words.{◌∙◌, Goes, IsNotBusy, Regular, Truncate, alike_room, ap, body_had-open, bytes_in, refl, resized, size_in, sized, subst, sym, try_ends, wants_pages_for}
+use Rattle.trio_calls_file.proofs.Words.{◌∙◌, Goes, IsNotBusy, Regular, Truncate, alike_room, ap, body_had-open, bytes_in, refl, resized, size_in, sized, subst, sym, try_ends, wants_pages_for, is_directory, option_map}
 use Rattle.trio_nodes.specs.declared.call.Answer.TheVariants.{Done}
 use Rattle.trio_calls_file.proofs.Ends.{blocks_room, calls_room, edits_room, goes_done, goes_fault, idle_fault, old_room, open_room, pages_room, writes_size}
 use Rattle.trio_calls_file.proofs.Writes.{edits_alike}
@@ -8,7 +8,7 @@ pub resize-requires-clause-open : goal.resize-requires-clause-open
 resize-requires-clause-open g c =
     let o = c.requires.open in
     let old = c.size_of-old.ensures.size ∙ ap size_in (body_had-open c.args.session.now c.args.ino Regular o) in
-    open_room g.D.Desk.called g.D.Desk.seen c.args.desk.now c.args.session.now c.args.ino c.size_of-old.result c.args.size c.make_room.result c.make_room.new.desk c.make_room.new.session o old c.make_room.ensures.room
+    ap (option_map is_directory) (open_room g.D.Desk.called g.D.Desk.seen c.args.desk.now c.args.session.now c.args.ino c.size_of-old.result c.args.size c.make_room.result c.make_room.new.desk c.make_room.new.session o old c.make_room.ensures.room)
 
 pub resize-requires-clause-old : goal.resize-requires-clause-old
 resize-requires-clause-old g c =

@@ -1,4 +1,4 @@
-use Rattle.trio_calls_file.proofs.Words.{◌+◌, ◌∙◌, ◌≡◌, Count, Goes, IsAlike, IsNotBusy, IsReplied, List, Regular, Replied, SessionSeen, Write, alike_room, ap, arith, body_had-open, body_in, bytes_in, edited, eqb, eqb-true, false, length, max, put, put_alike, put_at, refl, size_in, sized, subst, sym, true, try_ends, wants_pages_for, ℕ}
+use Rattle.trio_calls_file.proofs.Words.{◌+◌, ◌∙◌, ◌≡◌, Count, Goes, IsAlike, IsNotBusy, IsReplied, List, Regular, Replied, SessionSeen, Write, alike_room, ap, arith, body_had-open, body_in, bytes_in, edited, eqb, eqb-true, false, length, max, put, put_alike, put_at, refl, size_in, sized, subst, sym, true, try_ends, wants_pages_for, ℕ, is_directory, option_map}
 use Rattle.trio_calls_file.proofs.Alike.{edited_none, edited_some, open_alike}
 use Rattle.trio_calls_file.proofs.Ends.{blocks_room, calls_room, edits_room, goes_done, goes_fault, idle_fault, none_room, old_room, open_room, pages_room, put_at-none, put_room, size_none, size_room, size_some, size_within, writes_bytes}
 use Rattle.trio_calls_file.proofs.Writes.{Edits, edits_alike, room_put}
@@ -8,7 +8,7 @@ pub resize-requires-clause-open : goal.resize-requires-clause-open
 resize-requires-clause-open g c =
     let o = c.requires.open in
     let old = c.size_of-old.ensures.size ∙ ap size_in (body_had-open c.args.session.now c.args.ino Regular o) in
-    open_room g.D.Desk.called g.D.Desk.seen c.args.desk.now c.args.session.now c.args.ino c.size_of-old.result c.size_written-size.result c.make_room.result c.make_room.new.desk c.make_room.new.session o old c.make_room.ensures.room
+    ap (option_map is_directory) (open_room g.D.Desk.called g.D.Desk.seen c.args.desk.now c.args.session.now c.args.ino c.size_of-old.result c.size_written-size.result c.make_room.result c.make_room.new.desk c.make_room.new.session o old c.make_room.ensures.room)
 
 pub resize-requires-clause-old : goal.resize-requires-clause-old
 resize-requires-clause-old g c =
@@ -35,7 +35,7 @@ put-requires-clause-open g c =
     let largest = size_within (length c.args.bytes.now) c.size_of-old.result c.args.at c.size_written-size.result c.size_written-size.ensures c.size_of-old.ensures.few c.requires.within in
     let s1 = c.make_room.new.session in
     let alike = alike_room (sized c.args.ino c.size_written-size.result s1) c.resize.new.session c.resize.ensures.kept in
-    open_alike (sized c.args.ino c.size_written-size.result s1) c.resize.new.session c.args.ino alike (edits_room g.D.Desk.called g.D.Desk.seen c.args.desk.now c.args.session.now c.args.ino c.size_of-old.result c.size_written-size.result c.make_room.result c.make_room.new.desk c.make_room.new.session o old c.make_room.ensures.room c.in-Ok.is c.requires.limits largest).writable
+    ap (option_map is_directory) (open_alike (sized c.args.ino c.size_written-size.result s1) c.resize.new.session c.args.ino alike (edits_room g.D.Desk.called g.D.Desk.seen c.args.desk.now c.args.session.now c.args.ino c.size_of-old.result c.size_written-size.result c.make_room.result c.make_room.new.desk c.make_room.new.session o old c.make_room.ensures.room c.in-Ok.is c.requires.limits largest).writable)
 
 pub put-requires-clause-within : goal.put-requires-clause-within
 put-requires-clause-within g c =

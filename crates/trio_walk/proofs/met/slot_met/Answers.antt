@@ -1,7 +1,7 @@
-use Rattle.trio_walk.proofs.Words.{◌∙◌, ◌≡◌, EntryPart, Kind, List, Met, Option, Some, ap, body_in_slot, every_number, get_or, met_of, number_at, option_map, rights_at, slot_bytes, sym, w32, ℕ}
-use Rattle.trio_layout.proofs.SlotLemmas.{same_kind}
+use Rattle.trio_walk.proofs.Words.{◌∙◌, ◌≡◌, EntryPart, Kind, List, Some, ap, body_in_slot, every_number, get_or, met_of, number_at, option_map, rights_at, slot_bytes, sym, w32, ℕ}
+use Rattle.trio_rights.proofs.KindFacts.{kind_byte-same}
 use Rattle.trio_walk.specs.declared.met.Rights.{Rights}
-use Rattle.trio_walk.proofs.SlotFields.{HasFields, slot_entry}
+use Rattle.trio_walk.proofs.SlotFields.{slot_entry}
 use Rattle.trio_walk.proofs.met.slot_met.Goals as goal
 
 pub unreachable-requires : goal.unreachable-requires
@@ -16,7 +16,7 @@ returns c =
     let x = slot_entry every_number (slot_bytes slot page) c.requires.entry in
     let ino : x.0.ino ≡ c.u32_in.result = sym x.1.ino ∙ ap (λ (b : List ℕ). number_at w32 0 (slot_bytes slot b)) (sym c.bytes.ensures.bytes) ∙ sym c.u32_in.ensures in
     let kind : x.0.kind ≡ c.in-Some.kind =
-    same_kind x.0.kind c.in-Some.kind (sym x.1.kind ∙ ap (λ (b : List ℕ). get_or (slot_bytes slot b) 4 0) (sym c.bytes.ensures.bytes) ∙ c.in-Some.ensures.found) in
+    kind_byte-same x.0.kind c.in-Some.kind (sym x.1.kind ∙ ap (λ (b : List ℕ). get_or (slot_bytes slot b) 4 0) (sym c.bytes.ensures.bytes) ∙ c.in-Some.ensures.found) in
     let rights : rights_at (body_in_slot slot page) ≡ c.rights_in.result =
     sym (c.rights_in.ensures ∙ ap (λ (b : List ℕ). rights_at (body_in_slot slot b)) c.bytes-2.ensures.bytes) in
     ap (option_map (λ (e : EntryPart). met_of slot e page)) x.1.says
