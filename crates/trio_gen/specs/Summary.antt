@@ -3,7 +3,7 @@ use Rattle.std.specs.Prelude.{ℕ, Bool, true, false, List, [], ◌∷◌, ◌++
 use Rattle.std.specs.Fmt.{decimal}
 use Rattle.std.specs.List.{count_by, sum_by}
 use Rattle.trio_rights.specs.declared.kind.Kind.{Kind}
-use Rattle.trio_rights.specs.declared.kind.Kind.TheVariants.{Regular, Directory}
+use Rattle.trio_rights.specs.declared.kind.Kind.TheVariants.{Regular, Directory, Link}
 use Rattle.trio_layout.specs.Tree.{TreeLine}
 use Rattle.trio_nodes.specs.declared.call.Reply.TheVariants.{Ok}
 use Rattle.trio_script.specs.declared.honest.HonestLine.{HonestLine}
@@ -48,10 +48,11 @@ abbrev pub is_busy : LineAnswer → Bool
 is_busy Busy = true
 is_busy answer = false
 
--- the size of a regular file; a directory has no bytes of its own
+-- the size of a regular file; the bytes of a directory and of a link don't count
 abbrev pub size_of : Kind → ℕ → ℕ
 size_of Regular size = size
 size_of Directory size = 0
+size_of Link size = 0
 
 -- the sizes of all regular files of a tree
 abbrev pub bytes_in : List TreeLine → ℕ

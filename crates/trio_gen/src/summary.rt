@@ -179,6 +179,6 @@ fn size_of(line: &TreeLine) -> u64
 {
     match line.kind {
         Kind::Regular => line.size,
-        Kind::Directory => 0,
+        Kind::Directory | Kind::Link => 0,
     }
 }

@@ -32,6 +32,8 @@ pub fn put_reply(alloc: Global, out: &mut Vec<u8>, reply: &Reply) -> Result<(), 
         Reply::NoSpace { wanted, free } => put_want(alloc, out, "nospace", *wanted, *free),
         Reply::NoInodes { wanted, free } => put_want(alloc, out, "noinodes", *wanted, *free),
         Reply::TooLarge => put_text(out, "toolarge"),
+        Reply::IsLink => put_text(out, "islink"),
+        Reply::NotLink => put_text(out, "notlink"),
     }
 }
 
@@ -106,6 +108,7 @@ fn kind_mark(kind: Kind) -> &'static str
     match kind {
         Kind::Regular => "",
         Kind::Directory => "/",
+        Kind::Link => "@",
     }
 }
 

@@ -27,7 +27,7 @@ struct Unprinted {
 ///
 /// A file that can't be read has no line, nor has what it lists; in an image that verifies there is
 /// none. Nothing is told below the depth that is the number of inode numbers, which no tree reaches.
-/// Blocks of regular files aren't looked at.
+/// Blocks of regular files and links aren't looked at.
 ///
 /// After [`NoMemory`] the pages are as they were, as they are after any answer.
 pub fn tree_lines(
@@ -141,9 +141,10 @@ impl Unprinted {
 fn told_size(kind: Kind, file: &FileParts) -> u64
     ensures { result ≡ told_size kind (file_seen file.now) }
 {
-    match kind {
-        Kind::Regular => file.body.size,
-        Kind::Directory => file.entries.len() as u64,
+    if kind.is_directory() {
+        file.entries.len() as u64
+    } else {
+        file.body.size
     }
 }
 

@@ -3,7 +3,7 @@ use Rattle.trio_script.proofs.Words.{◌&&◌, ◌++◌, ◌+◌, ◌∙◌, ◌
 use Rattle.std.proofs.Common.{nat_le}
 use Rattle.std.specs.Prelude.{if◌then◌else◌, IfSome, ⊤}
 use Rattle.std.specs.Option.{option_map}
-use Rattle.trio_nodes.specs.declared.call.Call.TheVariants.{Mkdir, Create, Truncate, Unlink, Rmdir, List as ListNames, Stat, Chmod}
+use Rattle.trio_nodes.specs.declared.call.Call.TheVariants.{Mkdir, Create, Truncate, Unlink, Rmdir, List as ListNames, Stat, Chmod, Readlink}
 use Rattle.trio_nodes.specs.Walk.{Path}
 use Rattle.trio_rights.specs.declared.rights.Mode.{Mode}
 use Rattle.trio_script.specs.declared.honest.HonestLine.{HonestLine}
@@ -13,7 +13,7 @@ use Rattle.trio_script.specs.declared.library.LibKind.{LibKind}
 use Rattle.trio_script.specs.declared.ScriptLine.{ScriptLine}
 use Rattle.trio_script.specs.declared.ScriptLib.{ScriptLib}
 use Rattle.trio_script.specs.Words.{number_of, mode_of, not_long, path_of, written_of}
-use Rattle.trio_script.specs.Honest.{call_in, file_mode, honest_in, path_alone, path_and_mode, path_and_number, path_with_mode, read_in, read_length, reads, rename_in, renamed, settle_in, write_in, wrote}
+use Rattle.trio_script.specs.Honest.{call_in, file_mode, guard_in, guarded, honest_in, linked, path_alone, path_and_mode, path_and_number, path_with_mode, read_in, read_length, reads, rename_in, renamed, settle_in, switch_of, symlink_in, write_in, wrote}
 use Rattle.trio_script.specs.Script.{lines_in, script_libs}
 use Rattle.trio_script.specs.Within.{AreWithin, IsWithin, LinesWithin, SaysWithin}
 
@@ -56,23 +56,24 @@ path_and_mode_limit (path ∷ mode ∷ []) = both (path_of path) (file_mode (mod
     both None None h = tt
 path_and_mode_limit (path ∷ mode ∷ word ∷ words) = tt
 
+-- what is to be written has 1 to 4096 bytes
+written_limit : (text : Option (List ℕ)) → IfSome (not_long text) (λ bytes. (1 ≤ length bytes) × (length bytes ≤ 4096))
+written_limit None = tt
+written_limit (Some bytes) = by (nat_lt 0 (length bytes)) (nat_le (length bytes) 4096) refl refl
+  where
+    by : (some few : Bool) → nat_lt 0 (length bytes) ≡ some → nat_le (length bytes) 4096 ≡ few → IfSome (if some && few then Some bytes else None) (λ (bs : List ℕ). (1 ≤ length bs) × (length bs ≤ 4096))
+    by true true e f = (grind (arith, nat_tests), grind (arith, nat_tests))
+    by true false e f = tt
+    by false few e f = tt
+
 write_limit : (words : List (List ℕ)) → IfSome (write_in words) IsWithin
 write_limit [] = tt
 write_limit (path ∷ []) = tt
 write_limit (path ∷ at ∷ []) = tt
-write_limit (path ∷ at ∷ text ∷ []) = all_three (path_of path) (number_of at) (written_of text) (short (text_of text))
+write_limit (path ∷ at ∷ text ∷ []) = all_three (path_of path) (number_of at) (written_of text) (written_limit (text_of text))
   where
-    short : (text : Option (List ℕ)) → IfSome (not_long text) (λ bytes. length bytes ≤ 4096)
-    short None = tt
-    short (Some bytes) = by (nat_lt 0 (length bytes)) (nat_le (length bytes) 4096) refl
-      where
-        by : (some few : Bool) → nat_le (length bytes) 4096 ≡ few → IfSome (if some && few then Some bytes else None) (λ (bs : List ℕ). length bs ≤ 4096)
-        by true true e = grind (arith, nat_tests)
-        by true false e = tt
-        by false few e = tt
-
-    all_three : (p : Option Path) (n : Option ℕ) (b : Option (List ℕ)) → IfSome b (λ bytes. length bytes ≤ 4096) → IfSome (wrote p n b) IsWithin
-    all_three (Some p) (Some n) (Some b) h = h
+    all_three : (p : Option Path) (n : Option ℕ) (b : Option (List ℕ)) → IfSome b (λ bytes. (1 ≤ length bytes) × (length bytes ≤ 4096)) → IfSome (wrote p n b) IsWithin
+    all_three (Some p) (Some n) (Some b) h = h.1
     all_three (Some p) (Some n) None h = tt
     all_three (Some p) None b h = tt
     all_three None n b h = tt
@@ -110,6 +111,28 @@ rename_limit (from ∷ to ∷ []) = both (path_of from) (path_of to)
     both None q = tt
 rename_limit (from ∷ to ∷ word ∷ words) = tt
 
+symlink_limit : (words : List (List ℕ)) → IfSome (symlink_in words) IsWithin
+symlink_limit [] = tt
+symlink_limit (path ∷ []) = tt
+symlink_limit (path ∷ text ∷ []) = both (path_of path) (written_of text) (written_limit (text_of text))
+  where
+    both : (p : Option Path) (t : Option (List ℕ)) → IfSome t (λ bytes. (1 ≤ length bytes) × (length bytes ≤ 4096)) → IfSome (linked p t) IsWithin
+    both (Some p) (Some t) h = h
+    both (Some p) None h = tt
+    both None t h = tt
+symlink_limit (path ∷ text ∷ word ∷ words) = tt
+
+guard_limit : (words : List (List ℕ)) → IfSome (guard_in words) IsWithin
+guard_limit [] = tt
+guard_limit (path ∷ []) = tt
+guard_limit (path ∷ switch ∷ []) = both (path_of path) (switch_of switch)
+  where
+    both : (p : Option Path) (on : Option Bool) → IfSome (guarded p on) IsWithin
+    both (Some p) (Some on) = tt
+    both (Some p) None = tt
+    both None on = tt
+guard_limit (path ∷ switch ∷ word ∷ words) = tt
+
 -- ---- lines
 
 call_limit : (command : List ℕ) (words : List (List ℕ)) → IfSome (call_in command words) IsWithin
@@ -126,7 +149,10 @@ call_limit command words =
     (either P (bytes_eq command (codes "rename")) _ _ (rename_limit words)
     (either P (bytes_eq command (codes "list")) _ _ (mapped (λ p. ⊤) P (λ p. ListNames p.0 p.1) (λ p h. tt) (path_and_number words) (any (path_and_number words)))
     (either P (bytes_eq command (codes "stat")) _ _ (mapped (λ p. ⊤) P (λ p. Stat p) (λ p h. tt) (path_alone words) (any (path_alone words)))
-    (either P (bytes_eq command (codes "chmod")) _ _ (mapped (λ p. p.1.0 ≤ 511) P (λ p. Chmod p.0 p.1) (λ p h. h) (path_and_mode words) mode) tt))))))))))
+    (either P (bytes_eq command (codes "chmod")) _ _ (mapped (λ p. p.1.0 ≤ 511) P (λ p. Chmod p.0 p.1) (λ p h. h) (path_and_mode words) mode)
+    (either P (bytes_eq command (codes "symlink")) _ _ (symlink_limit words)
+    (either P (bytes_eq command (codes "readlink")) _ _ (mapped (λ p. ⊤) P (λ p. Readlink p) (λ p h. tt) (path_alone words) (any (path_alone words)))
+    (either P (bytes_eq command (codes "guard")) _ _ (guard_limit words) tt)))))))))))))
 
 said_limit : (words : List (List ℕ)) → IfSome (honest_in words) SaysWithin
 said_limit [] = tt

@@ -1,10 +1,10 @@
 -- What the lines of an honest library say, as their words.
-use Rattle.std.specs.Prelude.{ℕ, nat_le, List, [], ◌∷◌, Option, None, Some, if◌then◌else◌, codes}
+use Rattle.std.specs.Prelude.{ℕ, nat_le, Bool, true, false, List, [], ◌∷◌, Option, None, Some, if◌then◌else◌, codes}
 use Rattle.std.specs.Option.{option_map}
 use Rattle.std.specs.Str.{bytes_eq}
 use Rattle.trio_rights.specs.declared.rights.Mode.{Mode}
 use Rattle.trio_nodes.specs.declared.call.Call.{Call}
-use Rattle.trio_nodes.specs.declared.call.Call.TheVariants.{Mkdir, Create, Write, Read, Truncate, Unlink, Rmdir, Rename, List as ListNames, Stat, Chmod}
+use Rattle.trio_nodes.specs.declared.call.Call.TheVariants.{Mkdir, Create, Write, Read, Truncate, Unlink, Rmdir, Rename, List as ListNames, Stat, Chmod, Symlink, Readlink, Guard}
 use Rattle.trio_nodes.specs.Walk.{Path}
 use Rattle.trio_script.specs.declared.honest.HonestLine.{HonestLine}
 use Rattle.trio_script.specs.declared.honest.HonestLine.TheVariants.{Call as Calls, Settle}
@@ -107,7 +107,35 @@ stat_in words = option_map (λ path. Stat path) (path_alone words)
 abbrev pub chmod_in : List (List ℕ) → Option Call
 chmod_in words = option_map (λ p. Chmod p.0 p.1) (path_and_mode words)
 
--- the eleven calls, by their first word
+-- a link with a text, where path and text are there
+abbrev pub linked : Option Path → Option (List ℕ) → Option Call
+linked (Some path) (Some text) = Some (Symlink path text)
+linked _ _ = None
+
+-- behind `symlink`: `PATH TEXT`
+abbrev pub symlink_in : List (List ℕ) → Option Call
+symlink_in (path ∷ text ∷ []) = linked (path_of path) (written_of text)
+symlink_in _ = None
+
+-- behind `readlink`: `PATH`
+abbrev pub readlink_in : List (List ℕ) → Option Call
+readlink_in words = option_map (λ path. Readlink path) (path_alone words)
+
+-- on and off: `1` and `0`
+abbrev pub switch_of : List ℕ → Option Bool
+switch_of word = if bytes_eq word (codes "1") then Some true else (if bytes_eq word (codes "0") then Some false else None)
+
+-- a file that is guarded from now on, or no longer, where path and switch are there
+abbrev pub guarded : Option Path → Option Bool → Option Call
+guarded (Some path) (Some on) = Some (Guard path on)
+guarded _ _ = None
+
+-- behind `guard`: `PATH 0` or `PATH 1`
+abbrev pub guard_in : List (List ℕ) → Option Call
+guard_in (path ∷ switch ∷ []) = guarded (path_of path) (switch_of switch)
+guard_in _ = None
+
+-- the fourteen calls, by their first word
 abbrev pub call_in : List ℕ → List (List ℕ) → Option Call
 call_in command words =
     if bytes_eq command (codes "mkdir") then mkdir_in words else
@@ -120,18 +148,21 @@ call_in command words =
     (if bytes_eq command (codes "rename") then rename_in words else
     (if bytes_eq command (codes "list") then list_in words else
     (if bytes_eq command (codes "stat") then stat_in words else
-    (if bytes_eq command (codes "chmod") then chmod_in words else None))))))))))
+    (if bytes_eq command (codes "chmod") then chmod_in words else
+    (if bytes_eq command (codes "symlink") then symlink_in words else
+    (if bytes_eq command (codes "readlink") then readlink_in words else
+    (if bytes_eq command (codes "guard") then guard_in words else None)))))))))))))
 
 -- behind `settle` stands nothing
 abbrev pub settle_in : List (List ℕ) → Option HonestLine
 settle_in [] = Some Settle
 settle_in _ = None
 
--- the eleven calls and `settle`, by their first word
+-- the fourteen calls and `settle`, by their first word
 abbrev pub honest_in : List (List ℕ) → Option HonestLine
 honest_in (command ∷ words) = if bytes_eq command (codes "settle") then settle_in words else option_map (λ call. Calls call) (call_in command words)
 honest_in [] = None
 
--- what a line of an honest library says, where it has one of the twelve forms
+-- what a line of an honest library says, where it has one of the fifteen forms
 abbrev pub honest_said : List ℕ → Option HonestLine
 honest_said line = honest_in (words_of line)

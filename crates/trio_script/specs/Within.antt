@@ -2,20 +2,21 @@
 use Rattle.std.specs.Prelude.{◌≤◌, List, length, ⊤}
 use Rattle.std.specs.List.{AllByRecursion}
 use Rattle.trio_nodes.specs.declared.call.Call.{Call}
-use Rattle.trio_nodes.specs.declared.call.Call.TheVariants.{Mkdir, Create, Write, Read, Chmod}
+use Rattle.trio_nodes.specs.declared.call.Call.TheVariants.{Mkdir, Create, Write, Read, Chmod, Symlink}
 use Rattle.trio_script.specs.declared.honest.HonestLine.{HonestLine}
 use Rattle.trio_script.specs.declared.honest.HonestLine.TheVariants.{Call as Calls, Settle}
 use Rattle.trio_script.specs.declared.Lines.{Lines}
 use Rattle.trio_script.specs.declared.Lines.TheVariants.{Raw, Honest}
 use Rattle.trio_script.specs.declared.ScriptLib.{ScriptLib}
 
--- a call reads or writes at most 4096 bytes, and its mode is at most 511, which is 0o777
+-- a call reads or writes at most 4096 bytes, its mode is at most 511, which is 0o777, and the text of a link has 1 to 4096 bytes
 abbrev pub IsWithin : Call → Type 0
 IsWithin (Write path at bytes) = length bytes ≤ 4096
 IsWithin (Read path at len) = len ≤ 4096
 IsWithin (Mkdir path mode) = mode.0 ≤ 511
 IsWithin (Create path mode) = mode.0 ≤ 511
 IsWithin (Chmod path mode) = mode.0 ≤ 511
+IsWithin (Symlink path text) = (1 ≤ length text) × (length text ≤ 4096)
 IsWithin call = ⊤
 
 -- a line's call is within the limits; a settle makes none

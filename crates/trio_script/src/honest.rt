@@ -1,7 +1,7 @@
 //! What the lines of an honest library say.
 
 ghost use Rattle.std.specs.Prelude.{◌≡◌, IfOk, map};
-ghost use Rattle.trio_script.specs.Honest.{call_in, chmod_in, create_in, file_mode, honest_in, honest_said, list_in, mkdir_in, path_alone, path_and_mode, path_and_number, path_with_mode, path_with_number, read_in, read_length, reads, rename_in, renamed, rmdir_in, settle_in, stat_in, truncate_in, unlink_in, write_in, wrote};
+ghost use Rattle.trio_script.specs.Honest.{call_in, chmod_in, create_in, file_mode, guard_in, guarded, honest_in, honest_said, linked, list_in, mkdir_in, path_alone, path_and_mode, path_and_number, path_with_mode, path_with_number, read_in, read_length, readlink_in, reads, rename_in, renamed, rmdir_in, settle_in, stat_in, switch_of, symlink_in, truncate_in, unlink_in, write_in, wrote};
 
 use crate::text::{read_path, read_written};
 use crate::word::{parts, read_mode, read_number};
@@ -22,8 +22,9 @@ const READ_LIMIT: u32 = 4096;
 pub enum HonestLine {
     /// A call of the tree is made: `mkdir PATH MODE`, `create PATH MODE`, `write PATH AT TEXT` with 1
     /// to 4096 bytes, `read PATH AT LEN` of at most 4096, `truncate PATH SIZE`, `unlink PATH`,
-    /// `rmdir PATH`, `rename PATH PATH`, `list PATH FROM`, `stat PATH` or `chmod PATH MODE`. A mode
-    /// is at most 0o777.
+    /// `rmdir PATH`, `rename PATH PATH`, `list PATH FROM`, `stat PATH`, `chmod PATH MODE`,
+    /// `symlink PATH TEXT` with 1 to 4096 bytes, `readlink PATH`, `guard PATH 0` or `guard PATH 1`.
+    /// A mode is at most 0o777.
     Call(Call),
     /// `settle`: what the library's calls did is handed in.
     Settle,
@@ -86,6 +87,12 @@ fn read_call(alloc: Global, command: &[u8], words: &[&[u8]]) -> Result<Option<Ca
         read_stat(alloc, words)
     } else if command == b"chmod".as_slice() {
         read_chmod(alloc, words)
+    } else if command == b"symlink".as_slice() {
+        read_symlink(alloc, words)
+    } else if command == b"readlink".as_slice() {
+        read_readlink(alloc, words)
+    } else if command == b"guard".as_slice() {
+        read_guard(alloc, words)
     } else {
         Ok(None)
     }
@@ -239,6 +246,64 @@ fn read_chmod(alloc: Global, words: &[&[u8]]) -> Result<Option<Call>, NoMemory>
     match path_and_mode(alloc, words)? {
         Some((path, mode)) => Ok(Some(Call::Chmod { path, mode })),
         None => Ok(None),
+    }
+}
+
+fn read_symlink(alloc: Global, words: &[&[u8]]) -> Result<Option<Call>, NoMemory>
+    ensures { IfOk result (λ call. call ≡ symlink_in (map (λ word. word.now) words.now)) }
+{
+    let [path, text] = words else {
+        return Ok(None);
+    };
+    Ok(linked(read_path(alloc, path)?, read_written(alloc, text)?))
+}
+
+fn linked(path: Option<Path>, text: Option<SharedBytes>) -> Option<Call>
+    ensures { result ≡ linked path text }
+{
+    Some(Call::Symlink {
+        path: path?,
+        text: text?,
+    })
+}
+
+fn read_readlink(alloc: Global, words: &[&[u8]]) -> Result<Option<Call>, NoMemory>
+    ensures { IfOk result (λ call. call ≡ readlink_in (map (λ word. word.now) words.now)) }
+{
+    match path_alone(alloc, words)? {
+        Some(path) => Ok(Some(Call::Readlink { path })),
+        None => Ok(None),
+    }
+}
+
+fn read_guard(alloc: Global, words: &[&[u8]]) -> Result<Option<Call>, NoMemory>
+    ensures { IfOk result (λ call. call ≡ guard_in (map (λ word. word.now) words.now)) }
+{
+    let [path, switch] = words else {
+        return Ok(None);
+    };
+    Ok(guarded(read_path(alloc, path)?, read_switch(switch)))
+}
+
+fn guarded(path: Option<Path>, on: Option<bool>) -> Option<Call>
+    ensures { result ≡ guarded path on }
+{
+    Some(Call::Guard {
+        path: path?,
+        on: on?,
+    })
+}
+
+/// On and off: `1` and `0`.
+fn read_switch(word: &[u8]) -> Option<bool>
+    ensures { result ≡ switch_of word.now }
+{
+    if word == b"1".as_slice() {
+        Some(true)
+    } else if word == b"0".as_slice() {
+        Some(false)
+    } else {
+        None
     }
 }
 

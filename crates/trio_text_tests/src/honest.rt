@@ -41,6 +41,9 @@ fn word_of(call: &Call) -> &'static str {
         Call::Unlink { .. } => "unlink",
         Call::Rmdir { .. } => "rmdir",
         Call::Stat { .. } => "stat",
+        Call::Symlink { .. } => "symlink",
+        Call::Readlink { .. } => "readlink",
+        Call::Guard { .. } => "guard",
     }
 }
 
@@ -58,6 +61,9 @@ fn path_of(call: &Call) -> &Path {
         Call::Unlink { path } => path,
         Call::Rmdir { path } => path,
         Call::Stat { path } => path,
+        Call::Symlink { path, .. } => path,
+        Call::Readlink { path } => path,
+        Call::Guard { path, .. } => path,
     }
 }
 
@@ -75,15 +81,23 @@ fn put_rest(alloc: Global, out: &mut Vec<u8>, call: &Call) -> Option<()> {
         Call::Truncate { size, .. } => put_number(alloc, out, *size),
         Call::List { from, .. } => put_number(alloc, out, u64::from(*from)),
         Call::Rename { to, .. } => put_path(out, "", to),
+        Call::Symlink { text, .. } => put_text(out, text.as_slice()),
+        Call::Guard { on, .. } => put_number(alloc, out, u64::from(*on)),
         Call::Unlink { .. } | Call::Rmdir { .. } | Call::Stat { .. } => Some(()),
+        Call::Readlink { .. } => Some(()),
     }
+}
+
+/// Puts a space and bytes as they are.
+fn put_text(out: &mut Vec<u8>, bytes: &[u8]) -> Option<()> {
+    out.extend_from_slice(b" ").ok()?;
+    out.extend_from_slice(bytes).ok()
 }
 
 /// Puts an offset, and bytes as they are.
 fn put_written(alloc: Global, out: &mut Vec<u8>, at: u64, bytes: &[u8]) -> Option<()> {
     put_number(alloc, out, at)?;
-    out.extend_from_slice(b" ").ok()?;
-    out.extend_from_slice(bytes).ok()
+    put_text(out, bytes)
 }
 
 /// Puts a call as its word, its paths, its numbers and its bytes, which are left as they are.
@@ -168,6 +182,13 @@ const LINES: &[(&str, &[u8])] = &[
     ("stat /.a/a.", b"stat (.a,a.,)"),
     ("stat /#", b"stat (#,)"),
     ("chmod /f 1", b"chmod (f,) 1"),
+    ("symlink /l /a/f", b"symlink (l,) /a/f"),
+    ("symlink /l \\x00\\x20~", b"symlink (l,) \x00 ~"),
+    ("symlink / x", b"symlink () x"),
+    ("readlink /a/l", b"readlink (a,l,)"),
+    ("readlink /", b"readlink ()"),
+    ("guard /a/f 1", b"guard (a,f,) 1"),
+    ("guard / 0\n", b"guard () 0"),
     ("settle", b"settle"),
     ("settle\n", b"settle"),
 ];
@@ -265,6 +286,23 @@ const BAD: &[&str] = &[
     "chmod /f",
     "chmod /f 1000",
     "chmod /f 8",
+    "symlink",
+    "symlink /l",
+    "symlink /l ",
+    "symlink l x",
+    "symlink /l a b",
+    "symlink /l \\x0a",
+    "readlink",
+    "readlink l",
+    "readlink /l 0",
+    "guard /f",
+    "guard /f ",
+    "guard f 1",
+    "guard /f 2",
+    "guard /f 01",
+    "guard /f on",
+    "guard /f 1 0",
+    "Symlink /l x",
     "settle 1",
     "Settle",
     "settled",
@@ -300,6 +338,7 @@ fn is_limit(alloc: Global, start: &[u8], piece: &[u8], count: usize) -> Option<b
 fn texts_are_counted(rt: HostRuntime) {
     assert!(rt; is_limit(rt.alloc(), b"write /f 0 ", b"x", 4096) == Some(true));
     assert!(rt; is_limit(rt.alloc(), b"write /f 0 ", b"\\x00", 4096) == Some(true));
+    assert!(rt; is_limit(rt.alloc(), b"symlink /l ", b"x", 4096) == Some(true));
     assert!(rt; is_limit(rt.alloc(), b"stat /", b"n", 184) == Some(true));
     assert!(rt; is_limit(rt.alloc(), b"stat /a/", b"\\xFF", 184) == Some(true));
 }

@@ -10,7 +10,7 @@ use trio_report::{
 };
 use trio_rights::{Kind, LibNo, Mode};
 use trio_samples::files::{one_file, root};
-use trio_samples::{Sample, SampleFile, directory, regular};
+use trio_samples::{Sample, SampleFile, directory, link, regular};
 
 /// The lines of the tree of an image, and how often it was looked at.
 fn lines_of(alloc: Global, files: &[SampleFile]) -> Option<(Vec<TreeLine>, u64)> {
@@ -82,10 +82,22 @@ fn tells_deep(alloc: Global) -> Option<bool> {
     Some(is_tree(alloc, &lines, DEEP)? && is_json(alloc, &lines, JSON)?)
 }
 
+const LINKED: &[u8] = b"tree
+0 d 755 0 0 1 /
+1 l 777 0 0 2 l@
+";
+
+/// The root has one link, whose text isn't looked at.
+fn tells_link(alloc: Global) -> Option<bool> {
+    let (lines, looks) = lines_of(alloc, &[root(), link(2, 1, b"l@", b"/a")])?;
+    Some(looks == 3 && is_tree(alloc, &lines, LINKED)?)
+}
+
 #[test]
 fn images_are_told(rt: HostRuntime) {
     assert!(rt; tells_first(rt.alloc()) == Some(true));
     assert!(rt; tells_deep(rt.alloc()) == Some(true));
+    assert!(rt; tells_link(rt.alloc()) == Some(true));
 }
 
 /// A library of this number and kind, and the line that begins its report.
@@ -232,6 +244,9 @@ fn reply(number: u32) -> Reply {
         11 => Reply::Ok(Answer::Count(4096)),
         12 => Reply::Ok(stat(Kind::Regular, 0o644, 1001, 5, 4097)),
         13 => Reply::Ok(stat(Kind::Directory, 0o007, 0, 4_294_967_295, 0)),
+        15 => Reply::Ok(stat(Kind::Link, 0o777, 0, 0, 4)),
+        16 => Reply::IsLink,
+        17 => Reply::NotLink,
         _ => Reply::Ok(Answer::Done),
     }
 }
@@ -252,6 +267,9 @@ const REPLIES: &[(u32, &str)] = &[
     (12, "ok f 644 1001 5 4097"),
     (13, "ok d 007 0 4294967295 0"),
     (14, "ok"),
+    (15, "ok l 777 0 0 4"),
+    (16, "islink"),
+    (17, "notlink"),
 ];
 
 #[test]
@@ -317,6 +335,11 @@ const NAMES: &[(u32, &[(&[u8], Kind)], &str)] = &[
         66,
         &[(b"a b", Kind::Directory), (b"f\xff", Kind::Regular)],
         "ok 66 a\\x20b/ f\\xFF",
+    ),
+    (
+        2,
+        &[(b"l", Kind::Link), (b"n@", Kind::Regular)],
+        "ok 2 l@ n@",
     ),
 ];
 

@@ -120,10 +120,11 @@ fn tree_line(kind: Kind, size: u64) -> TreeLine {
     }
 }
 
-fn tree() -> [TreeLine; 3] {
+fn tree() -> [TreeLine; 4] {
     [
         tree_line(Kind::Directory, 5),
         tree_line(Kind::Regular, 8),
+        tree_line(Kind::Link, 9),
         tree_line(Kind::Regular, u64::MAX),
     ]
 }
