@@ -2,8 +2,9 @@
 use Rattle.std.proofs.Common.{ℕ, List, Option, inl, inr, refl, subst, ap, arith}
 use Rattle.trio_io.specs.Shelf.{Shelf, OnlyReads}
 use Rattle.trio_layout.specs.declared.superblock.Superblock.{Superblock}
+use Rattle.trio_survey.specs.OldVersion.{old_version}
 use Rattle.trio_image.specs.declared.fault.LoadFault.{LoadFault}
-use Rattle.trio_image.specs.declared.fault.LoadFault.TheVariants.{ReadFault as LoadReadFault, TooLong as LoadTooLong, Length as LoadLength, BadSuper as LoadBadSuper, Fails as LoadFailsRule, NoMemory as LoadNoMemory}
+use Rattle.trio_image.specs.declared.fault.LoadFault.TheVariants.{ReadFault as LoadReadFault, TooLong as LoadTooLong, Length as LoadLength, OldVersion as LoadOldVersion, BadSuper as LoadBadSuper, Fails as LoadFailsRule, NoMemory as LoadNoMemory}
 use Rattle.trio_image.specs.Fault.{IsBadLength}
 use Rattle.trio_image.specs.Load.{LoadFails, Loads}
 use Rattle.trio_commands.specs.declared.status.Status.{Status}
@@ -22,7 +23,7 @@ bad_length bytes count bad =
     inl (subst (λ (n : ℕ). IsBadLength bytes n) bad.0 bad, ap length_line bad.0)
 
 load_stops : (image : List ℕ) (old new : Shelf) (fault : LoadFault) → LoadFails image old new fault
-    → ImageStops image old new (line_of image (stop_of_loading fault)) (status_of (stop_of_loading fault))
+    → ImageStops image old new (line_of image (stop_of_loading old_version fault)) (status_of (stop_of_loading old_version fault))
 load_stops image old new LoadReadFault rose = (rose, refl)
 load_stops image old new LoadTooLong longer = (longer, refl)
 load_stops image old new (LoadLength count) refused = record {
@@ -32,23 +33,30 @@ load_stops image old new (LoadLength count) refused = record {
   fails = refused.fails;
   cause = bad_length refused.bytes count refused.cause;
 }
-load_stops image old new LoadBadSuper refused = record {
+load_stops image old new LoadOldVersion refused = record {
   image_bytes = refused.bytes;
   image_is = refused.told;
   within = refused.within;
   fails = refused.fails;
   cause = inr (inl (refused.cause, refl));
 }
+load_stops image old new LoadBadSuper refused = record {
+  image_bytes = refused.bytes;
+  image_is = refused.told;
+  within = refused.within;
+  fails = refused.fails;
+  cause = inr (inr (inl (refused.cause, refl)));
+}
 load_stops image old new (LoadFailsRule rule ino page slot) refused = record {
   image_bytes = refused.bytes;
   image_is = refused.told;
   within = refused.within;
   fails = refused.fails;
-  cause = inr (inr (rule, record { superblock = refused.cause.0; lengths = refused.cause.1; ino = ino; place = record { page = page; slot = slot }; fails = refused.cause.2.1 }, refl));
+  cause = inr (inr (inr (rule, record { superblock = refused.cause.0; lengths = refused.cause.1; ino = ino; place = record { page = page; slot = slot }; fails = refused.cause.2.1 }, refl)));
 }
 load_stops image old new LoadNoMemory never = refl
 
-pub image_stops : (image : List ℕ) (old new : Shelf) (fault : LoadFault) (text : List ℕ) (status : Status) → LoadFails image old new fault → ToldStop image (stop_of_loading fault) text status → ImageStops image old new text status
+pub image_stops : (image : List ℕ) (old new : Shelf) (fault : LoadFault) (text : List ℕ) (status : Status) → LoadFails image old new fault → ToldStop image (stop_of_loading old_version fault) text status → ImageStops image old new text status
 image_stops image old new fault text status why (inl told) = rw (told.0, told.1) (load_stops image old new fault why)
 image_stops image old new fault text status why (inr lacking) = rw (lacking.0, lacking.1) refl
 

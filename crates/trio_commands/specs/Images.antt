@@ -3,12 +3,13 @@ use Rattle.std.specs.Prelude.{◌≡◌, ◌⊎◌, ℕ, ◌≤◌, List, [], le
 use Rattle.trio_io.specs.Shelf.{Shelf, Rose, IsTold, IsLonger, KeepsOthers}
 use Rattle.trio_layout.specs.declared.superblock.Superblock.{Superblock}
 use Rattle.trio_layout.specs.Core.{Location}
+use Rattle.trio_survey.specs.OldVersion.{old_version}
 use Rattle.trio_survey.specs.Stored.{BytesVerify, pages_in}
 use Rattle.trio_survey.specs.Verdict.{ImageFailsAt}
-use Rattle.trio_image.specs.Fault.{HasLength, IsBadLength, IsBadSuper}
+use Rattle.trio_image.specs.Fault.{HasLength, IsBadLength, IsBadSuper, IsOldVersion}
 use Rattle.trio_commands.specs.declared.status.Status.{Status}
 use Rattle.trio_commands.specs.declared.status.Status.TheVariants.{Done, NotVerified, ReadFault, WriteFault, NoMemory, TooLong}
-use Rattle.trio_commands.specs.Lines.{length_line, bad_superblock_line, invalid_line, read_fault_line, too_long_line}
+use Rattle.trio_commands.specs.Lines.{length_line, image_version_line, bad_superblock_line, invalid_line, read_fault_line, too_long_line}
 
 -- the image was read and verifies
 pub record ImageVerifies (image : List ℕ) (old : Shelf) : Type 0 where
@@ -30,6 +31,7 @@ pub record FailsRule (bytes : List ℕ) (rule : ℕ) : Type 0 where
 abbrev pub FailsWith : List ℕ → List ℕ → Type 0
 FailsWith bytes text =
     (IsBadLength bytes (length bytes) × (text ≡ length_line (length bytes)))
+    ⊎ (IsOldVersion bytes × (text ≡ image_version_line old_version))
     ⊎ (IsBadSuper bytes × (text ≡ bad_superblock_line))
     ⊎ ((rule : ℕ) × FailsRule bytes rule × (text ≡ invalid_line rule))
 

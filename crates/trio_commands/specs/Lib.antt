@@ -4,6 +4,7 @@ pub mod Report
 pub mod Images
 pub mod Inputs
 pub mod New
+pub mod Migrate
 pub mod Check
 pub mod Tree
 pub mod Saved

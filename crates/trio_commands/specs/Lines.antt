@@ -9,7 +9,7 @@ use Rattle.trio_report.specs.declared.report.Counts.{Counts}
 
 -- the words of each command
 abbrev pub usage_line : List ℕ
-usage_line = codes "usage: trio new OUT PAGES INODES | check IMAGE | tree IMAGE [json] | turns IMAGE SCRIPT OUT | run IMAGE SCRIPT OUT | gen NUMBER FILES\n"
+usage_line = codes "usage: trio new OUT PAGES INODES | check IMAGE | tree IMAGE [json] | turns IMAGE SCRIPT OUT | run IMAGE SCRIPT OUT [WORKERS] | gen NUMBER FILES | migrate IMAGE OUT\n"
 
 -- the program's name and version
 abbrev pub version_line : List ℕ
@@ -24,11 +24,19 @@ made_line pages inodes free =
 abbrev pub valid_line : Counts → List ℕ
 valid_line counts = codes "valid " ++ counts_text counts
 
+-- an image of version 1 became one of today's version, and has so much in use
+abbrev pub migrated_line : Counts → List ℕ
+migrated_line counts = codes "migrated " ++ counts_text counts
+
 -- a file of so many bytes is no image
 abbrev pub length_line : ℕ → List ℕ
 length_line count = codes "length " ++ decimal count ++ codes "\n"
 
--- the first page isn't a superblock
+-- the first page is a superblock of another version
+abbrev pub image_version_line : ℕ → List ℕ
+image_version_line version = codes "version " ++ decimal version ++ codes "\n"
+
+-- the first page is a superblock of no version
 abbrev pub bad_superblock_line : List ℕ
 bad_superblock_line = codes "bad superblock\n"
 

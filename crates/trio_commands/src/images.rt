@@ -16,6 +16,7 @@ use std::alloc::Global;
 use trio_image::{Image, SaveFault, load};
 use trio_io::Files;
 use trio_report::Counts;
+use trio_survey::OLD_VERSION;
 
 /// The image in a file, or how the program ends where there is none.
 pub fn read_image<F: Files>(alloc: Global, name: &str, files: &mut F) -> Result<Image, Outcome>
@@ -26,7 +27,7 @@ pub fn read_image<F: Files>(alloc: Global, name: &str, files: &mut F) -> Result<
 {
     match load(alloc, files, name) {
         Ok(image) => Ok(image),
-        Err(fault) => Err(Stop::of_loading(fault).outcome(alloc, name)),
+        Err(fault) => Err(Stop::of_loading(fault, OLD_VERSION).outcome(alloc, name)),
     }
 }
 

@@ -1,9 +1,9 @@
 //! What the words of the command line ask for, and what of a command needs no controller.
 //!
 //! - [`read_words`] says which command the words are (`specs/Command.antt`).
-//! - [`new_image`] makes an image, [`check`] verifies one, and [`tree`] tells its tree: each does all
-//!   of its command but to put the text that is then due (`specs/New.antt`, `specs/Check.antt`,
-//!   `specs/Tree.antt`).
+//! - [`new_image`] makes an image, [`check`] verifies one, [`tree`] tells its tree, and [`migrate`] makes
+//!   one of version 1 one of today's: each does all of its command but to put the text that is then due
+//!   (`specs/New.antt`, `specs/Check.antt`, `specs/Tree.antt`, `specs/Migrate.antt`).
 //! - [`read_inputs`] reads the image and the script of a run (`specs/Inputs.antt`), [`put_answers`] and
 //!   [`told_counts`] make parts of its report (`specs/Report.antt`), and [`save_image`] writes an image
 //!   and ends the command (`specs/Saved.antt`).
@@ -17,6 +17,7 @@ mod images;
 mod inputs;
 mod lines;
 mod making;
+mod migrating;
 mod status;
 mod stop;
 mod telling;
@@ -28,6 +29,7 @@ pub use images::{save_image, told_counts};
 pub use inputs::{SCRIPT_LIMIT, read_inputs};
 pub use lines::{USAGE, VERSION};
 pub use making::new_image;
+pub use migrating::migrate;
 pub use status::{Outcome, Status};
 pub use telling::tree;
 pub use words::{Request, TreeForm, read_words};

@@ -2,7 +2,7 @@
 
 ghost use Rattle.std.specs.Prelude.{◌≡◌, ◌++◌, codes, IfOk};
 ghost use Rattle.trio_names.specs.Escaped.{escaped_of};
-ghost use Rattle.trio_commands.specs.Lines.{invalid_line, length_line, made_line, script_line, valid_line};
+ghost use Rattle.trio_commands.specs.Lines.{image_version_line, invalid_line, length_line, made_line, migrated_line, script_line, valid_line};
 
 use std::alloc::Global;
 use trio_layout::Rule;
@@ -12,7 +12,7 @@ use trio_report::{Counts, put_counts};
 
 /// The words of each command.
 pub const USAGE: &[u8] =
-    b"usage: trio new OUT PAGES INODES | check IMAGE | tree IMAGE [json] | turns IMAGE SCRIPT OUT | run IMAGE SCRIPT OUT | gen NUMBER FILES\n";
+    b"usage: trio new OUT PAGES INODES | check IMAGE | tree IMAGE [json] | turns IMAGE SCRIPT OUT | run IMAGE SCRIPT OUT [WORKERS] | gen NUMBER FILES | migrate IMAGE OUT\n";
 
 /// The program's name and version.
 pub const VERSION: &[u8] = b"trio 0.1.0\n";
@@ -48,6 +48,14 @@ pub fn invalid_line(alloc: Global, rule: u8) -> Result<Vec<u8>, NoMemory>
     Ok(line.into_bytes())
 }
 
+/// The line of an image of another version.
+pub fn image_version_line(alloc: Global, version: u32) -> Result<Vec<u8>, NoMemory>
+    ensures { IfOk result (λ line. line.items ≡ image_version_line version) }
+{
+    let line = format!(in alloc; "version {version}\n")?;
+    Ok(line.into_bytes())
+}
+
 /// The line that names a line of a script that is outside the grammar.
 pub fn bad_line_text(alloc: Global, number: u32) -> Result<Vec<u8>, NoMemory>
     ensures { IfOk result (λ line. line.items ≡ script_line number) }
@@ -69,6 +77,15 @@ pub fn valid_line(alloc: Global, counts: &Counts) -> Result<Vec<u8>, NoMemory>
     ensures { IfOk result (λ line. line.items ≡ valid_line counts.now) }
 {
     let mut line = b"valid ".to_vec(alloc)?;
+    put_counts(alloc, &mut line, counts)?;
+    Ok(line)
+}
+
+/// The line of an image of version 1 that became one of today's version.
+pub fn migrated_line(alloc: Global, counts: &Counts) -> Result<Vec<u8>, NoMemory>
+    ensures { IfOk result (λ line. line.items ≡ migrated_line counts.now) }
+{
+    let mut line = b"migrated ".to_vec(alloc)?;
     put_counts(alloc, &mut line, counts)?;
     Ok(line)
 }

@@ -3,7 +3,7 @@
 ghost use Rattle.std.specs.Prelude.{◌≡◌, IfOk};
 ghost use Rattle.trio_commands.specs.inner.Stop.{status_of, line_of, stop_of_loading, ToldStop};
 
-use crate::lines::{bad_line_text, invalid_line, length_line, named_line};
+use crate::lines::{bad_line_text, image_version_line, invalid_line, length_line, named_line};
 use crate::{Outcome, Status};
 use std::alloc::Global;
 use trio_image::LoadFault;
@@ -18,7 +18,9 @@ pub enum Stop {
     TooLong,
     /// The file has so many bytes, which no image has.
     Length(u64),
-    /// The first page isn't a superblock.
+    /// The first page is a superblock of this version, which isn't the one that is asked for.
+    Version(u32),
+    /// The first page is a superblock of no version.
     BadSuper,
     /// The rule of this number fails: I1 or I2, or that of the stored tables.
     Invalid(u8),
@@ -29,14 +31,16 @@ pub enum Stop {
 }
 
 impl Stop {
-    /// What the fault of loading an image comes to.
-    pub fn of_loading(fault: LoadFault) -> Stop
-        ensures { result ≡ stop_of_loading fault }
+    /// What the fault of loading an image comes to, where the other version, which is told apart, is
+    /// this one.
+    pub fn of_loading(fault: LoadFault, other: u32) -> Stop
+        ensures { result ≡ stop_of_loading other fault }
     {
         match fault {
             LoadFault::ReadFault => Stop::ReadFault,
             LoadFault::TooLong => Stop::TooLong,
             LoadFault::Length(count) => Stop::Length(count),
+            LoadFault::OldVersion => Stop::Version(other),
             LoadFault::BadSuper => Stop::BadSuper,
             LoadFault::Fails { rule, .. } => Stop::Invalid(rule),
             LoadFault::NoMemory => Stop::NoMemory,
@@ -63,7 +67,9 @@ impl Stop {
         match self {
             Stop::ReadFault => Status::ReadFault,
             Stop::TooLong => Status::TooLong,
-            Stop::Length(_) | Stop::BadSuper | Stop::Invalid(_) => Status::NotVerified,
+            Stop::Length(_) | Stop::Version(_) | Stop::BadSuper | Stop::Invalid(_) => {
+                Status::NotVerified
+            }
             Stop::BadLine(_) => Status::BadScript,
             Stop::NoMemory => Status::NoMemory,
         }
@@ -76,6 +82,7 @@ impl Stop {
             Stop::ReadFault => named_line(alloc, "read fault ", name),
             Stop::TooLong => named_line(alloc, "too long ", name),
             Stop::Length(count) => length_line(alloc, count),
+            Stop::Version(version) => image_version_line(alloc, version),
             Stop::BadSuper => b"bad superblock\n".to_vec(alloc),
             Stop::Invalid(rule) => invalid_line(alloc, rule),
             Stop::BadLine(number) => bad_line_text(alloc, number),

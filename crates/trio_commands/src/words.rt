@@ -4,12 +4,15 @@ ghost use Rattle.std.specs.Prelude.{◌≡◌, codes, if◌then◌else◌};
 ghost use Rattle.std.specs.Str.{bytes_eq};
 ghost use Rattle.trio_io.specs.Names.{texts_of};
 ghost use Rattle.trio_script.specs.Words.{number_of};
-ghost use Rattle.trio_commands.specs.Command.{command_of, command_of_four, command_of_one, command_of_three, command_of_two, gen_of, new_of, tree, unknown};
+ghost use Rattle.trio_commands.specs.Command.{command_of, command_of_five, command_of_four, command_of_one, command_of_three, command_of_two, gen_of, new_of, run_of, tree, unknown};
 ghost use Rattle.trio_commands.specs.declared.words.TreeForm.TheVariants.{Json};
 ghost use Rattle.trio_commands.specs.Request.{command_in};
 
 use trio_gen::FILES_LIMIT;
 use trio_script::read_number;
+
+/// The most workers of a run.
+const WORKERS_LIMIT: u32 = 8;
 
 /// In which form a tree is put.
 #[derive(Clone, Copy, Debug, PartialEq, Eq)]
@@ -44,16 +47,22 @@ pub enum Request<'a> {
         script: &'a str,
         out: &'a str,
     },
-    /// `run IMAGE SCRIPT OUT`.
+    /// `run IMAGE SCRIPT OUT`, and with 1 to 8 workers `run IMAGE SCRIPT OUT WORKERS`.
     Run {
         image: &'a str,
         script: &'a str,
         out: &'a str,
+        workers: Option<u32>,
     },
     /// `gen NUMBER FILES`, of 1 to 1000 files.
     Gen {
         number: u32,
         files: u32,
+    },
+    /// `migrate IMAGE OUT`.
+    Migrate {
+        image: &'a str,
+        out: &'a str,
     },
     /// `--help`.
     Help,
@@ -68,6 +77,7 @@ pub fn read_words(words: &[String]) -> Request<'_>
     ensures { command_in result ≡ command_of (texts_of words.now) }
 {
     match words {
+        [] => Request::Unknown,
         [word] => request_of_one(word.as_str()),
         [word, first] => request_of_two(word.as_str(), first.as_str()),
         [word, first, second] => {
@@ -78,6 +88,13 @@ pub fn read_words(words: &[String]) -> Request<'_>
             first.as_str(),
             second.as_str(),
             third.as_str(),
+        ),
+        [word, first, second, third, fourth] => request_of_five(
+            word.as_str(),
+            first.as_str(),
+            second.as_str(),
+            third.as_str(),
+            fourth.as_str(),
         ),
         _ => Request::Unknown,
     }
@@ -110,13 +127,18 @@ fn request_of_two<'a>(word: &str, image: &'a str) -> Request<'a>
     }
 }
 
-fn request_of_three<'a>(word: &str, first: &'a str, second: &str) -> Request<'a>
+fn request_of_three<'a>(word: &str, first: &'a str, second: &'a str) -> Request<'a>
     ensures { command_in result ≡ command_of_three word.now first.now second.now }
 {
     if word == "tree" {
         tree_request(first, second)
     } else if word == "gen" {
         gen_request(first, second)
+    } else if word == "migrate" {
+        Request::Migrate {
+            image: first,
+            out: second,
+        }
     } else {
         Request::Unknown
     }
@@ -138,7 +160,24 @@ fn request_of_four<'a>(word: &str, first: &'a str, second: &'a str, third: &'a s
             image: first,
             script: second,
             out: third,
+            workers: None,
         }
+    } else {
+        Request::Unknown
+    }
+}
+
+fn request_of_five<'a>(
+    word: &str,
+    first: &'a str,
+    second: &'a str,
+    third: &'a str,
+    fourth: &str,
+) -> Request<'a>
+    ensures { command_in result ≡ command_of_five word.now first.now second.now third.now fourth.now }
+{
+    if word == "run" {
+        run_request(first, second, third, fourth)
     } else {
         Request::Unknown
     }
@@ -154,6 +193,20 @@ fn tree_request<'a>(image: &'a str, form: &str) -> Request<'a>
         }
     } else {
         Request::Unknown
+    }
+}
+
+fn run_request<'a>(image: &'a str, script: &'a str, out: &'a str, workers: &str) -> Request<'a>
+    ensures { command_in result ≡ run_of image.now script.now out.now (number_of workers.now) }
+{
+    match read_number(workers.as_bytes()) {
+        Some(workers) if 1 <= workers && workers <= WORKERS_LIMIT => Request::Run {
+            image,
+            script,
+            out,
+            workers: Some(workers),
+        },
+        _ => Request::Unknown,
     }
 }
 

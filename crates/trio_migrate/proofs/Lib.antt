@@ -1,0 +1,3 @@
+pub mod SamePages
+pub mod Migrating
+pub mod OldRefused
