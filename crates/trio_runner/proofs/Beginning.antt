@@ -2,6 +2,7 @@
 use Rattle.trio_runner.proofs.Words.{◌++◌, ◌+◌, ◌-◌, ◌<◌, ◌∙◌, ◌∷◌, ◌≡◌, ◌≤◌, Arrives, BeginsWith, CourseGoes, Creds, DeskSeen, Ends, Entry, Heard, Held, HoldsAll, IsLibraryOf, LibSeat, Lines, List, MayGoOn, Origin, Place, RanAll, ScriptLib, Seated, Share, Shared, Some, WentThrough, [], ap, arith, arrives, begun, creds_in, creds_listed, desk, desk_left, desk_of, first, get_or, length, length-map, library, library_of, line_turns, map-append, place_at, refl, seated, seen, slice_get-get_or, started, subst, suc, sym, take, untold, ℕ}
 use Rattle.std.proofs.Math.Seq.{take-suc}
 use Rattle.trio_turn.specs.Marks.{Mark}
+use Rattle.trio_shared.specs.Seats.{origin}
 use Rattle.trio_runner.proofs.EndFree.{begins_all, creds_at}
 use Rattle.trio_runner.proofs.Seats.{begun_goes}
 
@@ -30,6 +31,13 @@ module _ (shared : Shared) (libs : List ScriptLib) (seat : LibSeat Held) (a : Ar
       let high : library seat ≤ length (first seat).creds = subst (λ (o : Origin). library seat ≤ length o.creds) (sym a.sits.is_seat.first) a.sits.is_seat.library.1 in
       let many : length (first seat).creds ≡ length libs = ap length a.creds ∙ length-map libs (λ (l : ScriptLib). l.creds) in
       (a.sits.is_seat.library.0, subst (λ n. library seat ≤ n) many high)
+
+  -- there are no more libraries at its controller than in the script
+  pub seat_few : length libs ≤ 16 → length (origin shared).creds ≤ 16
+  seat_few few =
+      let there : length (origin shared).creds ≡ length (first seat).creds = ap (λ (o : Origin). length o.creds) (sym a.sits.is_seat.first) in
+      let many : length (first seat).creds ≡ length libs = ap length a.creds ∙ length-map libs (λ (l : ScriptLib). l.creds) in
+      omega (arith, few, there, many)
 
   pub seat_at : library seat - 1 < length libs
   seat_at = (let w = seat_within in omega (arith, w.0, w.1))

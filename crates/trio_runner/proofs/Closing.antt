@@ -13,7 +13,8 @@ use Rattle.trio_turn.specs.Seats.{EverySeat, OfEach, mine}
 use Rattle.trio_shared.specs.Begun.{mark_of, marked}
 use Rattle.trio_shared.specs.Left.{origin_of}
 use Rattle.trio_shared.specs.Seats.{AllStart, Starts, library_count}
-use Rattle.trio_runner.specs.inner.Threads.{HasRun, HaveRun}
+use Rattle.trio_runner.specs.declared.threads.LibStart.{LibStart}
+use Rattle.trio_runner.specs.inner.Threads.{HasRun, HaveRun, seats_of}
 use Rattle.trio_runner.proofs.EndFree.{within_some}
 use Rattle.trio_runner.proofs.Held.{same_library}
 
@@ -64,16 +65,23 @@ module _ (ctl : Controller) (libs : List ScriptLib) (h : HasStarted ctl libs) wh
 
 -- ---- the threads
 
+-- what stands in a mapped list
+mapped : {X Y : Type 0} (f : X → Y) (xs : List X) (k : ℕ) (y : Y) → slice_get (map f xs) k ≡ Some y → (x : X) × (slice_get xs k ≡ Some x) × (f x ≡ y)
+mapped f [] k y e = absurd (cc e)
+mapped f (x ∷ xs) zero y e = (x, refl, cc e)
+mapped f (x ∷ xs) (suc k) y e = mapped f xs k y e
+
 -- what each call of a closure came to, its libraries came to
-pub have_run : {F : Type 0} (g : Callable F (LibSeat Held × Unit {0}) LibRun) (f : F) (shared : Shared) (libs : List ScriptLib) → ((seat : LibSeat Held) (run : LibRun) → g.post f (seat, tt) run → HasRun shared libs seat run)
-    → (seats : List (LibSeat Held)) (runs : List LibRun) → length runs ≡ length seats → GivesJobs g f seats runs → HaveRun shared libs seats runs
-have_run g f shared libs met seats runs count gives = record {
-  count = count;
+pub have_run : {F : Type 0} (g : Callable F (LibStart × Unit {0}) LibRun) (f : F) (shared : Shared) (libs : List ScriptLib) → ((start : LibStart) (run : LibRun) → g.post f (start, tt) run → HasRun shared libs start.seat run)
+    → (starts : List LibStart) (runs : List LibRun) → length runs ≡ length starts → GivesJobs g f starts runs → HaveRun shared libs (seats_of starts) runs
+have_run g f shared libs met starts runs count gives = record {
+  count = count ∙ sym (length-map starts (λ (s : LibStart). s.seat));
   each = λ k seat run at there.
-      let j = (gives k run (slice_get_within seats k seat at)).1 in
-      let job : j.job ≡ seat = sym (j.job_is seat) ∙ get_or_from_slice_get seats k seat seat at in
-      subst (λ s. HasRun shared libs s run) job
-      (subst (HasRun shared libs j.job) (get_or_from_slice_get runs k run run there) (met j.job (get_or runs k run) j.call.met));
+      let m = mapped (λ (s : LibStart). s.seat) starts k seat at in
+      let j = (gives k run (slice_get_within starts k m.0 m.1)).1 in
+      let job : j.job ≡ m.0 = sym (j.job_is m.0) ∙ get_or_from_slice_get starts k m.0 m.0 m.1 in
+      subst (λ (s : LibSeat Held). HasRun shared libs s run) (ap (λ (s : LibStart). s.seat) job ∙ m.2)
+      (subst (HasRun shared libs j.job.seat) (get_or_from_slice_get runs k run run there) (met j.job (get_or runs k run) j.call.met));
 }
 
 -- what follows of two facts of one answer
@@ -83,13 +91,7 @@ if_both (Err e) P Q S f p q = p
 
 -- ---- lists
 
--- what stands in a mapped list
-mapped : {X Y : Type 0} (f : X → Y) (xs : List X) (k : ℕ) (y : Y) → slice_get (map f xs) k ≡ Some y → (x : X) × (slice_get xs k ≡ Some x) × (f x ≡ y)
-mapped f [] k y e = absurd (cc e)
-mapped f (x ∷ xs) zero y e = (x, refl, cc e)
-mapped f (x ∷ xs) (suc k) y e = mapped f xs k y e
-
-put_in : {X Y : Type 0} (f : X → Y) (xs : List X) (k : ℕ) (x : X) → slice_get xs k ≡ Some x → slice_get (map f xs) k ≡ Some (f x)
+pub put_in : {X Y : Type 0} (f : X → Y) (xs : List X) (k : ℕ) (x : X) → slice_get xs k ≡ Some x → slice_get (map f xs) k ≡ Some (f x)
 put_in f xs k x e = slice_get-map f xs k ∙ ap (option_map f) e
 
 -- nothing is marked where nothing has begun

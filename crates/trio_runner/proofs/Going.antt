@@ -1,5 +1,5 @@
 -- A library's turns at its seat.
-use Rattle.trio_runner.proofs.Words.{◌++◌, ◌+◌, ◌<◌, ◌∙◌, ◌∷◌, ◌≡◌, Answer, Ask, Call, Calls, CourseGoes, DeskIsLeft, DeskSeen, Ended, Ends, Goes, GoesOn, Going, HasAll, HasClosed, Heard, Held, HoldsAll, HonestComes, HonestLine, InSession, IsSeatOf, Leaves, LibNo, LibSeat, LineAnswer, List, Option, OthersLeave, Place, Said, Says, SaysHonest, Seated, SessionSeen, Settles, Share, Shared, Some, State, Things, Told, Turn, TurnGoes, TurnMade, TurnTaken, Went, [], ap, arith, desk, desk_left, desk_of, first, get_or, length, library, library_of, place_at, refl, seated, seen, sees_at, subst, suc, sym, take, take-suc, with_end, with_told, ℕ}
+use Rattle.trio_runner.proofs.Words.{◌++◌, ◌+◌, ◌<◌, ◌∙◌, ◌∷◌, ◌≡◌, Answer, Ask, Call, Calls, CourseGoes, DeskIsLeft, DeskSeen, Ended, Ends, Goes, GoesOn, Going, HasAll, HasClosed, Heard, Held, HoldsAll, HonestComes, HonestLine, InSession, IsSeatOf, Leaves, LibNo, LibSeat, LineAnswer, List, None, Option, OthersLeave, Place, Said, Says, SaysHonest, Seated, SessionSeen, Settles, Share, Shared, Some, State, Things, Told, Turn, TurnGoes, TurnMade, TurnTaken, Went, [], ap, arith, desk, desk_left, desk_of, first, get_or, length, library, library_of, place_at, refl, seated, seen, sees_at, subst, suc, sym, take, take-suc, with_end, with_told, ℕ}
 use Rattle.trio_shared.specs.Seats.{IsIdle}
 use Rattle.trio_shared.specs.Turns as turns
 use Rattle.trio_runner.specs.inner.Threads.{Sits, TookAtSeat}
@@ -192,3 +192,8 @@ module _ {D N : Type 0} (called : D → Ask → Told → D → Type 0) (shared :
                   (ap (λ (l : LibNo). l.0) (goes_on []).2.same_lib);
               may = (goes, turn_holds d d' left turn share taken.0 share' taken.1 (subst (λ (x : LibSeat Held). HoldsAll (desk x) share) (sym at) all) goes);
             }))
+
+      -- after a turn, or where none is left, the reference to the seat is the same
+      pub name_stays : (d d' : D) (sh : Shared) (old : LibSeat Held) → shared d ≡ sh → seat d ≡ old → Sits sh old → (o : Option Turn) (share share' : Share) (told told' : Heard) → TurnTaken called seen_at o d share told d' share' told' → name d' ≡ name d
+      name_stays d d' sh old of at sits None share share' told told' took = ap name took.0
+      name_stays d d' sh old of at sits (Some turn) share share' told told' took = turn_name d d' sh old of at sits turn (Some turn) refl share share' told told' took

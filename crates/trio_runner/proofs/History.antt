@@ -1,16 +1,16 @@
 -- The calls of a legal log are a history of the tree on one thread.
-use Rattle.trio_runner.proofs.Words.{◌&&◌, ◌++◌, ◌∙◌, ◌∷◌, ◌≡◌, AllByRecursion, Applied, Apply, Back, BadMode, Batch, Bool, Chmod, Create, Creds, Directory, Entry, Err, IsDone, IsReplied, Kind, LegalCalls, List, ListNames, MatchBool, Mkdir, Nodes, None, NotOwner, Ok, Option, Path, Regular, Rename, Reply, Rmdir, Some, Stat, Truncate, Unlink, [], ap, batch_nodes, both_ways, call_nodes, cond, dir_of, done, eq-eqb, eqb, eqb-true, false, false≢true, find_named, flat_map, inl, inr, is_done, is_root, length, make, map, name_of, new_node, refl, refused, subst, sym, true, with_node, zero, ℕ}
+use Rattle.trio_runner.proofs.Words.{◌&&◌, ◌++◌, ◌∙◌, ◌∷◌, ◌≡◌, AllByRecursion, Applied, Apply, Back, BadMode, Batch, Bool, Chmod, Create, Creds, Directory, Entry, Err, IsDone, IsReplied, Kind, LegalCalls, Link, List, ListNames, MatchBool, Mkdir, Nodes, None, NotOwner, Ok, Option, Path, Regular, Rename, Reply, Rmdir, Some, Stat, Truncate, Unlink, [], ap, batch_nodes, both_ways, call_nodes, cond, dir_of, done, eq-eqb, eqb, eqb-true, false, false≢true, find_named, flat_map, inl, inr, is_done, is_root, length, make, map, name_of, new_node, refl, refused, subst, sym, true, with_node, zero, ℕ}
 use Rattle.std.proofs.Common.{is_some}
 use Rattle.trio_rights.specs.declared.rights.Mode.{Mode as FileMode}
 use Rattle.trio_nodes.specs.declared.answers.ModeFault.TheVariants.{NotLive, Busy, NoMemory}
 use Rattle.trio_nodes.specs.declared.node.Node.{Node}
 use Rattle.trio_nodes.specs.declared.call.Call.{Call}
-use Rattle.trio_nodes.specs.declared.call.Call.TheVariants.{Write, Read}
+use Rattle.trio_nodes.specs.declared.call.Call.TheVariants.{Guard, Read, Readlink, Symlink, Write}
 use Rattle.trio_nodes.specs.declared.call.Done.{Done}
 use Rattle.trio_nodes.specs.declared.call.Reply.TheVariants.{Denied, Exists}
 use Rattle.trio_nodes.specs.declared.entry.Entry.TheVariants.{Grant, Allot, Raw, Mode}
 use Rattle.trio_nodes.specs.Nodes.{node_at}
-use Rattle.trio_nodes.specs.Apply.{in_directory, makes_file}
+use Rattle.trio_nodes.specs.Apply.{in_directory, link_mode, makes_file}
 use Rattle.trio_nodes.specs.After.{moded_node, moded_nodes, nodes_after}
 use Rattle.trio_nodes.specs.Libraries.{IsLibrary, creds_in}
 use Rattle.trio_nodes.proofs.LibraryFacts.{batch_after}
@@ -60,23 +60,23 @@ had_place nodes ino mode n y e = by (eqb n ino) refl
     by false isn't = record { node = y; at = sym (with_node-else nodes ino n (moded_node mode (node_at nodes ino)) (λ same. false≢true (sym isn't ∙ eq-eqb n ino same))) ∙ e; parent = refl; name = refl }
 
 -- a change of mode makes no file
-makes_none : (nodes : Nodes) (creds : Creds) (kind : Kind) (path : Path) (file_mode : FileMode) (ino mode : ℕ)
-    → IsReplied IsDone ≡ (make nodes creds kind path file_mode 0).reply → moded_nodes ino mode nodes ≡ (make nodes creds kind path file_mode 0).nodes → ⊥
-makes_none nodes creds kind path file_mode ino mode =
+makes_none : (nodes : Nodes) (creds : Creds) (kind : Kind) (path : Path) (file_mode : FileMode) (bytes : List ℕ) (ino mode : ℕ)
+    → IsReplied IsDone ≡ (make nodes creds kind path file_mode bytes 0).reply → moded_nodes ino mode nodes ≡ (make nodes creds kind path file_mode bytes 0).nodes → ⊥
+makes_none nodes creds kind path file_mode bytes ino mode =
     let Q : Applied → Type 0 = λ a. IsReplied IsDone ≡ a.reply → moded_nodes ino mode nodes ≡ a.nodes → ⊥ in
     let stops : (reply : Reply) → is_done reply ≡ false → Q (refused nodes reply) = λ reply undone e same. both_ways (is_done reply) undone (sym (ap is_done e)) in
-    let new : ℕ → Applied = λ dir. cond (is_some (find_named nodes dir (name_of path))) (refused nodes Exists) (done (with_node nodes 0 (Some (new_node creds kind dir path file_mode))) IsDone) in
+    let new : ℕ → Applied = λ dir. cond (is_some (find_named nodes dir (name_of path))) (refused nodes Exists) (done (with_node nodes 0 (Some (new_node creds kind dir path file_mode bytes))) IsDone) in
     on_if nodes creds Q stops (is_root path) (refused nodes Exists) (in_directory nodes creds (dir_of path ∷ []) path new) (λ is. stops Exists refl)
     (λ isn't. on_directory nodes creds Q stops (dir_of path ∷ []) path new
-    (λ dir d. on_if nodes creds Q stops (is_some (find_named nodes dir (name_of path))) (refused nodes Exists) (done (with_node nodes 0 (Some (new_node creds kind dir path file_mode))) IsDone) (λ is. stops Exists refl)
+    (λ dir d. on_if nodes creds Q stops (is_some (find_named nodes dir (name_of path))) (refused nodes Exists) (done (with_node nodes 0 (Some (new_node creds kind dir path file_mode bytes))) IsDone) (λ is. stops Exists refl)
     (λ free e same.
-    let y = new_node creds kind dir path file_mode in
+    let y = new_node creds kind dir path file_mode bytes in
     let h = had_place nodes ino mode 0 y (ap (λ ns. node_at ns 0) same ∙ with_node-same nodes 0 (Some y)) in
     both_ways (is_some (find_named nodes dir (name_of path))) free (Child-is_some nodes dir (name_of path) 0 (record { node = h.node; at = h.at; parent = h.parent; name = h.name })))))
 
 mode_fits : (nodes : Nodes) (creds : Creds) (ino mode : ℕ) (call : Call) → Apply nodes creds call 0 (IsReplied IsDone) (moded_nodes ino mode nodes) → MadeFits nodes (record { call = call; reply = IsReplied IsDone; made = 0 })
-mode_fits nodes creds ino mode (Mkdir path m) a = elim a [ inl is ↦ absurd (makes_none nodes creds Directory path m ino mode is.0 is.1) | inr room ↦ absurd room.0 ]
-mode_fits nodes creds ino mode (Create path m) a = elim a [ inl is ↦ absurd (makes_none nodes creds Regular path m ino mode is.0 is.1) | inr room ↦ absurd room.0 ]
+mode_fits nodes creds ino mode (Mkdir path m) a = elim a [ inl is ↦ absurd (makes_none nodes creds Directory path m [] ino mode is.0 is.1) | inr room ↦ absurd room.0 ]
+mode_fits nodes creds ino mode (Create path m) a = elim a [ inl is ↦ absurd (makes_none nodes creds Regular path m [] ino mode is.0 is.1) | inr room ↦ absurd room.0 ]
 mode_fits nodes creds ino mode (Write path at bytes) a = refl
 mode_fits nodes creds ino mode (Read path at len) a = refl
 mode_fits nodes creds ino mode (Truncate path size) a = refl
@@ -86,6 +86,9 @@ mode_fits nodes creds ino mode (Rename from to) a = refl
 mode_fits nodes creds ino mode (ListNames path from) a = refl
 mode_fits nodes creds ino mode (Stat path) a = refl
 mode_fits nodes creds ino mode (Chmod path m) a = refl
+mode_fits nodes creds ino mode (Symlink path text) a = elim a [ inl is ↦ absurd (makes_none nodes creds Link path link_mode text ino mode is.0 is.1) | inr room ↦ absurd room.0 ]
+mode_fits nodes creds ino mode (Readlink path) a = refl
+mode_fits nodes creds ino mode (Guard path on) a = refl
 
 -- a refusal makes none
 undone_fits : (b : Bool) (Makes : Type 0) → MatchBool (b && false) Makes (zero ≡ 0)

@@ -1,16 +1,17 @@
 -- What a try leaves of the calls that a session has done: its call stands behind them, with its reply.
-use Rattle.trio_runner.proofs.Words.{◌++◌, ◌+◌, ◌∙◌, ◌∷◌, ◌≡◌, Bool, Busy, Creds, Directory, Given, HoldLent, IsAlike, Kind, Lease, LeavesBy, Lent, List, Mode, NoMemory, None, Option, Outcome, Path, ReadLent, Regular, Replied, Reply, SessionSeen, Some, Target, Told, WriteLent, [], ap, append-nil, cond, eqb, false, is_some, length, ltb, map, map-append, name_of, new_body, new_number, noted, refl, sym, took, true, with_allotted, with_lease, with_slot, ℕ}
+use Rattle.trio_runner.proofs.Words.{◌++◌, ◌+◌, ◌∙◌, ◌∷◌, ◌≡◌, Bool, Busy, Creds, Directory, Given, HoldLent, IsAlike, Kind, Lease, LeavesBy, Lent, Link, List, Mode, NoMemory, None, Option, Outcome, Path, ReadLent, Regular, Replied, Reply, SessionSeen, Some, Target, Told, WriteLent, [], ap, append-nil, cond, eqb, false, is_some, length, ltb, map, map-append, name_of, new_body, new_number, noted, refl, sym, took, true, with_allotted, with_lease, with_slot, ℕ}
 use Rattle.std.specs.Option.{option_map_or}
 use Rattle.trio_nodes.specs.declared.call.Call as call
 use Rattle.trio_nodes.specs.declared.call.Call.TheVariants as calls
 use Rattle.trio_nodes.specs.declared.call.Done.{Done}
+use Rattle.trio_nodes.specs.Apply.{link_mode}
 use Rattle.trio_nodes.specs.declared.call.Reply.TheVariants as reply
 use Rattle.trio_session.specs.Layout.{size_in}
-use Rattle.trio_session.specs.Seen.{body_in, clear, empty_shown, entry_shown, fill, is_allotted, place_shown, retitle}
+use Rattle.trio_session.specs.Seen.{body_in, clear, empty_shown, entry_shown, fill, grown, is_allotted, place_shown, put, retitle, set_guard}
 use Rattle.trio_calls_file.specs.Asks.{new_length}
 use Rattle.trio_calls_file.specs.Asks as on_file
 use Rattle.trio_calls_file.proofs.Writes.{calls-cut, calls-put}
-use Rattle.trio_calls_dir.specs.Asks.{filled_new, moved}
+use Rattle.trio_calls_dir.specs.Asks.{filled_new, linked_new, moved}
 use Rattle.trio_calls_dir.specs.Asks as on_dir
 use Rattle.trio_runner.specs.Logged.{call_and_reply}
 use Rattle.trio_session.proofs.Alike.{calls-grown}
@@ -53,11 +54,16 @@ sized_calls ino size x =
     calls_if (ltb (size_in (body_in x ino)) size) x _ _ (calls-grown ino size x)
     (calls_if (ltb size (size_in (body_in x ino))) x _ _ (calls-cut ino size x) refl)
 
+guard_calls : (ino : ℕ) (on : Bool) (x : SessionSeen) → (set_guard ino on x).calls ≡ x.calls
+unfolding set_guard
+guard_calls ino on x = refl
+
 pub file_edited : (k : call.Call) (ino : ℕ) (x : SessionSeen) → (on_file.edited k ino x).calls ≡ x.calls
 file_edited (calls.Write path at bytes) ino x =
     let size : ℕ = new_length (calls.Write path at bytes) (size_in (body_in x ino)) in
     calls_if (eqb (length bytes) 0) x _ _ refl (calls-put ino at bytes (sized ino size x) ∙ sized_calls ino size x)
 file_edited (calls.Truncate path size) ino x = sized_calls ino size x
+file_edited (calls.Guard path on) ino x = guard_calls ino on x
 file_edited k ino x = refl
 
 slot_calls : (dir : ℕ) (x : SessionSeen) → (with_slot dir x).calls ≡ x.calls
@@ -75,6 +81,15 @@ retitle_calls : (dir : ℕ) (old new : List ℕ) (x : SessionSeen) → (retitle 
 unfolding retitle
 retitle_calls dir old new x = calls_or _ (place_shown x dir old) x (λ place. calls_or _ (entry_shown x dir place) x (λ e. refl))
 
+put_calls : (ino : ℕ) (text : List ℕ) (x : SessionSeen) → (put ino 0 text (grown ino (length text) x)).calls ≡ x.calls
+put_calls ino text x = calls-put ino 0 text (grown ino (length text) x) ∙ calls-grown ino (length text) x
+
+linked_calls : (creds : Creds) (path : Path) (text : List ℕ) (t : Target) (x : SessionSeen) → (linked_new creds path text t x).calls ≡ x.calls
+linked_calls creds path text t x =
+    let ready : SessionSeen = with_slot t.dir x in
+    put_calls (new_number x) text (fill t.dir (name_of path) (new_number x) Link (new_body creds link_mode) ready)
+    ∙ fill_calls t.dir (name_of path) (new_number x) Link (new_body creds link_mode) ready ∙ slot_calls t.dir x
+
 made_calls : (creds : Creds) (kind : Kind) (path : Path) (mode : Mode) (t : Target) (x : SessionSeen) → (filled_new creds kind path mode t x).calls ≡ x.calls
 made_calls creds kind path mode t x = fill_calls t.dir (name_of path) (new_number x) kind (new_body creds mode) (with_slot t.dir x) ∙ slot_calls t.dir x
 
@@ -88,6 +103,7 @@ moved_calls from to t x =
 pub dir_edited : (creds : Creds) (k : call.Call) (t : Target) (x : SessionSeen) → (on_dir.edited creds k t x).calls ≡ x.calls
 dir_edited creds (calls.Mkdir path mode) t x = made_calls creds Directory path mode t x
 dir_edited creds (calls.Create path mode) t x = made_calls creds Regular path mode t x
+dir_edited creds (calls.Symlink path text) t x = linked_calls creds path text t x
 dir_edited creds (calls.Unlink path) t x = clear_calls t.dir (name_of path) x
 dir_edited creds (calls.Rmdir path) t x = clear_calls t.dir (name_of path) x
 dir_edited creds (calls.Rename from to) t x =

@@ -32,7 +32,9 @@ mod Leaving
 mod Going
 mod Beginning
 mod Closing
+pub mod Hands
 pub mod Sends
+mod PoolSends
 pub mod Printed
 pub mod Keeping
 pub mod RanOrder

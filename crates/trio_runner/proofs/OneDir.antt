@@ -1,8 +1,8 @@
 -- Two tries of alike sessions of one call on a directory come to the same.
-use Rattle.trio_runner.proofs.Words.{◌&&◌, ◌++◌, ◌∙◌, ◌∷◌, ◌≡◌, ◌≢◌, Allot, Applied, Ask, AskedBy, Bool, Busy, Call, ComesBy, Creds, DirTried, Directory, Err, Given, Grant, GrantKind, In, In-right, IsAlike, IsDone, Kind, Known, LibNo, List, Mode, NoMemory, Nodes, NotGiven, Noted, Notes, Ok, Option, Outcome, Path, Regular, Replied, Reply, Result, SessionSeen, Some, State, Target, Told, TryEnds, [], ap, applied, as_lent, asked, batch_nodes, cond, creds_of, dir_needs, dir_of, done, eqb, false, find_named, grant_ask, inl, inr, is_done, is_root, is_some, lacks_room, make, map, map-append, name_of, new_body, new_node, new_number, nodes_of, noted, out_of, refl, refused, sees, served_by, shows_root, subst, sym, took, took_alike, took_more, true, wants_of, with_node, with_slot, ℕ}
-use Rattle.std.specs.Prelude.{◌⊎◌}
+use Rattle.trio_runner.proofs.Words.{◌&&◌, ◌++◌, ◌∙◌, ◌∷◌, ◌≡◌, ◌≢◌, Allot, Applied, Ask, AskedBy, Bool, Busy, Call, ComesBy, Creds, DirTried, Directory, Err, Given, Grant, GrantKind, In, In-right, IsAlike, IsDone, Kind, Known, LibNo, Link, List, Mode, NoMemory, Nodes, NotGiven, Noted, Notes, Ok, Option, Outcome, Path, Regular, Replied, Reply, Result, SessionSeen, Some, State, Target, Told, TryEnds, [], ap, applied, as_lent, asked, batch_nodes, cond, creds_of, dir_needs, dir_of, done, eqb, false, find_named, grant_ask, inl, inr, is_done, is_root, is_some, lacks_room, make, map, map-append, name_of, new_body, new_node, new_number, nodes_of, noted, out_of, refl, refused, sees, served_by, shows_root, subst, sym, took, took_alike, took_more, true, wants_of, with_node, with_slot, ℕ}
+use Rattle.std.specs.Prelude.{◌+◌, ◌⊎◌}
 use Rattle.trio_nodes.specs.Walk.{walk_into}
-use Rattle.trio_nodes.specs.Apply.{reached}
+use Rattle.trio_nodes.specs.Apply.{link_mode, reached}
 use Rattle.trio_nodes.specs.declared.call.Call as call
 use Rattle.trio_nodes.specs.declared.call.Call.TheVariants as calls
 use Rattle.trio_nodes.specs.declared.call.Done.{Done}
@@ -16,19 +16,19 @@ use Rattle.trio_runner.proofs.OneReply.{reply_shown, same_end}
 use Rattle.trio_runner.proofs.OneTry.{Gets, asks, behind_going, calls_get, final_of, first_same, part_of, rest_same}
 use Rattle.trio_runner.proofs.SameNodes.{HasOut, StandsTrue, has_alike, may_has, nodes_known}
 use Rattle.trio_session.specs.Asked.{allot_asks}
-use Rattle.trio_session.specs.Deeds.{slot_growth}
+use Rattle.trio_session.specs.Deeds.{link_made, slot_growth}
 
 -- ---- replies
 
 -- what is replied doesn't go by the number of a file that is made
-make_reply : (nodes : Nodes) (creds : Creds) (kind : Kind) (path : Path) (mode : Mode) (made : ℕ) → (make nodes creds kind path mode made).reply ≡ (make nodes creds kind path mode 0).reply
-make_reply nodes creds kind path mode made = by (is_root path) (walk_into nodes creds (dir_of path ∷ []) (dir_of path))
+make_reply : (nodes : Nodes) (creds : Creds) (kind : Kind) (path : Path) (mode : Mode) (bytes : List ℕ) (made : ℕ) → (make nodes creds kind path mode bytes made).reply ≡ (make nodes creds kind path mode bytes 0).reply
+make_reply nodes creds kind path mode bytes made = by (is_root path) (walk_into nodes creds (dir_of path ∷ []) (dir_of path))
   where
     entered : ℕ → ℕ → Applied
-    entered n dir = cond {A = Applied} (is_some (find_named nodes dir (name_of path))) (refused nodes reply.Exists) (done (with_node nodes n (Some (new_node creds kind dir path mode))) IsDone)
+    entered n dir = cond {A = Applied} (is_some (find_named nodes dir (name_of path))) (refused nodes reply.Exists) (done (with_node nodes n (Some (new_node creds kind dir path mode bytes))) IsDone)
 
-    there : (dir : ℕ) (b : Bool) → (cond {A = Applied} b (refused nodes reply.Exists) (done (with_node nodes made (Some (new_node creds kind dir path mode))) IsDone)).reply
-        ≡ (cond {A = Applied} b (refused nodes reply.Exists) (done (with_node nodes 0 (Some (new_node creds kind dir path mode))) IsDone)).reply
+    there : (dir : ℕ) (b : Bool) → (cond {A = Applied} b (refused nodes reply.Exists) (done (with_node nodes made (Some (new_node creds kind dir path mode bytes))) IsDone)).reply
+        ≡ (cond {A = Applied} b (refused nodes reply.Exists) (done (with_node nodes 0 (Some (new_node creds kind dir path mode bytes))) IsDone)).reply
     there dir true = refl
     there dir false = refl
 
@@ -38,8 +38,8 @@ make_reply nodes creds kind path mode made = by (is_root path) (walk_into nodes 
     by false (Err r) = refl
 
 pub applied_reply : (nodes : Nodes) (creds : Creds) (k : call.Call) (made : ℕ) → (applied nodes creds k made).reply ≡ (applied nodes creds k 0).reply
-applied_reply nodes creds (calls.Mkdir path mode) made = make_reply nodes creds Directory path mode made
-applied_reply nodes creds (calls.Create path mode) made = make_reply nodes creds Regular path mode made
+applied_reply nodes creds (calls.Mkdir path mode) made = make_reply nodes creds Directory path mode [] made
+applied_reply nodes creds (calls.Create path mode) made = make_reply nodes creds Regular path mode [] made
 applied_reply nodes creds (calls.Write path at bytes) made = refl
 applied_reply nodes creds (calls.Read path at len) made = refl
 applied_reply nodes creds (calls.Truncate path size) made = refl
@@ -49,6 +49,9 @@ applied_reply nodes creds (calls.Rename from to) made = refl
 applied_reply nodes creds (calls.List path from) made = refl
 applied_reply nodes creds (calls.Stat path) made = refl
 applied_reply nodes creds (calls.Chmod path mode) made = refl
+applied_reply nodes creds (calls.Symlink path text) made = make_reply nodes creds Link path link_mode text made
+applied_reply nodes creds (calls.Readlink path) made = refl
+applied_reply nodes creds (calls.Guard path on) made = refl
 
 -- ---- where a call comes to
 
@@ -74,6 +77,8 @@ edited_same (calls.Mkdir path mode) t u nodes creds own s a b =
     ap (λ n. fill n (name_of path) (new_number s) Directory (new_body own mode) (with_slot n s)) (ok_same _ t.dir u.dir a b)
 edited_same (calls.Create path mode) t u nodes creds own s a b =
     ap (λ n. fill n (name_of path) (new_number s) Regular (new_body own mode) (with_slot n s)) (ok_same _ t.dir u.dir a b)
+edited_same (calls.Symlink path text) t u nodes creds own s a b =
+    ap (λ n. link_made n (name_of path) (new_number s) (new_body own link_mode) text (with_slot n s)) (ok_same _ t.dir u.dir a b)
 edited_same (calls.Unlink path) t u nodes creds own s a b = ap (λ n. clear n (name_of path) s) (ok_same _ t.dir u.dir a b)
 edited_same (calls.Rmdir path) t u nodes creds own s a b = ap (λ n. clear n (name_of path) s) (ok_same _ t.dir u.dir a b)
 edited_same (calls.Rename from to) t u nodes creds own s a b = ap (λ x. edited own (calls.Rename from to) x s) (rename_target t u nodes creds from to a b)
@@ -83,11 +88,14 @@ edited_same (calls.Read path at len) t u nodes creds own s a b = refl
 edited_same (calls.Truncate path size) t u nodes creds own s a b = refl
 edited_same (calls.Stat path) t u nodes creds own s a b = refl
 edited_same (calls.Chmod path mode) t u nodes creds own s a b = refl
+edited_same (calls.Readlink path) t u nodes creds own s a b = refl
+edited_same (calls.Guard path on) t u nodes creds own s a b = refl
 
 -- and so do the pages that it wants
 pages_same : (k : call.Call) (t u : Target) (nodes : Nodes) (creds : Creds) (s : SessionSeen) → ComesTo t nodes creds k → ComesTo u nodes creds k → pages_for k t s ≡ pages_for k u s
 pages_same (calls.Mkdir path mode) t u nodes creds s a b = ap (slot_growth s) (ok_same _ t.dir u.dir a b)
 pages_same (calls.Create path mode) t u nodes creds s a b = ap (slot_growth s) (ok_same _ t.dir u.dir a b)
+pages_same (calls.Symlink path text) t u nodes creds s a b = ap (λ n. slot_growth s n + 2) (ok_same _ t.dir u.dir a b)
 pages_same (calls.Rename from to) t u nodes creds s a b = ap (λ x. pages_for (calls.Rename from to) x s) (rename_target t u nodes creds from to a b)
 pages_same (calls.Unlink path) t u nodes creds s a b = refl
 pages_same (calls.Rmdir path) t u nodes creds s a b = refl
@@ -97,6 +105,8 @@ pages_same (calls.Read path at len) t u nodes creds s a b = refl
 pages_same (calls.Truncate path size) t u nodes creds s a b = refl
 pages_same (calls.Stat path) t u nodes creds s a b = refl
 pages_same (calls.Chmod path mode) t u nodes creds s a b = refl
+pages_same (calls.Readlink path) t u nodes creds s a b = refl
+pages_same (calls.Guard path on) t u nodes creds s a b = refl
 
 -- ---- what is wanted
 

@@ -150,6 +150,8 @@ final_of (Replied reply.IsDir) last some e = subst (Final (Replied reply.IsDir))
 final_of (Replied reply.NotEmpty) last some e = subst (Final (Replied reply.NotEmpty)) (sym e) (NoneLast _ refl)
 final_of (Replied reply.IntoItself) last some e = subst (Final (Replied reply.IntoItself)) (sym e) (NoneLast _ refl)
 final_of (Replied reply.TooLarge) last some e = subst (Final (Replied reply.TooLarge)) (sym e) (NoneLast _ refl)
+final_of (Replied reply.IsLink) last some e = subst (Final (Replied reply.IsLink)) (sym e) (NoneLast _ refl)
+final_of (Replied reply.NotLink) last some e = subst (Final (Replied reply.NotLink)) (sym e) (NoneLast _ refl)
 
 -- what is asked is a part of what is to be asked, from its beginning on; all of it where the try is replied
 pub record PartOf (end : Outcome) (these wanted : List Ask) : Type 0 where

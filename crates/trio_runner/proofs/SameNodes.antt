@@ -1,6 +1,6 @@
 -- The nodes for which a state stands go by what is known of it and stay through grants and allotments; and they are possible for a session
 -- all of whose things are out to its library.
-use Rattle.trio_runner.proofs.Words.{◌&&◌, ◌++◌, ◌∙◌, ◌∷◌, ◌≡◌, AreMoves, ArePossible, Ask, Bool, Call, CtlAnswer, Denied, Directory, GrantFault, GrantKind, Happens, HoldLent, HoldParts, Image, In, In-cases, In-left, In-map, In-right, InoParts, IsAlike, IsPlain, Kept, Kind, Known, Lease, LentFile, LentIsTrue, LibNo, LibOut, List, MayCall, Move, NoGrantMemory, NoParent, None, NotLive, OpenGrant, Option, OutAlike, ReadLent, Regular, Row, SessionSeen, Shown, Some, State, Step, Told, WriteLent, [], allots, answer_of, ap, cond, desk_of, eqb, event_of, false, free_numbers, free_pages, grant_fault, granted_to, inl, ino_numbers, inr, is_write, known, known_decides, length, lent_files, logged, ltb, map, map-In, map-append, new_ino, nodes_of, numbers_to-In, option_map, out_of, plain_state, plain_step, refl, row_at, step_keeps_lent, subst, sym, take, true, with_allotted, with_lease, ℕ}
+use Rattle.trio_runner.proofs.Words.{◌&&◌, ◌++◌, ◌∙◌, ◌∷◌, ◌≡◌, AreMoves, ArePossible, Ask, Bool, Call, CtlAnswer, Denied, GrantFault, GrantKind, Happens, HoldLent, HoldParts, Image, In, In-cases, In-left, In-map, In-right, InoParts, IsAlike, IsPlain, Kept, Kind, Known, Lease, LentFile, LentIsTrue, LibNo, LibOut, List, MayCall, Move, NoGrantMemory, NoParent, None, NotLive, OpenGrant, Option, OutAlike, ReadLent, Row, SessionSeen, Shown, Some, State, Step, Told, WriteLent, [], allots, answer_of, ap, cond, desk_of, eqb, event_of, false, free_numbers, free_pages, grant_fault, granted_to, inl, ino_numbers, inr, is_write, known, known_decides, length, lent_files, logged, ltb, map, map-In, map-append, new_ino, nodes_of, numbers_to-In, option_map, out_of, plain_state, plain_step, refl, row_at, step_keeps_lent, subst, sym, take, true, with_allotted, with_lease, ℕ}
 use Rattle.std.proofs.Common.{is_some}
 use Rattle.trio_nodes.specs.declared.answers.GrantFault.TheVariants.{Busy}
 use Rattle.trio_desk.specs.Out as out_words
@@ -26,8 +26,7 @@ use Rattle.trio_session.proofs.Alike.{alike_by}
 -- ---- by what is known
 
 bytes_bare : (image : Image) (n : ℕ) (r : Row) (g : OpenGrant) (k : Kind) → bytes_of image n r (Some (without_checkpoint g)) k ≡ bytes_of image n r (Some g) k
-bytes_bare image n r g Regular = refl
-bytes_bare image n r g Directory = refl
+bytes_bare image n r g k = refl
 
 -- a node goes by no checkpoint
 node_bare : (image : Image) (n : ℕ) (w : Option OpenGrant) (o : Option Row) → node_by image n (option_map without_checkpoint w) o ≡ node_by image n w o

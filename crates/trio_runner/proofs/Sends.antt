@@ -9,6 +9,7 @@ use Rattle.trio_turn.specs.contracts.seat.LibSeat as seat
 use Rattle.trio_shared.specs.contracts.held.Held as held
 use Rattle.trio_report.specs.contracts.answer.LineAnswer as answer
 use Rattle.trio_report.specs.contracts.report.EndAnswer as end
+use Rattle.trio_script.specs.contracts.honest.HonestLine as honest
 use Rattle.trio_script.specs.contracts.ScriptLib as script
 use Rattle.trio_runner.specs.contracts.told.LibTold as told
 use Rattle.trio_runner.specs.contracts.threads.LibRun as ran
@@ -27,16 +28,20 @@ held_sends : IsSend held.the_row
 held_sends = search (sendable, crosses, ctl_sends) depth 60 fits 100000
 
 -- a seat, as a field
-seat_field_sends : IsSend (seat.the_field held.the_row).row
+pub seat_field_sends : IsSend (seat.the_field held.the_row).row
 seat_field_sends = seats.the_field_send held.the_row held_sends
 
 -- a library that has come to its end
 pub run_sends : IsSend ran.the_row
 run_sends = search (sendable, crosses, seat_field_sends, seat_sends, told_sends) depth 60 fits 100000
 
+-- an honest line, with its call
+line_syncs : IsSync honest.the_row
+line_syncs = search (sendable, crosses) depth 60 fits 100000
+
 -- a script's library
 pub script_syncs : IsSync script.the_row
-script_syncs = search (sendable, crosses) depth 60 fits 100000
+script_syncs = search (sendable, crosses, line_syncs) depth 60 fits 100000
 
 -- a closure, where each of its captures is
 pub captures_sync : (T : Declared) → AllSync (fields T) → IsSync (row T)

@@ -84,7 +84,7 @@ pub use Rattle.trio_report.specs.declared.report.EndAnswer.TheVariants.{Settled 
 pub use Rattle.trio_rights.specs.Bundle.{Bundle}
 pub use Rattle.trio_rights.specs.Row.{Row}
 pub use Rattle.trio_rights.specs.declared.kind.Kind.{Kind}
-pub use Rattle.trio_rights.specs.declared.kind.Kind.TheVariants.{Directory, Regular}
+pub use Rattle.trio_rights.specs.declared.kind.Kind.TheVariants.{Directory, Link, Regular}
 pub use Rattle.trio_rights.specs.declared.rights.Creds.{Creds}
 pub use Rattle.trio_rights.specs.declared.rights.LibNo.{LibNo}
 pub use Rattle.trio_rights.specs.declared.rights.Mode.{Mode}

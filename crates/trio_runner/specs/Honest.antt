@@ -2,7 +2,7 @@
 use Rattle.std.specs.Prelude.{◌≡◌, Bool, true, false, List, [], ◌++◌, length, MatchBool, Option, None, Some}
 use Rattle.trio_rights.specs.declared.rights.LibNo.{LibNo}
 use Rattle.trio_nodes.specs.declared.call.Call as call
-use Rattle.trio_nodes.specs.declared.call.Call.TheVariants.{Mkdir, Create, Unlink, Rmdir, Rename, List as ListNames, Chmod}
+use Rattle.trio_nodes.specs.declared.call.Call.TheVariants.{Mkdir, Create, Unlink, Rmdir, Rename, List as ListNames, Chmod, Symlink}
 use Rattle.trio_desk.specs.Call.{Ask, Told, DeskSeen}
 use Rattle.trio_desk.specs.Calls.{Call}
 use Rattle.trio_state.specs.State.{State}
@@ -62,6 +62,7 @@ is_dir_call (Rmdir path) = true
 is_dir_call (Rename from to) = true
 is_dir_call (ListNames path from) = true
 is_dir_call (Chmod path mode) = true
+is_dir_call (Symlink path text) = true
 is_dir_call k = false
 
 -- a call of a session at a desk, on a directory, on a mode or on a file: which calls of the desk it makes, and how it ends

@@ -8,7 +8,7 @@ use trio_names::{Name, Path};
 use trio_nodes::Call;
 use trio_page::NoMemory;
 
-/// The same call once more. Bytes that it writes are shared, and not copied.
+/// The same call once more. Bytes that it writes, and the text of a link, are shared and not copied.
 pub(crate) fn copied(alloc: Global, call: &Call) -> Result<Call, NoMemory>
     ensures { IfOk result (λ copy. copy ≡ call.now) }
 {
@@ -55,6 +55,17 @@ pub(crate) fn copied(alloc: Global, call: &Call) -> Result<Call, NoMemory>
         Call::Chmod { path, mode } => Call::Chmod {
             path: copied_path(alloc, path)?,
             mode: *mode,
+        },
+        Call::Symlink { path, text } => Call::Symlink {
+            path: copied_path(alloc, path)?,
+            text: text.share()?,
+        },
+        Call::Readlink { path } => Call::Readlink {
+            path: copied_path(alloc, path)?,
+        },
+        Call::Guard { path, on } => Call::Guard {
+            path: copied_path(alloc, path)?,
+            on: *on,
         },
     })
 }

@@ -92,7 +92,7 @@ fn is_dir_call(call: &Call) -> bool
     match call {
         Call::Mkdir { .. } | Call::Create { .. } | Call::Unlink { .. } => true,
         Call::Rmdir { .. } | Call::Rename { .. } | Call::List { .. } => true,
-        Call::Chmod { .. } => true,
+        Call::Chmod { .. } | Call::Symlink { .. } => true,
         _ => false,
     }
 }

@@ -17,14 +17,17 @@
 #![tactic(auto)]
 
 mod copies;
+mod hand;
 mod honest;
 mod kinds;
 pub mod laws;
 mod players;
 mod raw;
 mod rounds;
+mod seat_turns;
 mod threads;
 mod told;
+mod workers;
 
 pub use kinds::{AnyPlayer, Kinds, RawAndHonest};
 pub use players::{Player, take_turn};

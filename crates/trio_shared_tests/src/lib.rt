@@ -9,6 +9,8 @@ mod images;
 #[cfg(test)]
 mod moves;
 #[cfg(test)]
+mod pooled;
+#[cfg(test)]
 mod replays;
 #[cfg(test)]
 mod rows;

@@ -49,8 +49,8 @@ fn taken<R: Wait>(rt: &R, alloc: Global, shared: &Shared, seat: &mut LibSeat) ->
     }
 }
 
-// Its release, which the library has begun.
-fn begun<R: Wait>(rt: &R, alloc: Global, shared: &Shared, seat: &mut LibSeat) -> Option<Pending>
+/// Its release, which the library has begun.
+pub fn begun<R: Wait>(rt: &R, alloc: Global, shared: &Shared, seat: &mut LibSeat) -> Option<Pending>
     requires { Sits shared.now seat.old }
     ensures seat { IsSeatOf shared.now seat.new }
     ensures same { library seat.new ≡ library seat.old }

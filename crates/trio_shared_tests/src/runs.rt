@@ -1,7 +1,7 @@
 //! Scripts, played in rounds and run with a thread for each library: what each library is told, and what
 //! is settled then.
 
-ghost use Rattle.std.specs.Prelude.{◌≤◌, length};
+ghost use Rattle.std.specs.Prelude.{◌≤◌, IfSome, length};
 ghost use Rattle.trio_script.specs.Within.{AreWithin};
 
 use crate::images::{owned_bytes, owned_files, two_directories};
@@ -183,17 +183,19 @@ fn run_so<R: Threads + Wait + Sync, G: Gate + Sync>(
     libs: &[ScriptLib],
     end: &End,
     gate: &G,
+    workers: Option<u32>,
 ) -> Option<bool>
     requires some { 1 ≤ length libs.now }
     requires few { length libs.now ≤ 16 }
     requires within { AreWithin libs.now }
+    requires workers { IfSome workers (λ n. (1 ≤ n) × (n ≤ 8)) }
 {
     let creds = creds_of(alloc, libs).ok()?;
     let image = first_image(alloc, end)?;
     let Ok(ctl) = Ctl::start(alloc, image, creds) else {
         return None;
     };
-    let (mut ctl, tolds) = run::<RawAndHonest, _, _>(rt, alloc, ctl, libs, gate).ok()?;
+    let (mut ctl, tolds) = run::<RawAndHonest, _, _>(rt, alloc, ctl, libs, gate, workers).ok()?;
     has_ended(alloc, &mut ctl, libs, &tolds, end)
 }
 
@@ -205,15 +207,18 @@ fn is_played_so(alloc: Global, case: &Case) -> Option<bool> {
     }
 }
 
-/// Whether a script comes to its end on threads.
+/// Whether a script comes to its end on threads, where so many workers judge what is released.
 pub fn is_run_so<R: Threads + Wait + Sync, G: Gate + Sync>(
     rt: &R,
     alloc: Global,
     case: &Case,
     gate: &G,
-) -> Option<bool> {
+    workers: Option<u32>,
+) -> Option<bool>
+    requires { IfSome workers (λ n. (1 ≤ n) × (n ≤ 8)) }
+{
     match read_script(alloc, case.script) {
-        Ok(libs) => run_so(rt, alloc, &libs, &case.end, gate),
+        Ok(libs) => run_so(rt, alloc, &libs, &case.end, gate, workers),
         Err(_) => None,
     }
 }
@@ -230,7 +235,7 @@ fn is_held_so<R: Threads + Wait + Sync>(
     awaited: GateStop,
 ) -> Option<bool> {
     let gate = HoldGate::new(held, awaited, LOOKS);
-    let is_so = is_run_so(rt, alloc, case, &gate)?;
+    let is_so = is_run_so(rt, alloc, case, &gate, None)?;
     Some(is_so && gate.has_met())
 }
 
@@ -257,7 +262,7 @@ fn scripts_are_run(rt: HostRuntime) -> Result<(), Fail> {
     for case in [ALONE, HONEST] {
         let name = case.name;
         assert!(rt;
-            is_run_so(&rt, rt.alloc(), case, &OpenGate) == Some(true),
+            is_run_so(&rt, rt.alloc(), case, &OpenGate, None) == Some(true),
             "{name}"
         );
     }

@@ -1,5 +1,5 @@
-//! Scripts whose libraries ask for what others have, run with a thread for each library, and what their
-//! logs replay to.
+//! Scripts whose libraries ask for what others have, run with a thread for each library, without a pool of
+//! workers and with one, and what their logs replay to.
 
 use crate::runs::{Case, End, is_run_so};
 use trio_io::OpenGate;
@@ -67,8 +67,12 @@ fn the_log_of_each_run_replays(rt: HostRuntime) {
         let name = case.name;
         for n in 0..RUNS {
             assert!(rt;
-                is_run_so(&rt, rt.alloc(), case, &OpenGate) == Some(true),
+                is_run_so(&rt, rt.alloc(), case, &OpenGate, None) == Some(true),
                 "{name}, run {n}"
+            );
+            assert!(rt;
+                is_run_so(&rt, rt.alloc(), case, &OpenGate, Some(3)) == Some(true),
+                "{name}, run {n} with workers"
             );
         }
     }

@@ -1,5 +1,5 @@
 -- A library on its thread, between its turns. Cited by private functions alone.
-use Rattle.std.specs.Prelude.{◌≡◌, ℕ, List, [], ◌∷◌, ◌++◌, length, Some, IfSome, slice_get}
+use Rattle.std.specs.Prelude.{◌≡◌, ℕ, List, [], ◌∷◌, ◌++◌, length, map, Some, IfSome, slice_get}
 use Rattle.trio_rights.specs.declared.rights.Creds.{Creds}
 use Rattle.trio_desk.specs.Call.{DeskSeen}
 use Rattle.trio_desk.specs.Calls.{Call}
@@ -18,6 +18,7 @@ use Rattle.trio_runner.specs.Players.{GoesOn}
 use Rattle.trio_runner.specs.Rounds.{Turn, Ends, line_turns}
 use Rattle.trio_runner.specs.inner.Ready.{HoldsAll}
 use Rattle.trio_runner.specs.declared.threads.LibRun.{LibRun}
+use Rattle.trio_runner.specs.declared.threads.LibStart.{LibStart}
 
 -- an idle seat of this controller, and what it has seen leaves a state
 pub record Sits (shared : Shared) (seat : LibSeat Held) : Type 0 where
@@ -57,6 +58,10 @@ pub record Arrives (shared : Shared) (libs : List ScriptLib) (seat : LibSeat Hel
   pub sits : Sits shared seat
   pub none : seen seat ≡ []
   pub creds : (first seat).creds ≡ creds_in libs
+
+-- the seats of libraries that begin
+abbrev pub seats_of : List LibStart → List (LibSeat Held)
+seats_of starts = map (λ (s : LibStart). s.seat) starts
 
 -- the library of a seat has run all its script, and was told this
 pub record RanAll (shared : Shared) (l : ScriptLib) (seat seat' : LibSeat Held) (told : Heard) : Type 0 where

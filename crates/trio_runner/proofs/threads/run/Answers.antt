@@ -42,8 +42,8 @@ returns-in-Ok-close-clause-idle g c =
     c.in_ok-runs.runs.items c.in_ok-runs.ensures.ran c.in_ok-seats.seats.items c.in_ok-seats.ensures.seats c.in_ok-seats.tolds.items c.in_ok-seats.ensures.tolds
     r.some c.in-Ok-close.ctl e.seen e.mine e.first e.begun e.left
 
-pub run_all-requires-clause-arrive : goal.run_all-requires-clause-arrive
-run_all-requires-clause-arrive g c κs within =
+pub run_libs-requires-clause-arrive : goal.run_libs-requires-clause-arrive
+run_libs-requires-clause-arrive g c κs within =
     let r = c.requires in
     let started : HasStarted c.args.ctl c.args.libs.now = record { kept = r.kept; started = r.started; first = r.first; unlogged = r.unlogged; history = c.is_recorded.ensures } in
     all_arrive c.args.ctl c.args.libs.now started c.in-Ok.shared c.in-Ok.seats.items c.in-Ok.ensures.seats

@@ -10,10 +10,10 @@ loop-at-preserved g c =
     let turns = line_turns c.args.lines.now ++ Ends ∷ [] in
     let long = length-append (line_turns c.args.lines.now) (Ends ∷ []) in
     let low : c.loop-at.at < length turns = omega (arith, c.loop-at-test.true, c.line_count-at-end.ensures.count, long) in
-    let took = c.in_ok-turn_at_seat.ensures.turn (get_or turns c.loop-at.at Ends) (slice_get-get_or turns c.loop-at.at Ends low) in
+    let took = c.in_ok-hand.ensures.turn (get_or turns c.loop-at.at Ends) (slice_get-get_or turns c.loop-at.at Ends low) in
     record {
       went = went_next c.args.shared.now turns c.loop-at.at _ _ _ _ _ _ _ _ _ low c.loop-at.invariant.went took.went;
-      suits = c.in_ok-turn_at_seat.ensures.suits;
+      suits = c.in_ok-hand.ensures.suits;
       may = took.may;
     }
 

@@ -1,0 +1,5 @@
+use Rattle.trio_pool.specs.Passes.{IsOf}
+use Rattle.trio_runner.proofs.workers.stop_all.Given as goal
+
+abbrev pub invariant-loop : goal.invariant-loop
+invariant-loop g l = IsOf l.pool l.pass
