@@ -1,22 +1,12 @@
 -- The top call answers the status that the words and the bytes decide.
-use Rattle.trio_app.proofs.Words.{◌∙◌, ◌≡◌, ◌≤◌, ◌⊎◌, BadScript, CheckComesTo, ComesTo, Command, Done, GenComesTo, InputsRead, List, Main, NewComesTo, NoMemory, None, NotVerified, Option, ReadFault, Rose, RunDone, ScriptComesTo, Shelf, SinkSeen, Some, Status, TooLong, TreeComesTo, TreeForm, TurnsDone, Usage, WriteFault, ap, arith, check, code_of, gen, help, inl, inr, length, new_image, refl, run, subst, sym, tree, turns, unknown, version, ℕ}
+use Rattle.trio_app.proofs.Words.{◌∙◌, ◌≡◌, ◌≤◌, ◌⊎◌, BadScript, CheckComesTo, ComesTo, Command, Done, GenComesTo, InputsRead, List, Main, NewComesTo, NoMemory, None, NotVerified, Option, ReadFault, Rose, RunDone, ScriptComesTo, Shelf, SinkSeen, Some, Status, TooLong, TreeComesTo, TreeForm, TurnsDone, Usage, WriteFault, ap, arith, check, code_of, gen, help, inl, inr, length, migrate, new_image, refl, run, subst, sym, tree, turns, unknown, version, ℕ}
 use Rattle.trio_io.specs.Shelf.{IsLonger, IsTold}
 use Rattle.trio_survey.specs.Stored.{BytesVerify}
 use Rattle.trio_script.specs.Script.{bad_line}
 use Rattle.trio_commands.specs.Images.{ImageFails, ImageStops, ImageVerifies}
+use Rattle.trio_app.proofs.MigrateDecided.{migrate_decided}
+use Rattle.trio_app.proofs.Tells.{is_longer, is_shorter, same_bytes}
 use Rattle.trio_app.specs.Decided.{ImageDecides, Decides, EndsAsDecided, NewDecides, TellsImage, TellsBadLine, TellsNoImage, TellsScript, TellsTooLong, InputsDecide}
-
--- ---- what a file tells is one thing
-
-same_bytes : (content : Option (List ℕ)) (bytes other : List ℕ) → content ≡ Some bytes → IsTold content other → bytes ≡ other
-same_bytes content bytes other is told = rw is at told
-
-is_longer : (limit : ℕ) (content : Option (List ℕ)) (bytes : List ℕ) → content ≡ Some bytes → length bytes ≤ limit → IsLonger limit content → ⊥
-is_longer limit content bytes is within longer = let longer' = rw is at longer in omega arith
-
-is_shorter : (limit : ℕ) (name : List ℕ) (old : Shelf) (bytes : List ℕ) → TellsTooLong limit name old → IsTold (old.held name) bytes → length bytes ≤ limit → ⊥
-is_shorter limit name old bytes long told within =
-    let same : length long.bytes ≡ length bytes = ap length (same_bytes (old.held name) long.bytes bytes long.tells told) in omega (arith, long.longer)
 
 -- ---- an image
 
@@ -217,8 +207,9 @@ comes_decided (new_image out pages inodes) old new text reads writes decided sta
 comes_decided (check image) old new text reads writes decided status d comes = image_decided image image image old new text reads writes decided status d (checked image old new text status comes.comes_to)
 comes_decided (tree image form) old new text reads writes decided status d comes = image_decided image image image old new text reads writes decided status d (told image form old new text status comes.comes_to)
 comes_decided (turns image script out) old new text reads writes decided status d comes = script_decided image script out old new text reads writes (TurnsDone image script out old new text) (λ done. done.inputs) decided status d comes.comes_to
-comes_decided (run image script out) old new text reads writes decided status d comes = script_decided image script out old new text reads writes (RunDone image script out old new text) (λ done. done.inputs) decided status d comes.comes_to
+comes_decided (run image script out workers) old new text reads writes decided status d comes = script_decided image script out old new text reads writes (RunDone image script out old new text) (λ done. done.inputs) decided status d comes.comes_to
 comes_decided (gen number files) old new text reads writes decided status d comes = gen_decided number files text decided status d comes.comes_to
+comes_decided (migrate image out) old new text reads writes decided status d comes = migrate_decided image out old new text reads writes decided status d comes.comes_to
 comes_decided help old new text reads writes decided status d comes = same_end Done decided status d comes.status_is
 comes_decided version old new text reads writes decided status d comes = same_end Done decided status d comes.status_is
 comes_decided unknown old new text reads writes decided status d comes = same_end Usage decided status d comes.status_is

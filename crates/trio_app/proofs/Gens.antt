@@ -1,57 +1,11 @@
--- The generated workload: the limit of its files, the answers to its calls, and what its plays come to.
-use Rattle.trio_app.proofs.Words.{if◌then◌else◌, ◌&&◌, ◌++◌, ◌+◌, ◌<◌, ◌∙◌, ◌∷◌, ◌≡◌, ◌≤◌, Bool, Command, Heard, IsPlayEnd, Json, Lines, List, None, Option, ScriptLib, Some, Superblock, [], and_parts, ap, append-nil, append_assoc, arith, bytes_eq, calls_told, check, codes, command_of, core_in, counts_of, counts_text, false, gen, gen_of, get_or, help, image_in, leb-true, length, min, nat_le, new_of, number_of, refl, run, subst, suc, sym, take, told_counts, tree, tree_of, true, turns, unknown, version, zero, ℕ}
+-- The generated workload: the answers to its calls, and what its plays come to.
+use Rattle.trio_app.proofs.Words.{if◌then◌else◌, ◌&&◌, ◌++◌, ◌+◌, ◌<◌, ◌∙◌, ◌∷◌, ◌≡◌, ◌≤◌, Bool, Command, Heard, IsPlayEnd, Json, Lines, List, None, Option, ScriptLib, Some, Superblock, [], and_parts, ap, append-nil, append_assoc, arith, bytes_eq, calls_told, check, codes, command_of, core_in, counts_of, counts_text, false, gen, gen_of, get_or, help, image_in, leb-true, length, min, nat_le, new_of, number_of, refl, run, run_of, subst, suc, sym, take, told_counts, tree, tree_of, true, turns, unknown, version, zero, ℕ}
 use Rattle.trio_image.specs.Made.{IsMade}
 use Rattle.trio_report.specs.declared.answer.LineAnswer.{LineAnswer}
 use Rattle.trio_gen.specs.Summary.{call_answers, summary_line}
 use Rattle.trio_gen.specs.Workload.{directories_script, files_script}
 use Rattle.trio_app.specs.Gen.{GenDone}
 use Rattle.trio_app.proofs.Ends.{told_of_settled}
-
--- ---- the limit
-
--- where the command is `gen`, it has at most 1000 files
-abbrev HasFewFiles : Command → Type 0
-HasFewFiles (gen number files) = files ≤ 1000
-HasFewFiles _ = Unit {0}
-
-chosen : (test : Bool) (x y : Command) → (test ≡ true → HasFewFiles x) → HasFewFiles y → HasFewFiles (if test then x else y)
-chosen true x y a b = a refl
-chosen false x y a b = b
-
-new_few : (out : List ℕ) (pages inodes : Option ℕ) → HasFewFiles (new_of out pages inodes)
-new_few out (Some pages) (Some inodes) = tt
-new_few out (Some pages) None = tt
-new_few out None (Some inodes) = tt
-new_few out None None = tt
-
-gen_few : (number files : Option ℕ) → HasFewFiles (gen_of number files)
-gen_few (Some number) (Some files) =
-    chosen (nat_le 1 files && nat_le files 1000) (gen number files) unknown (λ e. leb-true files 1000 (and_parts (nat_le 1 files) (nat_le files 1000) e).1) tt
-gen_few (Some number) None = tt
-gen_few None (Some files) = tt
-gen_few None None = tt
-
-each_few : (words : List (List ℕ)) → HasFewFiles (command_of words)
-each_few [] = tt
-each_few (w ∷ []) =
-    chosen (bytes_eq w (codes "--help")) help (if bytes_eq w (codes "--version") then version else unknown) (λ e. tt)
-    (chosen (bytes_eq w (codes "--version")) version unknown (λ e. tt) tt)
-each_few (w ∷ a ∷ []) =
-    chosen (bytes_eq w (codes "check")) (check a) (if bytes_eq w (codes "tree") then tree a Lines else unknown) (λ e. tt)
-    (chosen (bytes_eq w (codes "tree")) (tree a Lines) unknown (λ e. tt) tt)
-each_few (w ∷ a ∷ b ∷ []) =
-    chosen (bytes_eq w (codes "tree")) (if bytes_eq b (codes "json") then tree a Json else unknown) (if bytes_eq w (codes "gen") then gen_of (number_of a) (number_of b) else unknown)
-    (λ e. chosen (bytes_eq b (codes "json")) (tree a Json) unknown (λ f. tt) tt)
-    (chosen (bytes_eq w (codes "gen")) (gen_of (number_of a) (number_of b)) unknown (λ e. gen_few (number_of a) (number_of b)) tt)
-each_few (w ∷ a ∷ b ∷ d ∷ []) =
-    chosen (bytes_eq w (codes "new")) (new_of a (number_of b) (number_of d)) (if bytes_eq w (codes "turns") then turns a b d else (if bytes_eq w (codes "run") then run a b d else unknown))
-    (λ e. new_few a (number_of b) (number_of d))
-    (chosen (bytes_eq w (codes "turns")) (turns a b d) (if bytes_eq w (codes "run") then run a b d else unknown) (λ e. tt)
-    (chosen (bytes_eq w (codes "run")) (run a b d) unknown (λ e. tt) tt))
-each_few (w ∷ a ∷ b ∷ d ∷ e ∷ rest) = tt
-
-pub gen_files : (number files : ℕ) (words : List (List ℕ)) → gen number files ≡ command_of words → files ≤ 1000
-gen_files number files words e = subst HasFewFiles (sym e) (each_few words)
 
 -- ---- the answers
 

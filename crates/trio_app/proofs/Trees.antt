@@ -6,7 +6,7 @@ use Rattle.std.specs.List.{flat_map}
 use Rattle.std.specs.Option.{option_and_then}
 use Rattle.std.proofs.lemmas.Bool.{ltb-true}
 use Rattle.trio_rights.specs.declared.kind.Kind.{Kind}
-use Rattle.trio_rights.specs.declared.kind.Kind.TheVariants.{Regular, Directory}
+use Rattle.trio_rights.specs.declared.kind.Kind.TheVariants.{Regular, Directory, Link}
 use Rattle.trio_layout.specs.Body.{body_of, block_count}
 use Rattle.trio_layout.specs.Index.{index_of}
 use Rattle.trio_lists.specs.Lists.{both, gathered, result_map, result_then, there_or}
@@ -46,6 +46,7 @@ chain_same a pages h (suc n) blocks at =
 
 entries_same : (a : Core) (pages : List (Option (List ℕ))) → HasSamePages a pages → (kind : Kind) (blocks : List ℕ) → entries_of_kind a kind blocks ≡ entries_of_kind (repaged a pages) kind blocks
 entries_same a pages h Regular blocks = refl
+entries_same a pages h Link blocks = refl
 entries_same a pages h Directory blocks =
     ap (result_then with_names_apart) (gathered_same (page_entries a) (page_entries (repaged a pages)) blocks
     (λ page. ap (λ (o : Option (List ℕ)). result_then (entries_on a.inodes page) (there_or (at_page page) o)) (h page)))

@@ -3,11 +3,12 @@ pub use Rattle.std.proofs.Common.{◌&&◌, ◌++◌, ◌+◌, ◌<◌, ◌∙�
 pub use Rattle.std.proofs.lemmas.Bool.{and_parts, leb-true}
 pub use Rattle.std.proofs.lemmas.List.{append-nil, append_assoc}
 pub use Rattle.std.proofs.lemmas.List.Elements.{All-contains_itself}
-pub use Rattle.std.specs.Prelude.{if◌then◌else◌, Contains, codes, nat_le}
+pub use Rattle.std.specs.Prelude.{if◌then◌else◌, Contains, IfSome, codes, nat_le}
 pub use Rattle.std.specs.Str.{bytes_eq}
 pub use Rattle.trio_commands.specs.Check.{CheckComesTo}
-pub use Rattle.trio_commands.specs.Command.{Command, check, command_of, gen, gen_of, help, new_image, new_of, run, tree, turns, unknown, version, without_threads}
+pub use Rattle.trio_commands.specs.Command.{Command, check, command_of, gen, gen_of, help, migrate, new_image, new_of, run, run_of, tree, turns, unknown, version, without_threads}
 pub use Rattle.trio_commands.specs.Inputs.{InputsRead}
+pub use Rattle.trio_commands.specs.Migrate.{MigrateComesTo}
 pub use Rattle.trio_commands.specs.New.{NewComesTo}
 pub use Rattle.trio_commands.specs.Report.{told_counts}
 pub use Rattle.trio_commands.specs.Status.{code_of}

@@ -1,4 +1,4 @@
--- What the words `run IMAGE SCRIPT OUT` do.
+-- What the words `run IMAGE SCRIPT OUT` do, and the same with WORKERS: they change nothing that is promised.
 use Rattle.std.specs.Prelude.{◌≡◌, ℕ, List}
 use Rattle.trio_io.specs.Shelf.{Shelf}
 use Rattle.trio_nodes.specs.declared.entry.Entry.{Entry}

@@ -5,12 +5,14 @@
 //! - `trio tree IMAGE` puts out its tree, and `trio tree IMAGE json` the same as JSON.
 //! - `trio turns IMAGE SCRIPT OUT` runs a script on an image, writes the image that is then settled,
 //!   and puts out a report.
-//! - `trio run IMAGE SCRIPT OUT` does the same with a thread for each library of the script.
+//! - `trio run IMAGE SCRIPT OUT` does the same with a thread for each library of the script, and
+//!   `trio run IMAGE SCRIPT OUT WORKERS` besides with workers that judge what the libraries release.
 //! - `trio gen NUMBER FILES` plays the generated workload in memory, and puts out what came of it.
+//! - `trio migrate IMAGE OUT` makes an image of version 1 one of today's version.
 //!
 //! What it does and how it ends is the contract of [`trio_main`]: `specs/Main.antt` first, then
-//! `specs/Command.antt`, `specs/New.antt`, `specs/Check.antt` and `specs/Tree.antt` of
-//! [`trio_commands`], and `specs/Turns.antt`, `specs/Run.antt` and `specs/Gen.antt`, with the claim of a
+//! `specs/Command.antt`, `specs/New.antt`, `specs/Check.antt`, `specs/Tree.antt` and
+//! `specs/Migrate.antt` of [`trio_commands`], and `specs/Turns.antt`, `specs/Run.antt` and `specs/Gen.antt`, with the claim of a
 //! script's moves and what its controller's log says in `specs/Headline.antt`.
 //!
 //! [`trio_main`] is generic over the files, the sink and the gate. [`main`] hands it the host's,

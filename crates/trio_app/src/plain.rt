@@ -9,7 +9,7 @@ ghost use Rattle.trio_commands.specs.Status.{code_of};
 
 use crate::{generate, turns};
 use std::alloc::Global;
-use trio_commands::{Request, Status, USAGE, VERSION, check, new_image, read_words, tree};
+use trio_commands::{Request, Status, USAGE, VERSION, check, migrate, new_image, read_words, tree};
 use trio_io::{Files, Sink};
 
 /// Puts a text, and answers how the program then ends. For an empty text the sink
@@ -67,6 +67,10 @@ pub fn plain_main<F: Files, S: Sink>(
         }
         Request::Gen { number, files } => {
             let outcome = generate(alloc, number, files);
+            end(&outcome.text, outcome.status, out)
+        }
+        Request::Migrate { image, out: output } => {
+            let outcome = migrate(alloc, image, output, files);
             end(&outcome.text, outcome.status, out)
         }
         Request::Help => end(USAGE, Status::Done, out),

@@ -1,6 +1,6 @@
 //! The run of a script, its report and the image at its end.
 
-ghost use Rattle.std.specs.Prelude.{◌≡◌, ◌++◌, ◌≤◌, IfOk, None, OnOk, length};
+ghost use Rattle.std.specs.Prelude.{◌≡◌, ◌++◌, ◌≤◌, IfOk, IfSome, None, OnOk, length};
 ghost use Rattle.trio_report.specs.Report.{counts_text, tree_text};
 ghost use Rattle.trio_survey.specs.Stored.{core_in, image_in};
 ghost use Rattle.trio_layout.specs.Tree.{tree_of};
@@ -65,21 +65,24 @@ pub fn run_in_turns(alloc: Global, image: Image, libs: &[ScriptLib]) -> Result<R
 /// controller stores is legal, and the answers in the report print its entries. `NoMemory`: there was
 /// no memory for the run or the report.
 ///
-/// Each library arrives at the gate before each of its lines and before its end. May wait, for the turns
-/// of others and at the gate.
+/// Each library arrives at the gate before each of its lines and before its end. With `workers`, 1 to 8,
+/// a pool of as many threads judges what the libraries release. May wait, for the turns of others, at
+/// the gate and for workers.
 pub fn run_in_threads<R: Threads + Wait + Sync, G: Gate + Sync>(
     rt: &R,
     alloc: Global,
     image: Image,
     libs: &[ScriptLib],
     gate: &G,
+    workers: Option<u32>,
 ) -> Result<RunEnd, NoMemory>
     requires some { 1 ≤ length libs.now }
     requires few { length libs.now ≤ 16 }
     requires within { AreWithin libs.now }
+    requires workers { IfSome workers (λ n. (1 ≤ n) × (n ≤ 8)) }
     ensures { IfOk result (λ end. IsThreadsRunEnd (image_in image.superblock image.pages) libs.now end.report.items end.image.pages) }
 {
-    let end = play_in_threads(rt, alloc, image, libs, gate)?;
+    let end = play_in_threads(rt, alloc, image, libs, gate, workers)?;
     let last = end.image;
     let (report, image) = report(alloc, libs, &end.tolds, last)?;
     Ok(RunEnd { report, image })
@@ -113,10 +116,12 @@ fn play_in_threads<R: Threads + Wait + Sync, G: Gate + Sync>(
     image: Image,
     libs: &[ScriptLib],
     gate: &G,
+    workers: Option<u32>,
 ) -> Result<PlayEnd, NoMemory>
     requires some { 1 ≤ length libs.now }
     requires few { length libs.now ≤ 16 }
     requires within { AreWithin libs.now }
+    requires workers { IfSome workers (λ n. (1 ≤ n) × (n ≤ 8)) }
     ensures { IfOk result (λ end. IsThreadsEnd (image_in image.superblock image.pages) libs.now end.tolds.items end.image.superblock end.image.pages) }
 {
     ran_is_order();
@@ -129,7 +134,7 @@ fn play_in_threads<R: Threads + Wait + Sync, G: Gate + Sync>(
         Ok(ctl) => ctl,
         Err((_image, fault)) => return Err(fault),
     };
-    let (ctl, tolds) = run::<RawAndHonest, _, _>(rt, alloc, ctl, libs, gate)?;
+    let (ctl, tolds) = run::<RawAndHonest, _, _>(rt, alloc, ctl, libs, gate, workers)?;
     let image = last_image(ctl)?;
     Ok(PlayEnd { tolds, image })
 }

@@ -4,6 +4,7 @@
 mod commands;
 mod faults;
 mod images;
+mod migrating;
 mod rows;
 mod sessions;
 mod sharing;

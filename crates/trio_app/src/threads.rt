@@ -21,7 +21,7 @@ use trio_io::{Files, Gate, Sink};
 /// which text was put out. `specs/Decided.antt` says which one comes where nothing fails.
 ///
 /// The words of a run start a thread for each library of the script, which arrives at the gate before
-/// each line and before its end. All other words are handed to [`plain_main`], which starts no thread
+/// each line and before its end, and one for each worker. All other words are handed to [`plain_main`], which starts no thread
 /// and doesn't wait.
 pub fn trio_main<R: Threads + Wait + Sync, F: Files, S: Sink, G: Gate + Sync>(
     rt: &R,
@@ -40,8 +40,9 @@ pub fn trio_main<R: Threads + Wait + Sync, F: Files, S: Sink, G: Gate + Sync>(
             image,
             script,
             out: output,
+            workers,
         } => {
-            let outcome = run(rt, alloc, image, script, output, files, gate);
+            let outcome = run(rt, alloc, image, script, output, workers, files, gate);
             end(&outcome.text, outcome.status, out)
         }
         _ => plain_main(alloc, words, files, out),

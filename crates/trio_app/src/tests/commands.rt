@@ -62,6 +62,42 @@ const WORDS: &[Command] = &[
         FIRST,
     ),
     (
+        &["run", "first.img", "script", "first.img", "1"],
+        0,
+        REPORT,
+        FIRST,
+    ),
+    (
+        &["run", "first.img", "script", "first.img", "8"],
+        0,
+        REPORT,
+        FIRST,
+    ),
+    (
+        &["run", "first.img", "script", "o p", "0"],
+        2,
+        USAGE,
+        BEFORE,
+    ),
+    (
+        &["run", "first.img", "script", "o p", "9"],
+        2,
+        USAGE,
+        BEFORE,
+    ),
+    (
+        &["run", "first.img", "script", "o p", "03"],
+        2,
+        USAGE,
+        BEFORE,
+    ),
+    (
+        &["run", "first.img", "script", "o p", "3", "3"],
+        2,
+        USAGE,
+        BEFORE,
+    ),
+    (
         &["run", "first.img", "first.img", "o p"],
         3,
         b"script line 1\n",

@@ -195,6 +195,21 @@ const DAMAGED: &[Damaged] = &[
         &[(16_640, 3), (16_644, 1), (16_645, 1), (16_648, b'a')],
         FAILS_I1,
     ),
+    // a guard of the root, a link of the sizes 0 and 4097, and one that is guarded
+    (Start::OneDirectory, IMAGE_SIZE, &[(64, 1)], FAILS_I1),
+    (
+        Start::OneLink,
+        IMAGE_SIZE,
+        &[(16_588, 0), (16_592, 0)],
+        FAILS_I1,
+    ),
+    (
+        Start::OneLink,
+        IMAGE_SIZE,
+        &[(16_592, 1), (16_593, 0x10)],
+        FAILS_I1,
+    ),
+    (Start::OneLink, IMAGE_SIZE, &[(16_600, 1)], FAILS_I1),
     // the root is listed, and it has one page as both of its blocks, where the tables aren't its either
     (Start::OneDirectory, IMAGE_SIZE, &[(16_384, 1)], FAILS_I2),
     (

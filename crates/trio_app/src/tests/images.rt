@@ -53,6 +53,13 @@ const TOLD: &[Told] = &[
         0,
         b"[{\"depth\":0,\"gid\":0,\"kind\":\"d\",\"mode\":\"755\",\"name\":\"/\",\"size\":1,\"uid\":0},{\"depth\":1,\"gid\":0,\"kind\":\"f\",\"mode\":\"644\",\"name\":\"\\\\x0A\\\"\\\\x5C\\\\xFF\",\"size\":5,\"uid\":0}]\n",
     ),
+    (
+        JSON,
+        Start::OneLink,
+        IMAGE_SIZE,
+        0,
+        b"[{\"depth\":0,\"gid\":0,\"kind\":\"d\",\"mode\":\"755\",\"name\":\"/\",\"size\":1,\"uid\":0},{\"depth\":1,\"gid\":0,\"kind\":\"l\",\"mode\":\"777\",\"name\":\"l\",\"size\":4,\"uid\":0}]\n",
+    ),
     // one byte over the limit, all of them zero
     (
         CHECK,

@@ -12,7 +12,7 @@ use trio_io::{FailingCalls, Files, Gate, MemFiles, MemSink, OpenGate};
 use trio_page::NoMemory;
 use trio_rights::Mode;
 use trio_samples::files::{one_file, root, six_directories, three_files};
-use trio_samples::{Sample, SampleFile, directory, regular};
+use trio_samples::{Sample, SampleFile, directory, link, regular};
 
 /// How many bytes an image of 32 pages has.
 pub const IMAGE_SIZE: usize = 131_072;
@@ -42,6 +42,12 @@ pub enum Start {
     TwoDirectories,
     /// A file of a name that isn't visible ASCII.
     OddName,
+    /// The three files, of which `f` is guarded.
+    Guarded,
+    /// Files `f`, which is guarded, and `g`, each of the five bytes `hello`.
+    OneGuarded,
+    /// A link `l` to `/a/f`.
+    OneLink,
 }
 
 /// The bytes of a laid out image; none of one that is made or of none.
@@ -56,6 +62,9 @@ pub fn start_bytes(alloc: Global, start: Start) -> Result<Vec<u8>, NoMemory> {
         Start::OpenDirectory => laid_out(alloc, &[root(), open_directory()]),
         Start::TwoDirectories => block_bytes(alloc),
         Start::OddName => laid_out(alloc, &[root(), regular(2, 1, b"\n\"\\\xFF", b"hello")]),
+        Start::Guarded => laid_out(alloc, &guarded_files()),
+        Start::OneGuarded => laid_out(alloc, &one_guarded()),
+        Start::OneLink => laid_out(alloc, &[root(), link(2, 1, b"l", b"/a/f")]),
     }
 }
 
@@ -68,6 +77,16 @@ fn open_directory<'a>() -> SampleFile<'a> {
         mode: Mode(0o777),
         ..directory(2, 1, b"t")
     }
+}
+
+fn guarded_files<'a>() -> [SampleFile<'a>; 3] {
+    let [root, directory, file] = three_files();
+    [root, directory, file.guarded()]
+}
+
+fn one_guarded<'a>() -> [SampleFile<'a>; 3] {
+    let guarded = regular(2, 1, b"f", b"hello").guarded();
+    [root(), guarded, regular(3, 1, b"g", b"hello")]
 }
 
 const LETTERS: &[u8] = b"abcdefghijklmnop";
@@ -124,6 +143,9 @@ pub const TURNS: &[&str] = &["turns", "first.img", "script", "o p"];
 
 /// The same with a thread for each library.
 pub const RUN: &[&str] = &["run", "first.img", "script", "o p"];
+
+/// The same with three workers that judge what libraries release.
+pub const RUN_WITH_WORKERS: &[&str] = &["run", "first.img", "script", "o p", "3"];
 
 /// The words of `check` on the image of a row.
 pub const CHECK: &[&str] = &["check", "first.img"];

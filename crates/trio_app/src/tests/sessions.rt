@@ -777,6 +777,113 @@ const HONEST: &[Session] = &[
     },
 ];
 
+// One link in the root.
+const LINK_TREE: &str = "tree\n0 d 755 0 0 1 /\n1 l 777 0 0 4 l\ninodes 2 pages 4 free 25\n";
+
+// The block of the link begins at 24,576.
+const LINKS: &[Session] = &[
+    Session {
+        name: "a link is made, read, and not followed",
+        commands: BOTH,
+        image: Start::Made,
+        script: "lib 1 honest 0 0\nsymlink /l /a/f\nreadlink /l\nread /l 0 4\nstat /l\nlist / 0\nreadlink /\n",
+        report: [
+            "lib 1 honest\n2 ok\n3 ok 4 /a/f\n4 islink\n5 ok l 777 0 0 4\n6 ok 1 l@\n7 notlink\nend settled 6\n",
+            LINK_TREE,
+        ],
+        out: Kept::Part(16_392, 16_393, b'l'),
+    },
+    Session {
+        name: "a link is no directory and no regular file",
+        commands: IN_TURNS,
+        image: Start::OneLink,
+        script: "lib 1 honest 5 5\nwrite /l 0 x\ntruncate /l 0\nguard /l 1\nlist /l 0\nstat /l/f\nsymlink /k x\nunlink /l\nchmod /l 700\nreadlink /l\nlib 2 honest 0 0\nsettle\nsettle\nsettle\nsettle\nsettle\nsettle\nsettle\nsettle\nsettle\nsettle\nrmdir /l\nrename /l /k\nsymlink /k x\nunlink /k\nlist / 0\n",
+        report: [
+            "lib 1 honest\n2 islink\n3 islink\n4 islink\n5 notdir\n6 notdir\n7 denied\n8 denied\n9 denied\n10 ok 4 /a/f\nend settled 1\nlib 2 honest\n12 settled 0\n13 settled 0\n14 settled 0\n15 settled 0\n16 settled 0\n17 settled 0\n18 settled 0\n19 settled 0\n20 settled 0\n21 settled 0\n22 notdir\n23 ok\n24 exists\n25 ok\n26 ok 0\nend settled 5\n",
+            BARE_TREE,
+        ],
+        out: Kept::Part(16_384, 16_388, 0),
+    },
+    Session {
+        name: "a hostile text is read as it is; a size, a guard and a kind that no link has are refused",
+        commands: IN_TURNS,
+        image: Start::OneLink,
+        script: "lib 1 raw 0 0\ngrant write 2\npoke block 2 0 0 00ff\nrelease 2 - -\ngrant write 2\npoke body 2 12 000000000000000000000000\nrelease 2 - -\ngrant write 2\npoke body 2 24 01\nrelease 2 - -\ngrant write 2\npoke body 2 16 0110\nrelease 2 - -\ngrant write 1\npoke block 1 0 4 01\nrelease 1 - -\nlib 2 honest 0 0\nsettle\nsettle\nsettle\nsettle\nsettle\nsettle\nsettle\nsettle\nsettle\nsettle\nsettle\nsettle\nsettle\nsettle\nsettle\nreadlink /l\n",
+        report: [
+            "lib 1 raw\n2 granted\n3 poked\n4 accepted\n5 granted\n6 poked\n7 refused I1\n8 granted\n9 poked\n10 refused I1\n11 granted\n12 poked\n13 refused I1\n14 granted\n15 poked\n16 refused I4\nend nothing\nlib 2 honest\n18 settled 0\n19 settled 0\n20 settled 0\n21 settled 0\n22 settled 0\n23 settled 0\n24 settled 0\n25 settled 0\n26 settled 0\n27 settled 0\n28 settled 0\n29 settled 0\n30 settled 0\n31 settled 0\n32 settled 0\n33 ok 4 \\x00\\xFF/f\nend settled 1\n",
+            LINK_TREE,
+        ],
+        out: Kept::Changed(&[(24_576, 0), (24_577, 0xff)]),
+    },
+    Session {
+        name: "the text of a link stays as the writer left it, also after a refusal",
+        commands: BOTH,
+        image: Start::OneLink,
+        script: "lib 1 raw 0 0\ngrant write 2\npoke block 2 0 0 4a\npoke body 2 24 01\nrelease 2 - -\n",
+        report: [
+            "lib 1 raw\n2 granted\n3 poked\n4 poked\n5 refused I1\nend nothing\n",
+            LINK_TREE,
+        ],
+        out: Kept::Changed(&[(24_576, b'J')]),
+    },
+];
+
+// A guarded file's data return after a refusal. The body of `f` in the block of `a` has its guard at 24,792.
+const GUARDS: &[Session] = &[
+    Session {
+        name: "a regular file is guarded, and no directory",
+        commands: BOTH,
+        image: Start::ThreeFiles,
+        script: "lib 1 honest 0 0\nguard /a/f 1\nguard /a 1\n",
+        report: ["lib 1 honest\n2 ok\n3 isdir\nend settled 2\n", TREE],
+        out: Kept::Changed(&[(24_792, 1)]),
+    },
+    Session {
+        name: "what was refused of a guarded file is as it was",
+        commands: IN_TURNS,
+        image: Start::Guarded,
+        script: "lib 1 raw 0 0\ngrant write 3\npoke block 3 0 0 4a\npoke body 3 16 0110000000000000\nrelease 3 - -\nlib 2 honest 0 0\nstat /a/f\nsettle\nstat /a\nstat /\nstat /a/f\nread /a/f 0 5\n",
+        report: [
+            "lib 1 raw\n2 granted\n3 poked\n4 poked\n5 refused I1\nend nothing\nlib 2 honest\n7 busy\n8 settled 0\n9 ok d 755 0 0 1\n10 ok d 755 0 0 1\n11 ok f 644 0 0 5\n12 ok 5 hello\nend settled 4\n",
+            TREE,
+        ],
+        out: SAME,
+    },
+    Session {
+        name: "what was accepted of a guarded file is read",
+        commands: IN_TURNS,
+        image: Start::Guarded,
+        script: "lib 1 raw 0 0\ngrant write 3\npoke block 3 0 0 4a\nrelease 3 - -\nlib 2 honest 0 0\nstat /\nstat /a\nstat /a\nread /a/f 0 5\n",
+        report: [
+            "lib 1 raw\n2 granted\n3 poked\n4 accepted\nend nothing\nlib 2 honest\n6 ok d 755 0 0 1\n7 ok d 755 0 0 1\n8 ok d 755 0 0 1\n9 ok 5 Jello\nend settled 4\n",
+            TREE,
+        ],
+        out: Kept::Changed(&[(32_768, b'J')]),
+    },
+    Session {
+        name: "the same attack on a guarded file and on another; what the bundles say of the guard doesn't count",
+        commands: IN_TURNS,
+        image: Start::OneGuarded,
+        script: "lib 1 raw 0 0\ngrant write 2\ngrant write 3\npoke block 2 0 0 4a\npoke block 3 0 0 4a\npoke body 2 24 00\npoke body 3 24 01\npoke body 2 16 0110000000000000\npoke body 3 16 0110000000000000\nrelease 2 - -\nrelease 3 - -\nlib 2 honest 0 0\nsettle\nsettle\nsettle\nsettle\nsettle\nsettle\nsettle\nsettle\nsettle\nsettle\nread /f 0 5\nread /g 0 5\n",
+        report: [
+            "lib 1 raw\n2 granted\n3 granted\n4 poked\n5 poked\n6 poked\n7 poked\n8 poked\n9 poked\n10 refused I1\n11 refused I1\nend nothing\nlib 2 honest\n13 settled 0\n14 settled 0\n15 settled 0\n16 settled 0\n17 settled 0\n18 settled 0\n19 settled 0\n20 settled 0\n21 settled 0\n22 settled 0\n23 ok 5 hello\n24 ok 5 Jello\nend settled 2\n",
+            "tree\n0 d 755 0 0 2 /\n1 f 644 0 0 5 f\n1 f 644 0 0 5 g\ninodes 3 pages 6 free 23\n",
+        ],
+        out: Kept::Changed(&[(32_768, b'J')]),
+    },
+    Session {
+        name: "a held file goes with its guard, and not without",
+        commands: BOTH,
+        image: Start::Guarded,
+        script: "lib 1 raw 0 0\ngrant write 2\ngrant hold 3\npoke block 2 0 0 00000000\npoke block 2 0 256 030000000101000068\npoke block 2 0 448 a40100000000000000000000070000000500000000000000\nrelease 2,3 - -\ngrant write 2\ngrant hold 3\npoke block 2 0 0 00000000\npoke block 2 0 256 030000000101000068\npoke block 2 0 448 a4010000000000000000000007000000050000000000000001\nrelease 2,3 - -\n",
+        report: [
+            "lib 1 raw\n2 granted\n3 granted children 0\n4 poked\n5 poked\n6 poked\n7 refused I4\n8 granted\n9 granted children 0\n10 poked\n11 poked\n12 poked\n13 accepted\nend nothing\n",
+            "tree\n0 d 755 0 0 1 /\n1 d 755 0 0 1 a\n2 f 644 0 0 5 h\ninodes 3 pages 6 free 23\n",
+        ],
+        out: Kept::Part(25_048, 25_049, 1),
+    },
+];
+
 // Modes are changed.
 const MODES: &[Session] = &[
     Session {
@@ -920,6 +1027,16 @@ fn honest_libraries_call(rt: HostRuntime) {
 }
 
 #[test]
+fn links_are_followed_by_nobody(rt: HostRuntime) {
+    all_play(&rt, LINKS);
+}
+
+#[test]
+fn guarded_files_return(rt: HostRuntime) {
+    all_play(&rt, GUARDS);
+}
+
+#[test]
 fn modes_are_changed(rt: HostRuntime) {
     all_play(&rt, MODES);
 }
@@ -963,6 +1080,27 @@ const HOSTILE: &[Hostile] = &[
     Hostile {
         name: "a byte behind the size",
         lines: "grant write 3\npoke body 3 25 01\nrelease 3 - -\n",
+        told: "2 granted\n3 poked\n4 refused I1\n",
+        tree: TREE,
+        out: SAME,
+    },
+    Hostile {
+        name: "the file is guarded",
+        lines: "grant write 3\npoke body 3 24 01\nrelease 3 - -\n",
+        told: "2 granted\n3 poked\n4 accepted\n",
+        tree: TREE,
+        out: Kept::Changed(&[(24_792, 1)]),
+    },
+    Hostile {
+        name: "a guard that is neither on nor off",
+        lines: "grant write 3\npoke body 3 24 02\nrelease 3 - -\n",
+        told: "2 granted\n3 poked\n4 refused I1\n",
+        tree: TREE,
+        out: SAME,
+    },
+    Hostile {
+        name: "a guard of a directory",
+        lines: "grant write 2\npoke body 2 24 01\nrelease 2 - -\n",
         told: "2 granted\n3 poked\n4 refused I1\n",
         tree: TREE,
         out: SAME,
@@ -1040,6 +1178,13 @@ const HOSTILE: &[Hostile] = &[
     Hostile {
         name: "another kind of the file",
         lines: "grant write 2\npoke block 2 0 4 02\nrelease 2 - -\n",
+        told: "2 granted\n3 poked\n4 refused I4\n",
+        tree: TREE,
+        out: SAME,
+    },
+    Hostile {
+        name: "the file becomes a link",
+        lines: "grant write 2\npoke block 2 0 4 03\nrelease 2 - -\n",
         told: "2 granted\n3 poked\n4 refused I4\n",
         tree: TREE,
         out: SAME,
@@ -1157,6 +1302,13 @@ const HOSTILE: &[Hostile] = &[
         out: SAME,
     },
     Hostile {
+        name: "a new link without bytes",
+        lines: "allot 0 1\ngrant write 2\npoke block 2 0 256 040000000301000068\npoke block 2 0 448 ff01\nrelease 2 - 4\n",
+        told: "2 allotted - 4\n3 granted\n4 poked\n5 poked\n6 refused I1\n",
+        tree: TREE,
+        out: SAME,
+    },
+    Hostile {
         name: "another mode of the root",
         lines: "grant write 1\npoke body 1 0 ff01\nrelease 1 - -\n",
         told: "2 granted\n3 poked\n4 refused I4\n",
@@ -1252,7 +1404,7 @@ const OFFSETS: &[&str] = &[
 const BODY: &[u8] = b"\xa4\x01\0\0\0\0\0\0\0\0\0\0\x05\0\0\0\x05";
 
 // Whether the file is judged as it should be where a byte of its body has any of the values: it is accepted
-// only where nothing is changed, or the size within its one block.
+// only where nothing is changed, or the size within its one block, or where it is guarded.
 fn is_body_judged<R: Threads + Wait + Sync + AllocGlobal>(
     rt: &R,
     at: usize,
@@ -1261,7 +1413,8 @@ fn is_body_judged<R: Threads + Wait + Sync + AllocGlobal>(
     for (value, text) in VALUES {
         let same = BODY.get(at).copied().unwrap_or(0) == *value;
         let sized = at == 16 && *value > 0 || at == 17 && *value < 0x10;
-        let wanted = if same || sized {
+        let guarded = at == 24 && *value == 1;
+        let wanted = if same || sized || guarded {
             ("accepted\n", SOME)
         } else {
             ("refused I", SAME)

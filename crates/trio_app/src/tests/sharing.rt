@@ -1,7 +1,8 @@
 //! Libraries that share an image, each on a thread of its own.
 
 use crate::tests::rows::{
-    IMAGE_SIZE, Kept, NO_ROW, RUN, Row, Start, TURNS, is_spelled, left_by, told, told_over,
+    IMAGE_SIZE, Kept, NO_ROW, RUN, RUN_WITH_WORKERS, Row, Start, TURNS, is_spelled, left_by, told,
+    told_over,
 };
 use std::process::Abort;
 use std::sync::Wait;
@@ -49,8 +50,8 @@ const BOTH_WRITE: Row<'static> = Row {
 };
 
 // Whether two libraries that write one file exclude each other.
-fn exclude_each_other<R: Threads + Wait + Sync + AllocGlobal>(rt: &R) -> bool {
-    match told(rt, &OpenGate, RUN, &BOTH_WRITE) {
+fn exclude_each_other<R: Threads + Wait + Sync + AllocGlobal>(rt: &R, words: &[&str]) -> bool {
+    match told(rt, &OpenGate, words, &BOTH_WRITE) {
         Some(report) => is_one_of(&report),
         None => false,
     }
@@ -67,7 +68,7 @@ fn is_one_of(report: &[u8]) -> bool {
 #[test]
 fn two_that_write_one_file(rt: HostRuntime) {
     for _ in 0..20 {
-        assert!(rt; exclude_each_other(&rt));
+        assert!(rt; exclude_each_other(&rt, RUN) && exclude_each_other(&rt, RUN_WITH_WORKERS));
     }
 }
 
@@ -170,17 +171,25 @@ fn filled<R: Threads + Wait + Sync + AllocGlobal, G: Gate + Sync>(
     }
 }
 
-// Whether all four are told the same in turns and in threads: none of them asks for what another has.
+// Whether all four are told the same in turns, in threads, and beside workers: none of them asks for what
+// another has.
 fn homes_come_to_one<R: Threads + Wait + Sync + AllocGlobal>(rt: &R, image: &[u8]) -> bool {
     match filled(rt, &OpenGate, TURNS, image) {
-        Some(turns) => are_told(rt, image, &turns),
+        Some(turns) => {
+            are_told(rt, RUN, image, &turns) && are_told(rt, RUN_WITH_WORKERS, image, &turns)
+        }
         None => false,
     }
 }
 
 // Whether they are told this in threads.
-fn are_told<R: Threads + Wait + Sync + AllocGlobal>(rt: &R, image: &[u8], turns: &[u8]) -> bool {
-    match filled(rt, &OpenGate, RUN, image) {
+fn are_told<R: Threads + Wait + Sync + AllocGlobal>(
+    rt: &R,
+    words: &[&str],
+    image: &[u8],
+    turns: &[u8],
+) -> bool {
+    match filled(rt, &OpenGate, words, image) {
         Some(run) => run.as_slice() == turns,
         None => false,
     }

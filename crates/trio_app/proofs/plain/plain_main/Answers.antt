@@ -1,7 +1,7 @@
 use Rattle.trio_app.proofs.Words.{Command, Contains, Done, Usage, refl, subst, sym, texts_of}
 use Rattle.trio_commands.specs.Lines.{usage_line, version_line}
 use Rattle.trio_app.proofs.Decided.{main_decided}
-use Rattle.trio_app.proofs.Gens.{gen_files}
+use Rattle.trio_app.proofs.Limits.{gen_files}
 use Rattle.trio_app.proofs.Names.{EachName, each_name}
 use Rattle.trio_app.proofs.plain.plain_main.Goals as goal
 
@@ -97,6 +97,28 @@ returns-in-Gen-clause-main g c = record {
 
 pub returns-in-Gen-clause-decided : goal.returns-in-Gen-clause-decided
 returns-in-Gen-clause-decided g c = main_decided _ _ _ _ _ _ (returns-in-Gen-clause-main g c)
+
+pub migrate-outcome-requires-clause-image : goal.migrate-outcome-requires-clause-image
+migrate-outcome-requires-clause-image g c =
+    let served = (g.F.Files.seen c.args.files.now).served in
+    (subst (λ (command : Command). EachName (Contains served) command) (sym c.in-Migrate.ensures) (each_name (Contains served) (texts_of c.args.words.now) c.requires)).0
+
+pub migrate-outcome-requires-clause-out : goal.migrate-outcome-requires-clause-out
+migrate-outcome-requires-clause-out g c =
+    let served = (g.F.Files.seen c.args.files.now).served in
+    (subst (λ (command : Command). EachName (Contains served) command) (sym c.in-Migrate.ensures) (each_name (Contains served) (texts_of c.args.words.now) c.requires)).1
+
+pub returns-in-Migrate-clause-main : goal.returns-in-Migrate-clause-main
+returns-in-Migrate-clause-main g c = record {
+  status = c.migrate-outcome.result.status;
+  text = c.migrate-outcome.result.text.items;
+  comes_to = rw (← c.in-Migrate.ensures) c.migrate-outcome.ensures;
+  puts = rw (← c.deref-in-Migrate.ensures.value) c.end-in-Migrate.ensures.puts;
+  unasked = rw (← c.deref-in-Migrate.ensures.value) c.end-in-Migrate.ensures.unasked;
+}
+
+pub returns-in-Migrate-clause-decided : goal.returns-in-Migrate-clause-decided
+returns-in-Migrate-clause-decided g c = main_decided _ _ _ _ _ _ (returns-in-Migrate-clause-main g c)
 
 pub returns-in-Help-clause-main : goal.returns-in-Help-clause-main
 returns-in-Help-clause-main g c = record {

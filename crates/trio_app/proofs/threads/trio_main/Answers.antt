@@ -1,5 +1,6 @@
 use Rattle.trio_app.proofs.Words.{◌≡◌, Command, Contains, Main, command_of, subst, sym, texts_of, without_threads}
 use Rattle.trio_app.proofs.Decided.{main_decided}
+use Rattle.trio_app.proofs.Limits.{run_workers}
 use Rattle.trio_app.proofs.Names.{EachName, each_name}
 use Rattle.trio_app.proofs.Requests.{no_run}
 use Rattle.trio_app.proofs.threads.trio_main.Goals as goal
@@ -18,6 +19,9 @@ pub run-outcome-requires-clause-out : goal.run-outcome-requires-clause-out
 run-outcome-requires-clause-out g c κs within =
     let served = (g.F.Files.seen c.args.files.now).served in
     (subst (λ (command : Command). EachName (Contains served) command) (sym c.in-Run.ensures) (each_name (Contains served) (texts_of c.args.words.now) c.requires)).2
+
+pub run-outcome-requires-clause-workers : goal.run-outcome-requires-clause-workers
+run-outcome-requires-clause-workers g c κs within = run_workers c.in-Run.image.now c.in-Run.script.now c.in-Run.output.now c.in-Run.workers (texts_of c.args.words.now) c.in-Run.ensures
 
 pub returns-in-Run-clause-main : goal.returns-in-Run-clause-main
 returns-in-Run-clause-main g c = record {
