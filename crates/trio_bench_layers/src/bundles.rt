@@ -117,6 +117,7 @@ fn body(head: u32, blocks: u32) -> Body {
         gid: 0,
         head,
         size: 4096 * u64::from(blocks),
+        guard: false,
     }
 }
 

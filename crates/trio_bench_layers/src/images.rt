@@ -242,6 +242,7 @@ fn body_of(head: u32, blocks: u32) -> [u8; 64] {
         gid: 0,
         head,
         size: 4096 * u64::from(blocks),
+        guard: false,
     };
     let mut bytes = [0; 64];
     body.write(&mut bytes);

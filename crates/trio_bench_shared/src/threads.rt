@@ -209,7 +209,7 @@ fn nanos_in_threads<R: Threads + Wait + Sync + Clock>(
 {
     let ctl = four_files(alloc, libs)?;
     let start = now(rt);
-    match run::<RawAndHonest, _, _>(rt, alloc, ctl, libs, &OpenGate) {
+    match run::<RawAndHonest, _, _>(rt, alloc, ctl, libs, &OpenGate, None) {
         Ok(_ran) => nanos_since(rt, start),
         Err(_) => None,
     }
