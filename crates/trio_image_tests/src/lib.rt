@@ -4,7 +4,6 @@
 #![tactic(auto)]
 
 #[cfg(test)]
-mod checkpoint;
 #[cfg(test)]
 mod homes;
 #[cfg(test)]
