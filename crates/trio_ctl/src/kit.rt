@@ -42,6 +42,8 @@ pub(crate) struct Kit {
 impl Kit {
     /// Memory for the release of any bundle of at most this size, of an image of so many core pages. What is
     /// listed of an inode number below `numbers` takes one look.
+    // (a call would move the three memories once more on their way out, which each release would pay for)
+    #[inline(always)]
     pub fn with(
         alloc: Global,
         size: BundleSize,
